@@ -1,0 +1,10 @@
+use Rattle.std.proofs.Common.{length, None}
+use Rattle.commands.specs.Message.{varint_of}
+use Rattle.commands.proofs.Walk.{Searched, newest}
+use Rattle.commands.proofs.message.last_varint.Given as goal
+
+abbrev pub invariant-fields : goal.invariant-fields
+invariant-fields l = Searched varint_of l.number newest None l.bytes l.found l.input
+
+abbrev pub decreases-fields : goal.decreases-fields
+decreases-fields l = length l.input

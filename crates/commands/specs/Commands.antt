@@ -1,0 +1,42 @@
+-- The value of a command's bytes: the command that its last type names.
+use Rattle.std.specs.Prelude.{ℕ, List, Option, Some, None, Result, Ok, ◌==◌, if◌then◌else◌}
+use Rattle.proto_fields.specs.declared.value.Field.{Field}
+use Rattle.commands.specs.declared.fault.CommandFault.{CommandFault}
+use Rattle.commands.specs.declared.command.Command.{Command}
+use Rattle.commands.specs.declared.command.Command.TheVariants as command
+use Rattle.commands.specs.declared.command.CommandType.{CommandType}
+use Rattle.commands.specs.declared.command.CommandType.TheVariants.{Connect, Producer, Send, Ping, Pong}
+use Rattle.commands.specs.Reading.{◌>>=◌, required, present}
+use Rattle.commands.specs.Message.{message_fields, u64_field, message_field}
+use Rattle.commands.specs.Connection.{connect_of, empty_of}
+use Rattle.commands.specs.Producing.{producer_of, send_of}
+pub use Rattle.commands.specs.Metadata.{size_at, entry_of}
+
+-- the client commands by their numbers
+abbrev pub command_type : ℕ → Option CommandType
+command_type k =
+    if k == 2 then Some Connect
+    else if k == 5 then Some Producer
+    else if k == 6 then Some Send
+    else if k == 18 then Some Ping
+    else if k == 19 then Some Pong
+    else None
+
+-- the command of this type, by its field's bytes
+unfoldable pub command_in : CommandType → List ℕ → Result Command CommandFault
+command_in Connect body = connect_of body >>= λ c. Ok (command.Connect c)
+command_in Producer body = producer_of body >>= λ c. Ok (command.Producer c)
+command_in Send body = send_of body >>= λ c. Ok (command.Send c)
+command_in Ping body = empty_of body >>= λ c. Ok command.Ping
+command_in Pong body = empty_of body >>= λ c. Ok command.Pong
+
+-- the value of field k where the last type k is a client command's; else the number k alone
+abbrev pub command_by : ℕ → List Field → Option CommandType → Result Command CommandFault
+command_by k fields None = Ok (command.Other k)
+command_by k fields (Some kind) = message_field k fields >>= present >>= command_in kind
+
+unfoldable pub command_of : List ℕ → Result Command CommandFault
+command_of bytes = do
+  fields ← message_fields bytes
+  k ← u64_field 1 fields >>= required
+  command_by k fields (command_type k)

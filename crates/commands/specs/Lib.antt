@@ -1,0 +1,9 @@
+pub mod Reading
+pub mod Content
+pub mod Message
+pub mod Connection
+pub mod Producing
+pub mod Metadata
+pub mod Commands
+pub mod Replies
+pub mod Laws

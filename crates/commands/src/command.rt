@@ -1,0 +1,81 @@
+ghost use Rattle.std.specs.Prelude.{◌≡◌};
+ghost use Rattle.commands.specs.Reading.{Reads};
+ghost use Rattle.commands.specs.Commands.{command_type, command_in, command_of};
+
+use crate::connection::{Connect, read_connect, read_empty};
+use crate::fault::CommandFault;
+use crate::kinds::required;
+use crate::message::Message;
+use crate::producing::{Producer, Send, read_producer, read_send};
+use std::alloc::Global;
+
+/// What a client says.
+#[derive(Drop)]
+pub enum Command {
+    Connect(Connect),
+    Producer(Producer),
+    Send(Send),
+    Ping,
+    Pong,
+    /// A command of another type, of which nothing but the type is read.
+    Other(u64),
+}
+
+/// The client commands that are known.
+#[derive(Clone, Copy)]
+enum CommandType {
+    Connect,
+    Producer,
+    Send,
+    Ping,
+    Pong,
+}
+
+fn command_type(number: u64) -> Option<CommandType>
+    ensures { result ≡ command_type number }
+{
+    match number {
+        2 => Some(CommandType::Connect),
+        5 => Some(CommandType::Producer),
+        6 => Some(CommandType::Send),
+        18 => Some(CommandType::Ping),
+        19 => Some(CommandType::Pong),
+        _ => None,
+    }
+}
+
+#[tactic(auto, unfolding(crate::specs::Commands::command_in))]
+fn read_body(alloc: Global, kind: CommandType, body: &[u8]) -> Result<Command, CommandFault>
+    ensures { Reads result (command_in kind body.now) }
+{
+    match kind {
+        CommandType::Connect => Ok(Command::Connect(read_connect(alloc, body)?)),
+        CommandType::Producer => Ok(Command::Producer(read_producer(alloc, body)?)),
+        CommandType::Send => Ok(Command::Send(read_send(body)?)),
+        CommandType::Ping => {
+            read_empty(body)?;
+            Ok(Command::Ping)
+        }
+        CommandType::Pong => {
+            read_empty(body)?;
+            Ok(Command::Pong)
+        }
+    }
+}
+
+/// The command of these bytes (PulsarApi.proto, BaseCommand): by its last `type` k, the value of field k.
+/// Fields other than these two are skipped.
+#[tactic(auto, unfolding(crate::specs::Commands::command_of))]
+pub fn read_command(alloc: Global, bytes: &[u8]) -> Result<Command, CommandFault>
+    ensures { Reads result (command_of bytes.now) }
+{
+    let message = Message::read(bytes)?;
+    let number = required(message.u64(1)?)?;
+    let Some(kind) = command_type(number) else {
+        return Ok(Command::Other(number));
+    };
+    let Some(body) = message.message(alloc, number as u32)? else {
+        return Err(CommandFault::Missing);
+    };
+    read_body(alloc, kind, body.as_slice())
+}

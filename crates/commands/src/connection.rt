@@ -1,0 +1,34 @@
+ghost use Rattle.std.specs.Prelude.{◌≡◌};
+ghost use Rattle.commands.specs.Reading.{Reads};
+ghost use Rattle.commands.specs.Connection.{connect_of, empty_of};
+
+use crate::fault::CommandFault;
+use crate::kinds::required;
+use crate::message::Message;
+use crate::text::Text;
+use std::alloc::Global;
+
+/// What a client says when it connects (PulsarApi.proto, CommandConnect).
+#[derive(Drop)]
+pub struct Connect {
+    pub client_version: Text,
+    pub protocol_version: i32,
+}
+
+#[tactic(auto, unfolding(crate::specs::Connection::connect_of))]
+pub fn read_connect(alloc: Global, bytes: &[u8]) -> Result<Connect, CommandFault>
+    ensures { Reads result (connect_of bytes.now) }
+{
+    let message = Message::read(bytes)?;
+    Ok(Connect {
+        client_version: required(message.text(alloc, 1)?)?,
+        protocol_version: message.i32(4)?.unwrap_or(0),
+    })
+}
+
+pub fn read_empty(bytes: &[u8]) -> Result<(), CommandFault>
+    ensures { result ≡ empty_of bytes.now }
+{
+    Message::read(bytes)?;
+    Ok(())
+}

@@ -1,0 +1,36 @@
+//! What a client's command says is the value of its bytes under the field tables of PulsarApi.proto, and bytes that
+//! have none are refused for just that reason. The same holds of an entry's metadata. Each reply has one
+//! spelling, which is appended whole or not at all.
+#![tactic(auto)]
+
+mod command;
+mod connection;
+mod content;
+mod fault;
+mod kinds;
+mod laws;
+mod message;
+mod metadata;
+mod producing;
+mod reply;
+mod reply_text;
+mod sequence;
+mod server_error;
+mod text;
+mod writing;
+
+pub use command::{Command, read_command};
+pub use connection::Connect;
+pub use fault::CommandFault;
+pub use laws::{reads_commands, reads_entries, reads_occurrences, spells_fields};
+pub use metadata::{MessageMeta, read_entry, read_meta, size_at};
+pub use producing::{Producer, Send};
+pub use reply::{MessageId, Reply};
+pub use reply_text::ReplyText;
+pub use sequence::Sequence;
+pub use server_error::ServerError;
+pub use text::Text;
+pub use writing::write_reply;
+
+#[cfg(test)]
+mod tests;

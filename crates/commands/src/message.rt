@@ -1,0 +1,162 @@
+ghost use Rattle.std.specs.Prelude.{◌≡◌, ◌++◌, [], IfOk, unwrap_or};
+ghost use Rattle.commands.specs.Reading.{Reads};
+ghost use Rattle.commands.specs.Message.{in_message, u64_field, bytes_field, message_field};
+
+use crate::content::Content;
+use crate::fault::CommandFault;
+use crate::kinds::{as_i32, as_text, content_of, varint_of};
+use crate::sequence::Sequence;
+use crate::text::Text;
+use proto_fields::{ByteSlice, Fields};
+use std::alloc::{AllocError, Global};
+use std::marker::Model;
+
+/// A message whose bytes are fields and nothing else. Contracts see the list of its fields; it keeps their
+/// bytes alone, and each call goes over them again.
+#[derive(Drop)]
+pub struct Message<'a> {
+    bytes: &'a [u8],
+}
+
+impl<'a> Model for Message<'a> {
+    ghost use Rattle.std.specs.Prelude.{◌≡◌, List, Ok};
+    ghost use Rattle.proto_fields.specs.declared.value.Field.{Field};
+    ghost use Rattle.commands.specs.Message.{message_fields, known_fields};
+
+    ghost Value = { List Field };
+
+    ghost view = { λ m. known_fields m.bytes.now };
+
+    ghost invariant = { λ m. message_fields m.bytes.now ≡ Ok (known_fields m.bytes.now) };
+}
+
+impl<'a> Message<'a> {
+    ghost use Rattle.std.specs.Prelude.{◌≡◌};
+    ghost use Rattle.commands.specs.Reading.{Reads};
+    ghost use Rattle.commands.specs.Message.{message_fields, u64_field, i32_field, i64_field, bytes_field, text_field, message_field};
+
+    /// The message of these bytes.
+    pub fn read(bytes: &'a [u8]) -> Result<Message<'a>, CommandFault>
+        ensures { result ≡ message_fields bytes.now }
+    {
+        let mut input = Fields::new(bytes);
+        'fields: while input.next()?.is_some() {}
+        Ok(Message { bytes })
+    }
+
+    /// The number of a field.
+    pub fn u64(&self, number: u32) -> Result<Option<u64>, CommandFault>
+        ensures { result ≡ u64_field number self.now }
+    {
+        last_varint(self.bytes, number)
+    }
+
+    /// The number of 32 bits of a field.
+    #[tactic(auto, unfolding(crate::specs::Message::i32_field))]
+    pub fn i32(&self, number: u32) -> Result<Option<i32>, CommandFault>
+        ensures { result ≡ i32_field number self.now }
+    {
+        match self.u64(number)? {
+            None => Ok(None),
+            Some(value) => Ok(Some(as_i32(value)?)),
+        }
+    }
+
+    /// The number of 64 bits with a sign of a field.
+    #[tactic(auto, unfolding(crate::specs::Message::i64_field))]
+    pub fn i64(&self, number: u32) -> Result<Option<i64>, CommandFault>
+        ensures { result ≡ i64_field number self.now }
+    {
+        match self.u64(number)? {
+            None => Ok(None),
+            Some(value) => Ok(Some(value.cast_signed())),
+        }
+    }
+
+    /// The text of a field.
+    #[tactic(auto, unfolding(crate::specs::Message::text_field))]
+    pub fn text(&self, alloc: Global, number: u32) -> Result<Option<Text>, CommandFault>
+        ensures { Reads result (text_field number self.now) }
+    {
+        match last_content(self.bytes, number)? {
+            None => Ok(None),
+            Some(bytes) => Ok(Some(as_text(alloc, bytes.as_slice())?)),
+        }
+    }
+
+    /// The bytes of a field.
+    pub fn bytes(&self, alloc: Global, number: u32) -> Result<Option<Sequence<u8>>, CommandFault>
+        ensures { Reads result (bytes_field number self.now) }
+    {
+        match last_content(self.bytes, number)? {
+            None => Ok(None),
+            Some(bytes) => Ok(Some(Sequence::new(Vec::from_slice(alloc, bytes.as_slice())?))),
+        }
+    }
+
+    /// The bytes of an embedded message, all of its occurrences as one.
+    pub fn message(&self, alloc: Global, number: u32) -> Result<Option<Content<'a>>, CommandFault>
+        ensures { Reads result (message_field number self.now) }
+    {
+        joined_contents(alloc, self.bytes, number)
+    }
+}
+
+fn last_varint(bytes: &[u8], number: u32) -> Result<Option<u64>, CommandFault>
+    ensures { result ≡ in_message (u64_field number) bytes.now }
+{
+    let mut found = None;
+    let mut input = Fields::new(bytes);
+    'fields: while let Some(field) = input.next()? {
+        if field.number != number {
+            continue;
+        }
+        found = Some(varint_of(&field.value)?);
+    }
+    Ok(found)
+}
+
+fn last_content(bytes: &[u8], number: u32) -> Result<Option<ByteSlice<'_>>, CommandFault>
+    ensures { result ≡ in_message (bytes_field number) bytes.now }
+{
+    let mut found = None;
+    let mut input = Fields::new(bytes);
+    'fields: while let Some(field) = input.next()? {
+        if field.number != number {
+            continue;
+        }
+        found = Some(content_of(&field.value)?);
+    }
+    Ok(found)
+}
+
+fn joined_contents(
+    alloc: Global,
+    bytes: &[u8],
+    number: u32,
+) -> Result<Option<Content<'_>>, CommandFault>
+    ensures { Reads result (in_message (message_field number) bytes.now) }
+{
+    let mut found = None;
+    let mut input = Fields::new(bytes);
+    'fields: while let Some(field) = input.next()? {
+        if field.number != number {
+            continue;
+        }
+        found = Some(joined(alloc, found, content_of(&field.value)?)?);
+    }
+    Ok(found)
+}
+
+fn joined<'a>(
+    alloc: Global,
+    found: Option<Content<'a>>,
+    part: ByteSlice<'a>,
+) -> Result<Content<'a>, AllocError>
+    ensures { IfOk result (λ c. c ≡ unwrap_or found.entry [] ++ part.entry) }
+{
+    match found {
+        None => Ok(Content::new(part)),
+        Some(content) => content.with(alloc, part.as_slice()),
+    }
+}

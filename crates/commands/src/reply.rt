@@ -1,0 +1,55 @@
+ghost use Rattle.std.specs.Prelude.{◌≡◌};
+ghost use Rattle.proto_fields.specs.Fields.{IsFieldNumber};
+ghost use Rattle.commands.specs.Replies.{reply_type};
+
+use crate::reply_text::ReplyText;
+use crate::server_error::ServerError;
+
+/// Where an entry stands.
+#[derive(Clone, Copy, Debug, PartialEq, Eq)]
+pub struct MessageId {
+    pub ledger_id: u64,
+    pub entry_id: u64,
+}
+
+/// What the broker answers.
+#[derive(Drop)]
+pub enum Reply {
+    Connected,
+    SendReceipt {
+        producer_id: u64,
+        sequence_id: u64,
+        message_id: MessageId,
+    },
+    SendError {
+        producer_id: u64,
+        sequence_id: u64,
+        error: ServerError,
+    },
+    Error {
+        request_id: u64,
+        error: ServerError,
+    },
+    ProducerSuccess {
+        request_id: u64,
+        producer_name: ReplyText,
+    },
+    Pong,
+}
+
+impl Reply {
+    /// The type of the reply (PulsarApi.proto, BaseCommand.Type).
+    pub fn kind(&self) -> u32
+        ensures value { result ≡ reply_type self.now }
+        ensures field { IsFieldNumber result }
+    {
+        match self {
+            Reply::Connected => 3,
+            Reply::SendReceipt { .. } => 7,
+            Reply::SendError { .. } => 8,
+            Reply::Error { .. } => 14,
+            Reply::ProducerSuccess { .. } => 17,
+            Reply::Pong => 19,
+        }
+    }
+}

@@ -1,0 +1,179 @@
+-- Reading what stands behind a command, and what an entry is, say the same.
+use Rattle.std.proofs.Common.{◌≡◌, ◌≤◌, ℕ, ◌+◌, ◌-◌, List, [], ◌∷◌, ◌++◌, length, take, drop, Result, Ok, Err, Bool, true, false, cond, nat_lt, nat_eq, ◌⊎◌, inl, inr, refl, ap, ◌∙◌, sym, subst, arith, append_assoc, length-append, length-drop}
+use Rattle.std.proofs.lemmas.Bool.{cases_Bool, ltb-false, le-ltb, and_parts, eqb-true, false≢true}
+use Rattle.std.proofs.lemmas.List.{take-append-drop, length-take-le}
+use Rattle.std.proofs.Math.Seq.{take-append_seam, drop-append_seam}
+use Rattle.std.specs.Int.{w32, from_be_bytes}
+use Rattle.commands.specs.declared.command.Command.{Command}
+use Rattle.commands.specs.declared.command.Command.TheVariants.{Connect, Producer, Send, Ping, Pong, Other}
+use Rattle.commands.specs.declared.metadata.MessageMeta.{MessageMeta}
+use Rattle.commands.specs.declared.fault.CommandFault.{CommandFault}
+use Rattle.commands.specs.Metadata.{size_at, entry_of}
+use Rattle.frames.specs.declared.fault.Fault.{Fault}
+use Rattle.frames.specs.declared.fault.Fault.TheVariants.{BadPayload}
+use Rattle.frames.specs.declared.frame.FrameEntry.{FrameEntry}
+use Rattle.frames.specs.declared.frame.FrameEntry.TheVariants.{Nothing, Checksummed, Entry}
+use Rattle.frames.specs.Frames.{IsChecksummed, HasMetadata, IsSendEntry, IsNothing, IsEntry}
+use Rattle.frames.specs.Reading.{◌>>=◌, read_as_metadata, is_checksummed, send_entry_of, nothing_of, entry_behind}
+
+-- which way a choice went
+pub chosen : {A : Type 0} (b : Bool) (x y z : A) → cond b x y ≡ z → ((b ≡ true) × (x ≡ z)) ⊎ ((b ≡ false) × (y ≡ z))
+chosen true x y z h = inl (refl, h)
+chosen false x y z h = inr (refl, h)
+
+pub bind_ok : {A B : Type 0} (r : Result A Fault) (f : A → Result B Fault) (y : B) → (r >>= f) ≡ Ok y → (x : A) × (r ≡ Ok x) × (f x ≡ Ok y)
+bind_ok (Ok x) f y h = (x, refl, h)
+bind_ok (Err e) f y h = cc
+
+pub take_front : (n : ℕ) (xs ys : List ℕ) → length xs ≡ n → take n (xs ++ ys) ≡ xs
+take_front n xs ys e = let P : ℕ → Type 0 = λ k. take k (xs ++ ys) ≡ xs in subst P e (take-append_seam xs ys)
+
+pub drop_front : (n : ℕ) (xs ys : List ℕ) → length xs ≡ n → drop n (xs ++ ys) ≡ ys
+drop_front n xs ys e = let P : ℕ → Type 0 = λ k. drop k (xs ++ ys) ≡ ys in subst P e (drop-append_seam xs ys)
+
+checksum-from : (bytes : List ℕ) → is_checksummed bytes ≡ true → IsChecksummed bytes
+checksum-from [] h = absurd (false≢true h)
+checksum-from (x ∷ []) h = absurd (false≢true (and_parts (nat_eq x 14) false h).1)
+checksum-from (x ∷ y ∷ bytes) h =
+    let parts = and_parts (nat_eq x 14) (nat_eq y 1) h in
+    let first = eqb-true x 14 parts.0 in
+    let second = eqb-true y 1 parts.1 in
+    cc
+
+checksum-to : (bytes : List ℕ) → IsChecksummed bytes → is_checksummed bytes ≡ true
+checksum-to [] h = cc
+checksum-to (x ∷ []) h = cc
+checksum-to (x ∷ y ∷ bytes) h =
+    let first : x ≡ 14 = cc in
+    let second : y ≡ 1 = cc in
+    rw (first, second) refl
+
+-- metadata that is read stands in the entry
+metadata-from : (bytes : List ℕ) (metadata : MessageMeta) → entry_of bytes ≡ Ok metadata → HasMetadata bytes metadata
+unfolding entry_of
+metadata-from bytes metadata h =
+    elim (chosen (nat_lt (length bytes) 4) _ _ _ h) [
+      | inl p ↦ cc
+      | inr p ↦ elim (chosen (nat_lt (length bytes - 4) (size_at bytes)) _ _ _ p.1) [
+        | inl q ↦ cc
+        | inr q ↦
+            let long : 4 ≤ length bytes = ltb-false _ _ p.0 in
+            let fits : size_at bytes ≤ length bytes - 4 = ltb-false _ _ q.0 in
+            let inner : size_at bytes ≤ length (drop 4 bytes) = omega (arith, length-drop 4 bytes) in
+            record {
+              size = take 4 bytes;
+              meta = take (size_at bytes) (drop 4 bytes);
+              payload = drop (size_at bytes) (drop 4 bytes);
+              whole = sym (append_assoc (take 4 bytes) _ _ ∙ ap (λ b. take 4 bytes ++ b) (take-append-drop (size_at bytes) (drop 4 bytes)) ∙ take-append-drop 4 bytes);
+              size_width = length-take-le 4 bytes long;
+              size_is = sym (length-take-le (size_at bytes) (drop 4 bytes) inner);
+              meta_is = q.1;
+            }
+      ]
+    ]
+
+-- and what stands in the entry is read
+metadata-to : (bytes : List ℕ) (metadata : MessageMeta) → HasMetadata bytes metadata → entry_of bytes ≡ Ok metadata
+unfolding entry_of
+metadata-to bytes metadata h =
+    let whole : bytes ≡ h.size ++ (h.meta ++ h.payload) = h.whole ∙ append_assoc h.size h.meta h.payload in
+    let front : take 4 bytes ≡ h.size = ap (take 4) whole ∙ take_front 4 h.size (h.meta ++ h.payload) h.size_width in
+    let behind : drop 4 bytes ≡ h.meta ++ h.payload = ap (drop 4) whole ∙ drop_front 4 h.size (h.meta ++ h.payload) h.size_width in
+    let size_is : size_at bytes ≡ length h.meta = ap (λ b. from_be_bytes w32 b) front ∙ h.size_is in
+    let total : length bytes ≡ 4 + (length h.meta + length h.payload) = ap length whole ∙ simp length-append (let k = h.size_width in omega arith) in
+    let a : nat_lt (length bytes) 4 ≡ false = le-ltb _ _ (omega arith) in
+    let b : nat_lt (length bytes - 4) (size_at bytes) ≡ false = le-ltb _ _ (rw size_is (omega arith)) in
+    let part : take (size_at bytes) (drop 4 bytes) ≡ h.meta = rw (size_is, behind) (take_front _ h.meta h.payload refl) in
+    rw (a, b) (rw part h.meta_is)
+
+read_as_metadata-ok : (r : Result MessageMeta CommandFault) (metadata : MessageMeta) → read_as_metadata r ≡ Ok metadata → r ≡ Ok metadata
+read_as_metadata-ok (Ok x) metadata h = let e : x ≡ metadata = cc in ap (λ z. Ok z) e
+read_as_metadata-ok (Err e) metadata h = cc
+
+same_entry : (e f : FrameEntry) → (let left : Result FrameEntry Fault = Ok e in left ≡ Ok f) → e ≡ f
+same_entry e f h = cc
+
+send-from : (bytes : List ℕ) (entry : FrameEntry) → send_entry_of bytes ≡ Ok entry → IsSendEntry bytes entry
+unfolding send_entry_of
+send-from bytes entry h =
+    let P : FrameEntry → Type 0 = IsSendEntry bytes in
+    elim (chosen (is_checksummed bytes) _ _ _ h) [
+      | inl p ↦ subst P (same_entry Checksummed entry p.1) (checksum-from bytes p.0)
+      | inr p ↦
+          let metadata = bind_ok (read_as_metadata (entry_of bytes)) _ _ p.1 in
+          let found = metadata-from bytes metadata.0 (read_as_metadata-ok (entry_of bytes) metadata.0 metadata.1) in
+          subst P (same_entry (Entry bytes metadata.0) entry metadata.2) (λ k. false≢true (sym p.0 ∙ checksum-to bytes k), refl, found)
+    ]
+
+send-to : (bytes : List ℕ) (entry : FrameEntry) → IsSendEntry bytes entry → send_entry_of bytes ≡ Ok entry
+unfolding send_entry_of
+send-to bytes Nothing h = absurd h
+send-to bytes Checksummed h = rw (checksum-to bytes h) refl
+send-to bytes (Entry content metadata) h =
+    elim (cases_Bool (is_checksummed bytes)) [
+      | inl so ↦ absurd (h.0 (checksum-from bytes so))
+      | inr not_so ↦ rw not_so (rw (metadata-to bytes metadata h.2) (ap (λ b. Ok (Entry b metadata)) (sym h.1)))
+    ]
+
+send-fault : (bytes : List ℕ) (fault : Fault) → send_entry_of bytes ≡ Err fault → fault ≡ BadPayload
+unfolding send_entry_of
+send-fault bytes fault h =
+    elim (chosen (is_checksummed bytes) _ _ _ h) [
+      | inl p ↦ cc
+      | inr p ↦ read (entry_of bytes) p.1
+    ]
+  where
+    read : (r : Result MessageMeta CommandFault) → (read_as_metadata r >>= λ metadata. Ok (Entry bytes metadata)) ≡ Err fault → fault ≡ BadPayload
+    read (Ok x) k = cc
+    read (Err e) k = cc
+
+no_bytes : (bytes : List ℕ) → length bytes ≡ 0 → bytes ≡ []
+no_bytes [] h = refl
+no_bytes (b ∷ bytes) h = absurd (omega arith)
+
+nothing-from : (bytes : List ℕ) (entry : FrameEntry) → nothing_of bytes ≡ Ok entry → IsNothing bytes entry
+nothing-from bytes entry h =
+    elim (chosen (nat_eq (length bytes) 0) _ _ _ h) [
+      | inl p ↦ (no_bytes bytes (eqb-true _ _ p.0), sym (same_entry Nothing entry p.1))
+      | inr p ↦ cc
+    ]
+
+nothing-to : (bytes : List ℕ) (entry : FrameEntry) → IsNothing bytes entry → nothing_of bytes ≡ Ok entry
+nothing-to bytes entry h = rw (h.0, h.1) refl
+
+nothing-fault : (bytes : List ℕ) (fault : Fault) → nothing_of bytes ≡ Err fault → fault ≡ BadPayload
+nothing-fault bytes fault h =
+    elim (chosen (nat_eq (length bytes) 0) _ _ _ h) [
+      | inl p ↦ cc
+      | inr p ↦ cc
+    ]
+
+-- what is read stands behind the command
+pub entry-from : (command : Command) (bytes : List ℕ) (entry : FrameEntry) → entry_behind command bytes ≡ Ok entry → IsEntry command bytes entry
+unfolding entry_behind
+entry-from (Send c) bytes entry h = send-from bytes entry h
+entry-from (Other k) bytes entry h = sym (same_entry Nothing entry h)
+entry-from (Connect c) bytes entry h = nothing-from bytes entry h
+entry-from (Producer c) bytes entry h = nothing-from bytes entry h
+entry-from Ping bytes entry h = nothing-from bytes entry h
+entry-from Pong bytes entry h = nothing-from bytes entry h
+
+-- and what stands there is read
+pub entry-to : (command : Command) (bytes : List ℕ) (entry : FrameEntry) → IsEntry command bytes entry → entry_behind command bytes ≡ Ok entry
+unfolding entry_behind
+entry-to (Send c) bytes entry h = send-to bytes entry h
+entry-to (Other k) bytes entry h = ap (λ e. Ok e) (sym h)
+entry-to (Connect c) bytes entry h = nothing-to bytes entry h
+entry-to (Producer c) bytes entry h = nothing-to bytes entry h
+entry-to Ping bytes entry h = nothing-to bytes entry h
+entry-to Pong bytes entry h = nothing-to bytes entry h
+
+-- one fault alone can show there
+pub entry-fault : (command : Command) (bytes : List ℕ) (fault : Fault) → entry_behind command bytes ≡ Err fault → fault ≡ BadPayload
+unfolding entry_behind
+entry-fault (Send c) bytes fault h = send-fault bytes fault h
+entry-fault (Other k) bytes fault h = cc
+entry-fault (Connect c) bytes fault h = nothing-fault bytes fault h
+entry-fault (Producer c) bytes fault h = nothing-fault bytes fault h
+entry-fault Ping bytes fault h = nothing-fault bytes fault h
+entry-fault Pong bytes fault h = nothing-fault bytes fault h

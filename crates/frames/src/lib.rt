@@ -1,0 +1,20 @@
+//! The frames of the Pulsar binary protocol. A parser gives the frames of a stream of bytes in
+//! whatever pieces it comes, or the fault that its bytes show, and keeps the unfinished frame
+//! alone. A reply is written as one whole frame, or nothing is.
+#![tactic(auto)]
+
+mod fault;
+mod frame;
+mod laws;
+mod parser;
+mod reading;
+mod writing;
+
+pub use fault::Fault;
+pub use frame::{Frame, FrameEntry};
+pub use laws::{any_cut, one_reading, written_frames};
+pub use parser::Parser;
+pub use writing::write_frame;
+
+#[cfg(test)]
+mod tests;

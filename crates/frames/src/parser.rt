@@ -1,0 +1,115 @@
+ghost use Rattle.std.specs.Prelude.{◌≡◌, ◌<◌, ◌++◌, length, IfOk, IfErr, List, ℕ};
+ghost use Rattle.frames.specs.Faults.{IsFaulty};
+ghost use Rattle.frames.specs.Streams.{Adds, IsUnfinished};
+ghost use Rattle.frames.specs.Taking.{Takes};
+
+use crate::fault::Fault;
+use crate::frame::Frame;
+use crate::reading::{frame_of, is_whole, needed};
+use std::alloc::Global;
+use std::marker::Model;
+use std::mem;
+
+/// Cuts a stream of bytes into frames. Contracts see the bytes of the unfinished frame, which are
+/// all that it keeps, and the fault that ended the stream. Each frame's bytes are gathered in
+/// memory of their own, which grows as they come and never ahead of them.
+#[derive(Drop)]
+pub struct Parser {
+    alloc: Global,
+    unfinished: Vec<u8>,
+    fault: Option<Fault>,
+}
+
+impl Model for Parser {
+    ghost use Rattle.frames.specs.Streams.{Progress, IsUnfinished};
+
+    ghost Value = { Progress };
+
+    ghost view = { λ p. record { rest = p.unfinished.items; fault = p.fault } };
+
+    ghost invariant = { λ p. IsUnfinished p.unfinished.items };
+}
+
+impl Parser {
+    ghost use Rattle.std.specs.Prelude.{◌≡◌};
+    ghost use Rattle.frames.specs.Streams.{at_start, FeedsOn};
+
+    /// A parser of a new stream. Memory is taken once bytes come.
+    pub fn new(alloc: Global) -> Parser
+        ensures { result ≡ at_start }
+    {
+        Parser {
+            alloc,
+            unfinished: Vec::new(alloc),
+            fault: None,
+        }
+    }
+
+    /// Adds each frame that is whole now, and keeps the bytes of the unfinished one. The frames
+    /// before a fault are added, and then every call answers that fault, want of memory too.
+    pub fn feed(&mut self, piece: &[u8], frames: &mut Vec<Frame>) -> Result<(), Fault>
+        ensures { FeedsOn self.old piece.now frames.old.items frames.new.items result self.new }
+    {
+        if let Some(fault) = self.fault {
+            return Err(fault);
+        }
+        let unfinished = mem::replace(&mut self.unfinished, Vec::new(self.alloc));
+        match add_frames(self.alloc, unfinished, piece, frames) {
+            Ok(rest) => {
+                self.unfinished = rest;
+                Ok(())
+            }
+            Err(fault) => {
+                self.fault = Some(fault);
+                Err(fault)
+            }
+        }
+    }
+}
+
+/// Adds the frames of the unfinished frame's bytes and the piece, and gives the bytes of the
+/// frame that is unfinished then.
+fn add_frames(
+    alloc: Global,
+    mut unfinished: Vec<u8>,
+    piece: &[u8],
+    frames: &mut Vec<Frame>,
+) -> Result<Vec<u8>, Fault>
+    requires { IsUnfinished unfinished.items }
+    ensures ok { IfOk result (λ rest. Adds (unfinished.items ++ piece.now) frames.old.items frames.new.items rest.items
+        × IsUnfinished rest.items) }
+    ensures err { IfErr result (λ fault. (left : List ℕ)
+        × Adds (unfinished.items ++ piece.now) frames.old.items frames.new.items left × IsFaulty fault left) }
+{
+    let mut rest = piece;
+    'pieces: while !rest.is_empty() {
+        let taken = take_bytes(alloc, &mut unfinished, rest, frames)?;
+        let (_, behind) = rest.split_at(taken);
+        rest = behind;
+    }
+    Ok(unfinished)
+}
+
+/// Moves bytes of the piece to the unfinished frame's, at most as many as it is known to take,
+/// and adds the frame if it is whole then. Gives how many bytes it took.
+fn take_bytes(
+    alloc: Global,
+    unfinished: &mut Vec<u8>,
+    piece: &[u8],
+    frames: &mut Vec<Frame>,
+) -> Result<usize, Fault>
+    requires some { 0 < length piece.now }
+    requires unfinished { IsUnfinished unfinished.old.items }
+    ensures { Takes unfinished.old.items piece.now frames.old.items result unfinished.new.items frames.new.items }
+{
+    let missing = needed(unfinished.as_slice()) - unfinished.len();
+    let taken = missing.min(piece.len());
+    unfinished.extend_from_slice(&piece[..taken])?;
+    if !is_whole(unfinished.as_slice())? {
+        return Ok(taken);
+    }
+    let bytes = mem::replace(unfinished, Vec::new(alloc));
+    let frame = frame_of(alloc, bytes)?;
+    frames.push(frame)?;
+    Ok(taken)
+}

@@ -1,0 +1,11 @@
+mod Alone
+mod Appending
+mod Exists
+mod Gates
+mod Heads
+mod Made
+mod Opening
+mod Places
+mod Scan
+mod Torn
+mod Steps

@@ -1,0 +1,9 @@
+pub mod Batches
+pub mod Gates
+pub mod Headers
+pub mod Findings
+pub mod Lists
+pub mod Logs
+pub mod Content
+pub mod One
+pub mod Local

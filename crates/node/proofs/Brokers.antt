@@ -1,0 +1,26 @@
+-- How a broker's topics change where one does.
+use Rattle.std.proofs.Common.{◌≡◌, ◌≢◌, ◌⊎◌, ⊎_elim, ◌∙◌, ℕ, zero, suc, ◌+◌, ◌<◌, ◌≤◌, List, [], ◌∷◌, ◌++◌, length, map, get_or, set, get_or-set_other, get_or-set_same, refl, sym, ap, subst, arith}
+use Rattle.std.proofs.lemmas.Bool.Decides.{eqb_tells}
+use Rattle.std.specs.Prelude.{nat_eq, true, false}
+use Rattle.topic_core.specs.Core.{Topic}
+
+-- another place of the list, or this one: it is set if it is there
+pub set_at : (R : Topic → Topic → Type 0) → ((t : Topic) → R t t) → (topics : List Topic) (at number : ℕ) (t other : Topic) → R (get_or topics at other) t → R (get_or topics number other) (get_or (set topics at t) number other)
+set_at R same [] at number t other moved = same other
+set_at R same (x ∷ xs) zero zero t other moved = moved
+set_at R same (x ∷ xs) zero (suc number) t other moved = same (get_or xs number other)
+set_at R same (x ∷ xs) (suc at) zero t other moved = same x
+set_at R same (x ∷ xs) (suc at) (suc number) t other moved = set_at R same xs at number t other moved
+
+-- each is changed, but what isn't there
+pub map_at : (R : Topic → Topic → Type 0) → ((t : Topic) → R t t) → (f : Topic → Topic) → ((t : Topic) → R t (f t)) → (topics : List Topic) (number : ℕ) (other : Topic) → R (get_or topics number other) (get_or (map f topics) number other)
+map_at R same f moved [] number other = same other
+map_at R same f moved (x ∷ xs) zero other = moved x
+map_at R same f moved (x ∷ xs) (suc number) other = map_at R same f moved xs number other
+
+-- one more that is as those that aren't there
+pub one_more_at : (topics : List Topic) (number : ℕ) (other : Topic) → get_or (topics ++ other ∷ []) number other ≡ get_or topics number other
+one_more_at [] zero other = refl
+one_more_at [] (suc number) other = refl
+one_more_at (x ∷ xs) zero other = refl
+one_more_at (x ∷ xs) (suc number) other = one_more_at xs number other

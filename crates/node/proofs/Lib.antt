@@ -1,0 +1,11 @@
+pub mod Places
+pub mod Runs
+pub mod Brokers
+pub mod Saying
+pub mod Unfolding
+pub mod Carrying
+pub mod Sound
+pub mod Commands
+pub mod Publishing
+pub mod Finding
+pub mod Accounts

@@ -1,0 +1,102 @@
+-- What unfolds one after another.
+use Rattle.std.proofs.Common.{◌≡◌, ◌⊎◌, ⊎_elim, ◌∙◌, ℕ, ◌<◌, Bool, true, false, cond, nat_eq, List, [], ◌∷◌, ◌++◌, length, get_or, set, get_or-set_other, get_or-set_same, refl, sym, ap, subst, append_assoc, append-nil}
+use Rattle.std.proofs.lemmas.Bool.Decides.{eqb_tells}
+use Rattle.std.proofs.lemmas.Grind.{flat_map-append}
+use Rattle.commands.specs.declared.reply.Reply.{Reply}
+use Rattle.topic_core.specs.Core.{Topic}
+use Rattle.topic_core.specs.Replies.{is_receipt}
+use Rattle.session.specs.Broker.{Broker, topic_at, with_topic, fresh}
+use Rattle.session.specs.Client.{reply_frame, reply_frames}
+use Rattle.node.specs.Moves.{Handed, Move, Tell, MoveStep, Moves, Takes, told_on, told_by}
+use Rattle.node.specs.Telling.{Said, AtOnce, From, reply_of, replies_of, from_topic, ReceiptsAreLate, Course, Unfolds}
+
+-- moves, and then others
+pub Moves-append : (t : Topic) (first : List Move) (u : Topic) (then : List Move) (v : Topic) → Moves t first u → Moves u then v → Moves t (first ++ then) v
+Moves-append t [] u then v a b = let P : Topic → Type 0 = λ x. Moves x then v in subst P a b
+Moves-append t (m ∷ ms) u then v a b = (a.0, a.1, Moves-append a.0 ms u then v a.2 b)
+
+pub told_by-append : (first then : List Move) → told_by (first ++ then) ≡ told_by first ++ told_by then
+told_by-append [] then = refl
+told_by-append (m ∷ ms) then = ap (λ (l : List Handed). told_on m ++ l) (told_by-append ms then) ∙ sym (append_assoc (told_on m) (told_by ms) (told_by then))
+
+pub still_course : (t : Topic) → Course t [] t
+still_course t = record { moves = []; steps = refl; tells = refl }
+
+pub one_move : (t : Topic) (m : Move) (u : Topic) → MoveStep t m u → Course t (told_on m) u
+one_move t m u step = record { moves = m ∷ []; steps = (u, step, refl); tells = sym (append-nil (told_on m)) }
+
+pub then_course : (t u v : Topic) (first then : List Handed) → Course t first u → Course u then v → Course t (first ++ then) v
+then_course t u v first then a b = record {
+  moves = a.moves ++ b.moves;
+  steps = Moves-append t a.moves u b.moves v a.steps b.steps;
+  tells = ap (λ (l : List Handed). l ++ then) a.tells ∙ ap (λ (l : List Handed). told_by a.moves ++ l) b.tells ∙ sym (told_by-append a.moves b.moves);
+}
+
+-- the topic of a number tells a reply
+pub told_at : (topics : List Topic) (at number : ℕ) (t other : Topic) (handed : Handed) → at < length topics → Takes (get_or topics at other) handed t
+    → Course (get_or topics number other) (cond (nat_eq at number) (handed ∷ []) []) (get_or (set topics at t) number other)
+told_at topics at number t other handed within takes =
+    let P : Bool → Type 0 = λ b. Course (get_or topics number other) (cond b (handed ∷ []) []) (get_or (set topics at t) number other) in
+    ⊎_elim
+    (λ same.
+    let Q : ℕ → Type 0 = λ n. Course (get_or topics n other) (handed ∷ []) (get_or (set topics at t) n other) in
+    let R : Topic → Type 0 = λ u. Course (get_or topics at other) (handed ∷ []) u in
+    subst P (sym same.0) (subst Q same.1 (subst R (sym (get_or-set_same topics at t other within)) (one_move (get_or topics at other) (Tell handed) t takes))))
+    (λ differs.
+    let R : Topic → Type 0 = λ u. Course (get_or topics number other) [] u in
+    subst P (sym differs.0) (subst R (sym (get_or-set_other topics at number t other (λ is. differs.1 (sym is)))) (still_course (get_or topics number other))))
+    (eqb_tells at number)
+
+pub replies_of-append : (xs ys : List Said) → replies_of (xs ++ ys) ≡ replies_of xs ++ replies_of ys
+replies_of-append [] ys = refl
+replies_of-append (x ∷ xs) ys = ap (λ (l : List Reply). reply_of x ∷ l) (replies_of-append xs ys)
+
+pub late-append : (xs ys : List Said) → ReceiptsAreLate xs → ReceiptsAreLate ys → ReceiptsAreLate (xs ++ ys)
+late-append [] ys a b = b
+late-append (AtOnce reply ∷ xs) ys a b = (a.0, late-append xs ys a.1 b)
+late-append (From number handed ∷ xs) ys a b = late-append xs ys a b
+
+cond-append : (b : Bool) (h : Handed) (xs ys : List Handed) → cond b (h ∷ (xs ++ ys)) (xs ++ ys) ≡ cond b (h ∷ xs) xs ++ ys
+cond-append true h xs ys = refl
+cond-append false h xs ys = refl
+
+pub from_topic-append : (number : ℕ) (xs ys : List Said) → from_topic number (xs ++ ys) ≡ from_topic number xs ++ from_topic number ys
+from_topic-append number [] ys = refl
+from_topic-append number (AtOnce reply ∷ xs) ys = from_topic-append number xs ys
+from_topic-append number (From other handed ∷ xs) ys =
+    ap (λ (l : List Handed). cond (nat_eq other number) (handed ∷ l) l) (from_topic-append number xs ys)
+    ∙ cond-append (nat_eq other number) handed (from_topic number xs) (from_topic number ys)
+
+-- nothing goes out
+pub silently : (b c : Broker) → ((number : ℕ) → Course (topic_at b number) [] (topic_at c number)) → Unfolds b [] c
+silently b c each = record { said = []; written = refl; late = tt; each = each }
+
+pub silent : (b : Broker) → Unfolds b [] b
+silent b = silently b b (λ number. still_course (topic_at b number))
+
+-- the same, of an equal broker and equal bytes
+pub becomes : (b c c' : Broker) (x y : List ℕ) → Unfolds b x c → y ≡ x → c' ≡ c → Unfolds b y c'
+becomes b c c' x y s bytes is = subst (λ (l : List ℕ). Unfolds b l c') (sym bytes) (subst (λ (d : Broker). Unfolds b x d) (sym is) s)
+
+pub alike : (b c : Broker) (bytes : List ℕ) → bytes ≡ [] → c ≡ b → Unfolds b bytes c
+alike b c bytes none is = becomes b b c [] bytes (silent b) none is
+
+pub one_frame : (reply : Reply) → reply_frame reply ≡ reply_frames (reply ∷ [])
+one_frame reply = sym (append-nil (reply_frame reply))
+
+-- a reply that is no receipt goes out
+pub at_once : (b c : Broker) (reply : Reply) → is_receipt reply ≡ false → c ≡ b → Unfolds b (reply_frame reply) c
+at_once b c reply plain is = becomes b b c (reply_frame reply) (reply_frame reply)
+    (record { said = AtOnce reply ∷ []; written = one_frame reply; late = (plain, tt); each = λ number. still_course (topic_at b number) }) refl is
+
+pub then : (a b c : Broker) (x y : List ℕ) → Unfolds a x b → Unfolds b y c → Unfolds a (x ++ y) c
+then a b c x y p q = record {
+  said = p.said ++ q.said;
+  written =
+      ap (λ (l : List ℕ). l ++ y) p.written ∙ ap (λ (l : List ℕ). reply_frames (replies_of p.said) ++ l) q.written
+      ∙ sym (flat_map-append (λ reply. reply_frame reply) (replies_of p.said) (replies_of q.said)) ∙ ap (λ (l : List Reply). reply_frames l) (sym (replies_of-append p.said q.said));
+  late = late-append p.said q.said p.late q.late;
+  each = λ number.
+      subst (λ (l : List Handed). Course (topic_at a number) l (topic_at c number)) (sym (from_topic-append number p.said q.said))
+      (then_course (topic_at a number) (topic_at b number) (topic_at c number) (from_topic number p.said) (from_topic number q.said) (p.each number) (q.each number));
+}

@@ -1,0 +1,5 @@
+use Rattle.node.proofs.Publishing.{moves_covered}
+use Rattle.node.proofs.laws.receipts_are_covered.Goals as goal
+
+pub returns : goal.returns
+returns c = moves_covered

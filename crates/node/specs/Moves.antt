@@ -1,0 +1,65 @@
+-- The moves of a topic, and what it hands to sessions on them.
+use Rattle.std.specs.Prelude.{◌≡◌, ℕ, ◌+◌, Result, List, [], ◌∷◌, ◌++◌, length}
+use Rattle.commands.specs.declared.reply.Reply.{Reply}
+use Rattle.topic_core.specs.declared.command.Answer.{Answer}
+use Rattle.topic_core.specs.declared.command.TopicCommand.{TopicCommand}
+use Rattle.topic_core.specs.declared.refusal.Refusal.{Refusal}
+use Rattle.topic_core.specs.Core.{Topic}
+use Rattle.topic_core.specs.Replies.{due_to}
+use Rattle.topic_core.specs.Steps.{TopicStep, collected}
+use Rattle.topic_core.specs.Flush.{FlushStep}
+use Rattle.topic_core.specs.Laws.{entries_added}
+use Rattle.session.specs.Broker.{with_core, left_topic}
+
+-- a reply that a session takes from a topic
+pub record Handed : Type 0 where
+  pub session : ℕ
+  pub reply : Reply
+
+pub data Move : Type 0 where
+  Command : ℕ → TopicCommand → Answer → Move  -- a session's command, and its answer
+  Tell : Handed → Move  -- a session takes its first due reply, which goes out
+  Lose : Handed → Move  -- it takes it, and there is no memory to write it
+  Leave : ℕ → Move
+  Flush : Result ℕ Refusal → Move
+
+-- a session takes its first due reply
+pub record Takes (old : Topic) (handed : Handed) (new : Topic) : Type 0 where
+  pub first : due_to handed.session old.core.queues ≡ handed.reply ∷ due_to handed.session new.core.queues
+  pub taken : new ≡ with_core old (collected old.core handed.session handed.reply)
+
+abbrev pub MoveStep : Topic → Move → Topic → Type 0
+MoveStep old (Command who command answer) new = TopicStep old who command answer new
+MoveStep old (Tell handed) new = Takes old handed new
+MoveStep old (Lose handed) new = Takes old handed new
+MoveStep old (Leave who) new = new ≡ left_topic old who
+MoveStep old (Flush result) new = FlushStep old result new
+
+-- moves, one after another
+abbrev pub Moves : Topic → List Move → Topic → Type 0
+Moves old [] new = new ≡ old
+Moves old (move ∷ moves) new = (between : Topic) × MoveStep old move between × Moves between moves new
+
+-- the replies that go out on a move
+abbrev pub told_on : Move → List Handed
+told_on (Command who command answer) = []
+told_on (Tell handed) = handed ∷ []
+told_on (Lose handed) = []
+told_on (Leave who) = []
+told_on (Flush result) = []
+
+abbrev pub told_by : List Move → List Handed
+told_by [] = []
+told_by (move ∷ moves) = told_on move ++ told_by moves
+
+-- the entry of an accepted SEND
+abbrev pub entries_on : Move → List (List ℕ)
+entries_on (Command who command answer) = entries_added command answer
+entries_on (Tell handed) = []
+entries_on (Lose handed) = []
+entries_on (Leave who) = []
+entries_on (Flush result) = []
+
+abbrev pub entries_by : List Move → List (List ℕ)
+entries_by [] = []
+entries_by (move ∷ moves) = entries_on move ++ entries_by moves

@@ -1,0 +1,44 @@
+use clap::{Arg, ArgMatches, Command};
+use std::alloc::{AllocError, Global};
+
+const NAME: &str = "pulsar_node";
+
+const VERSION: &str = "0.1.0";
+
+/// The command line that the program takes.
+pub(crate) fn command<'a>(alloc: Global) -> Result<Command<'a>, AllocError> {
+    let file = Arg::new(alloc, "FILE")
+        .required(true)
+        .help("The script: `init N` first, then one event a line");
+    let replay = Command::new(alloc, "replay")
+        .about("Runs a script of events over a broker in memory")
+        .long_about(REPLAY)
+        .arg(file)?;
+    Command::new(alloc, NAME)
+        .version(VERSION)
+        .about("A broker of one node that speaks the Pulsar binary protocol")
+        .after_help("Without any words a script is read from the standard input.")
+        .subcommand(replay)
+}
+
+const REPLAY: &str = "Runs a script of events over a broker in memory.
+
+The script is read whole before its first line is worked. Its lines are words one space apart,
+with numbers in decimal and bytes in hex:
+
+  init N         a broker with N entries a ledger, 1 to 50000; first, and only there
+  open           opens the next session; sessions are numbered from 0
+  bytes S HEX    session S receives these bytes
+  pump S         session S collects its replies and messages
+  close S        session S ends
+  flush T        topic T commits what waits
+
+For each line one line is printed: its number, the bytes out in hex or `-`, and the result: `ok`,
+`F1` to `F9` for a fault that ended the session, `S5` for want of memory, `full`, or `none` for a
+session or topic that isn't there.";
+
+/// The file of the script, or none for the standard input.
+pub(crate) fn script_file<'a>(matches: &ArgMatches<'a>) -> Option<&'a str> {
+    let (_, replay) = matches.subcommand()?;
+    replay.get_str("FILE")
+}

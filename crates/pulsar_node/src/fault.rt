@@ -1,0 +1,56 @@
+ghost use Rattle.std.specs.Prelude.{◌≡◌};
+ghost use Rattle.script.specs.declared.script.ScriptFault.TheVariants as script_fault;
+ghost use Rattle.pulsar_node.specs.Fault.{fault_of_script};
+ghost use Rattle.pulsar_node.specs.declared.fault.ProgramFault.TheVariants.{NoMemory};
+
+use script::ScriptFault;
+use std::alloc::AllocError;
+use std::io;
+use std::io::Write;
+use thiserror::Error;
+
+/// Why the program ends early.
+#[derive(Clone, Copy, Debug, PartialEq, Eq, Error)]
+pub enum ProgramFault {
+    /// The script can't be read, or a line can't be written.
+    #[error("device")]
+    Device,
+    #[error("no memory")]
+    NoMemory,
+    /// The first bad line of the script, counted from 1.
+    #[error("script line {0}")]
+    ScriptLine(u64),
+}
+
+impl From<ScriptFault> for ProgramFault {
+    ghost from_gives = { λ fault e. e ≡ fault_of_script fault };
+
+    fn from(fault: ScriptFault) -> ProgramFault {
+        match fault {
+            ScriptFault::BadLine(number) => ProgramFault::ScriptLine(number),
+            ScriptFault::NoMemory => ProgramFault::NoMemory,
+        }
+    }
+}
+
+impl From<AllocError> for ProgramFault {
+    ghost from_gives = { λ _ e. e ≡ NoMemory };
+
+    fn from(_error: AllocError) -> ProgramFault {
+        ProgramFault::NoMemory
+    }
+}
+
+/// Writes the line that says why the program ends: `error: `, the fault's text and a line feed.
+pub fn write_fault<W: Write>(fault: &ProgramFault, writer: &mut W) -> io::Result<()> {
+    writeln!(writer, "error: {fault}")
+}
+
+/// What the program exits with after a fault.
+pub fn exit_status(fault: &ProgramFault) -> u8
+    ensures { result ≡ 1 }
+{
+    match fault {
+        ProgramFault::Device | ProgramFault::NoMemory | ProgramFault::ScriptLine(_) => 1,
+    }
+}

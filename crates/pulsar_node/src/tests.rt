@@ -1,0 +1,4 @@
+mod faults;
+mod rows;
+mod scripts;
+mod support;

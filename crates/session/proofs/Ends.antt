@@ -1,0 +1,108 @@
+-- How feeds and pumps end: with nothing due, or with a session that has left.
+use Rattle.std.proofs.Common.{◌≡◌, ◌≢◌, ◌≤◌, ◌<◌, ℕ, zero, suc, List, [], ◌∷◌, Bool, true, false, not, ◌&&◌, nat_eq, cond, ⊎_elim, map, filter, get_or, refl, sym, ap, ◌∙◌, subst, Option, Some, None, Result, Ok, Err, arith, rules}
+use Rattle.std.proofs.Math.ListN.{get_or-map}
+use Rattle.std.proofs.lemmas.Bool.{cases_eq}
+use Rattle.std.proofs.lemmas.Map.Views.{any-filter_same}
+use Rattle.std.specs.List.{list_any}
+use Rattle.commands.specs.declared.reply.Reply.{Reply}
+use Rattle.topic_core.specs.declared.producer.Producer.{Producer}
+use Rattle.topic_core.specs.Core.{Core, Topic}
+use Rattle.topic_core.specs.Replies.{SessionReplies, is_for, due_to, pending_to}
+use Rattle.topic_core.specs.Steps.{has_producer, is_producer, left}
+use Rattle.session.specs.declared.fault.Fault.{Fault}
+use Rattle.session.specs.declared.pumping.More.{More}
+use Rattle.session.specs.declared.pumping.More.TheVariants.{Yes, No}
+use Rattle.session.specs.declared.pumping.PumpFault.{PumpFault}
+use Rattle.session.specs.declared.pumping.PumpFault.TheVariants.{Ended}
+use Rattle.session.specs.Broker.{Broker, fresh, topic_at, due_at, left_topic, left_all}
+use Rattle.session.specs.Client.{Client, Play, left_if, left_if_ended}
+use Rattle.session.specs.Working.{FeedIn, FeedStep, feed_result}
+use Rattle.session.specs.Pumping.{HasNothingDue, Pumps, PumpIn, PumpStep, pump_result}
+use Rattle.session.specs.Laws.{HasLeft, PumpsFinish, EndedFeedsLeave, EndedPumpsLeave}
+
+-- both tests hold, so the first does
+and-left : (a b : Bool) → (a && b) ≡ true → a ≡ true
+and-left true b h = refl
+and-left false b h = h
+
+-- no producer of the session is left
+pub left-producers : (who id : ℕ) (t : Core) → has_producer (left t who) who id ≡ false
+left-producers who id t = any-filter_same (is_producer who id) (λ p. not (nat_eq p.session who)) false (λ p h. ap not (and-left (nat_eq p.session who) (nat_eq p.id id) h)) t.producers
+
+-- no reply for it is due
+left-due-cons : (who : ℕ) (q : SessionReplies) (rest : List SessionReplies) (b : Bool) → is_for who q ≡ b → due_to who rest ≡ [] → due_to who (cond (not b) (q ∷ rest) rest) ≡ []
+left-due-cons who q rest true e h = h
+left-due-cons who q rest false e h = ap (λ b. cond b q.due (due_to who rest)) e ∙ h
+
+pub left-due : (who : ℕ) (queues : List SessionReplies) → due_to who (filter (λ q. not (is_for who q)) queues) ≡ []
+left-due who [] = refl
+left-due who (q ∷ queues) = left-due-cons who q _ (is_for who q) refl (left-due who queues)
+
+-- and none awaits a flush
+left-pending-cons : (who : ℕ) (q : SessionReplies) (rest : List SessionReplies) (b : Bool) → is_for who q ≡ b → pending_to who rest ≡ [] → pending_to who (cond (not b) (q ∷ rest) rest) ≡ []
+left-pending-cons who q rest true e h = h
+left-pending-cons who q rest false e h = ap (λ b. cond b q.pending (pending_to who rest)) e ∙ h
+
+pub left-pending : (who : ℕ) (queues : List SessionReplies) → pending_to who (filter (λ q. not (is_for who q)) queues) ≡ []
+left-pending who [] = refl
+left-pending who (q ∷ queues) = left-pending-cons who q _ (is_for who q) refl (left-pending who queues)
+
+-- each topic was left
+pub topic_at-left_all : (b : Broker) (who number : ℕ) → topic_at (left_all b who) number ≡ left_topic (topic_at b number) who
+topic_at-left_all b who number = get_or-map (λ t. left_topic t who) b.topics number (fresh b.per_ledger)
+
+-- so the session has left
+pub has_left : (p : Play) (b : Broker) → p.broker ≡ left_all b p.client.number → HasLeft p
+has_left p b h =
+    let who = p.client.number in
+    let at : (number : ℕ) → topic_at p.broker number ≡ left_topic (topic_at b number) who = λ number. ap (λ (x : Broker). topic_at x number) h ∙ topic_at-left_all b who number in
+    record {
+      producers = λ topic id. ap (λ (t : Topic). has_producer t.core who id) (at topic) ∙ left-producers who id (topic_at b topic).core;
+      due = λ topic. ap (λ (t : Topic). due_to who t.core.queues) (at topic) ∙ left-due who (topic_at b topic).core.queues;
+      pending = λ topic. ap (λ (t : Topic). pending_to who t.core.queues) (at topic) ∙ left-pending who (topic_at b topic).core.queues;
+    }
+
+-- as one does that has a fault then
+pub ended_leaves : (p new : Play) (why : Fault) → new ≡ left_if_ended p → new.client.fault ≡ Some why → HasLeft new
+ended_leaves p new why is fault =
+    let same : new.client ≡ p.client = ap (λ (x : Play). x.client) is in
+    let e : p.client.fault ≡ Some why = sym (ap (λ (c : Client). c.fault) same) ∙ fault in
+    has_left new p.broker (ap (λ (x : Play). x.broker) is ∙ ap (λ (f : Option Fault). left_if f p.broker p.client.number) e ∙ ap (λ (c : Client). left_all p.broker c.number) (sym same))
+
+pub fault_of-feed : (f : Option Fault) (why : Fault) → Err why ≡ feed_result f → f ≡ Some why
+fault_of-feed None why h = cc
+fault_of-feed (Some x) why h = cc
+
+pub ended_feeds_leave : EndedFeedsLeave
+ended_feeds_leave old bytes why new none h =
+    let P : Option Fault → Type 0 = λ f. FeedIn f old bytes (Err why) new in
+    let s = subst P none h in
+    ended_leaves _ new why s.0.ends (fault_of-feed new.client.fault why s.1)
+
+pub fault_of-pump : (f : Option Fault) (count : ℕ) (why : PumpFault) → Err why ≡ pump_result f count → (x : Fault) × (f ≡ Some x)
+fault_of-pump None count why h = absurd (let no : ⊥ = cc in no)
+fault_of-pump (Some x) count why h = (x, refl)
+
+pub ended_pumps_leave : EndedPumpsLeave
+ended_pumps_leave old why new none h =
+    let P : Option Fault → Type 0 = λ f. PumpIn f old (Err why) new in
+    let s = subst P none h in
+    let f = fault_of-pump s.collected.client.fault s.count why s.result_is in
+    ended_leaves s.collected new f.0 s.ends (ap (λ (p : Play). p.client.fault) s.ends ∙ f.1)
+
+-- a pump that answers that no more is due has met no fault and not its bound
+pub stops_by_itself : (f : Option Fault) (count : ℕ) → count ≤ 65536 → Ok No ≡ pump_result f count → (f ≡ None) × (count < 65536)
+stops_by_itself None count h e =
+    let P : ℕ → Type 0 = λ n. Ok No ≡ pump_result None n in
+    (refl, ⊎_elim (λ same. let bound = subst P same e in absurd (let no : ⊥ = cc in no)) (λ other. omega arith) (cases_eq count 65536))
+stops_by_itself (Some why) count h e = absurd (let no : ⊥ = cc in no)
+
+finishes : (f : Option Fault) (old new : Play) → PumpIn f old (Ok No) new → HasNothingDue new
+finishes None old new h =
+    let stop = stops_by_itself h.collected.client.fault h.count h.most h.result_is in
+    let same : new ≡ h.collected = h.ends ∙ ap (λ (f : Option Fault). let p : Play = record h.collected { broker = left_if f h.collected.broker h.collected.client.number } in p) stop.0 in
+    subst HasNothingDue (sym same) (h.all stop.0 stop.1)
+finishes (Some why) old new h = absurd (let no : ⊥ = cc in no)
+
+pub pumps_finish : PumpsFinish
+pumps_finish old new h = finishes old.client.fault old new h

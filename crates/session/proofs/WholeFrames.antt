@@ -1,0 +1,94 @@
+-- Each step of a session writes whole frames.
+use Rattle.std.proofs.Common.{◌≡◌, ◌⊎◌, inl, inr, ℕ, zero, suc, List, [], ◌∷◌, Bool, true, false, Option, Some, None, Result, Ok, Err, refl, ap, ⊎_elim}
+use Rattle.commands.specs.declared.command.Command.{Command}
+use Rattle.commands.specs.declared.command.Command.TheVariants.{Connect, Producer, Send, Ping, Pong, Other}
+use Rattle.commands.specs.declared.producing.Producer.{Producer as Asked}
+use Rattle.commands.specs.declared.producing.Send.{Send as Sent}
+use Rattle.commands.specs.declared.reply.Reply.{Reply}
+use Rattle.commands.specs.declared.server_error.ServerError.{ServerError}
+use Rattle.frames.specs.declared.frame.Frame.{Frame}
+use Rattle.frames.specs.declared.frame.FrameEntry.{FrameEntry}
+use Rattle.topic_core.specs.declared.command.SentEntry.{SentEntry}
+use Rattle.session.specs.declared.fault.Fault.{Fault}
+use Rattle.session.specs.declared.port.Found.{Found}
+use Rattle.session.specs.declared.port.Found.TheVariants.{Topic, TooMany, NoMemory}
+use Rattle.session.specs.declared.pumping.More.{More}
+use Rattle.session.specs.declared.pumping.PumpFault.{PumpFault}
+use Rattle.session.specs.Client.{Play, Ends, SaysAlone, Writes}
+use Rattle.session.specs.Producing.{FoundStep, ProducerIn, SendIn}
+use Rattle.session.specs.Working.{WorksCommand, Connects, FrameIn, FramesStep, FeedIn}
+use Rattle.session.specs.Pumping.{Collects, PumpIn}
+use Rattle.session.specs.Laws.{FeedsWriteFrames, PumpsWriteFrames}
+use Rattle.session.proofs.Speaking.{writes_nothing, writes_both, speaks_says, speaks_answered}
+
+-- where nothing but the client or the broker changes
+pub writes_same : (old new : Play) → new.out ≡ old.out → Writes old.out new.out
+writes_same old new e = writes_nothing old.out new.out e
+
+pub ends_writes : (old new : Play) (why : Fault) → Ends old why new → Writes old.out new.out
+ends_writes old new why h = writes_same old new (ap (λ (p : Play). p.out) h)
+
+pub says_writes : (old new : Play) (r : Reply) → SaysAlone old r new → Writes old.out new.out
+says_writes old new r h = (speaks_says old.client new.client old.out new.out r h.0).writes
+
+pub found_writes : (found : Found) (old : Play) (asked : Asked) (new : Play) → FoundStep old asked found new → Writes old.out new.out
+found_writes (Topic number) old asked new (inl h) = (speaks_answered _ new.client old.out new.out h.answer h.answered).writes
+found_writes (Topic number) old asked new (inr h) = ends_writes old new _ h
+found_writes TooMany old asked new h = says_writes old new _ h
+found_writes NoMemory old asked new h = ends_writes old new _ h
+
+pub producer_writes : (refusal : Option ServerError) (old : Play) (asked : Asked) (new : Play) → ProducerIn refusal old asked new → Writes old.out new.out
+producer_writes (Some error) old asked new h = says_writes old new _ h
+producer_writes None old asked new h = found_writes h.found (record old { broker = h.between }) asked new h.asks
+
+pub send_writes : (topic : Option ℕ) (entry : Option SentEntry) (old : Play) (asked : Sent) (new : Play) → SendIn topic entry old asked new → Writes old.out new.out
+send_writes None None old asked new h = ends_writes old new _ h
+send_writes (Some topic) None old asked new h = ends_writes old new _ h
+send_writes None (Some entry) old asked new h = says_writes old new _ h
+send_writes (Some topic) (Some entry) old asked new h = (speaks_answered old.client new.client old.out new.out h.answer h.answered).writes
+
+pub command_writes : (c : Command) (old : Play) (entry : FrameEntry) (new : Play) → WorksCommand old c entry new → Writes old.out new.out
+command_writes (Connect c) old entry new h = ends_writes old new _ h
+command_writes (Producer c) old entry new h = producer_writes _ _ c new h
+command_writes (Send c) old entry new h = send_writes _ _ old c new h
+command_writes Ping old entry new h = says_writes old new _ h
+command_writes Pong old entry new h = writes_same old new (ap (λ (p : Play). p.out) h)
+command_writes (Other k) old entry new h = ends_writes old new _ h
+
+pub connects_writes : (c : Command) (old new : Play) → Connects old c new → Writes old.out new.out
+connects_writes (Connect c) old new h = says_writes _ new _ h
+connects_writes (Producer c) old new h = ends_writes old new _ h
+connects_writes (Send c) old new h = ends_writes old new _ h
+connects_writes Ping old new h = ends_writes old new _ h
+connects_writes Pong old new h = ends_writes old new _ h
+connects_writes (Other k) old new h = ends_writes old new _ h
+
+pub frame_writes : (fault : Option Fault) (connected : Bool) (old : Play) (frame : Frame) (new : Play) → FrameIn fault connected old frame new → Writes old.out new.out
+frame_writes None true old frame new h = command_writes frame.command old frame.entry new h
+frame_writes None false old frame new h = connects_writes frame.command old new h
+frame_writes (Some why) connected old frame new h = writes_same old new (ap (λ (p : Play). p.out) h)
+
+pub frames_write : (frames : List Frame) (old new : Play) → FramesStep old frames new → Writes old.out new.out
+frames_write [] old new h = writes_same old new (ap (λ (p : Play). p.out) h)
+frames_write (frame ∷ frames) old new h = writes_both old.out h.0.out new.out (frame_writes _ _ old frame h.0 h.1) (frames_write frames h.0 new h.2)
+
+pub feed_writes : (fault : Option Fault) (old : Play) (bytes : List ℕ) (result : Result (Unit {0}) Fault) (new : Play) → FeedIn fault old bytes result new → Writes old.out new.out
+feed_writes None old bytes result new h =
+    writes_both old.out h.0.worked.out new.out (frames_write h.0.frames _ h.0.worked h.0.works) (writes_same h.0.worked new (ap (λ (p : Play). p.out) h.0.ends))
+feed_writes (Some why) old bytes result new h = writes_same old new (ap (λ (p : Play). p.out) h.1)
+
+pub feeds_write_frames : FeedsWriteFrames
+feeds_write_frames old bytes result new h = feed_writes old.client.fault old bytes result new h
+
+pub collects_writes : (count : ℕ) (old new : Play) → Collects count old new → Writes old.out new.out
+collects_writes zero old new h = writes_same old new (ap (λ (p : Play). p.out) h)
+collects_writes (suc count) old new h =
+    writes_both old.out h.0.out new.out (collects_writes count old h.0 h.1) ((speaks_says h.0.client new.client h.0.out new.out h.3.reply h.3.says).writes)
+
+pub pump_writes : (fault : Option Fault) (old : Play) (result : Result More PumpFault) (new : Play) → PumpIn fault old result new → Writes old.out new.out
+pump_writes None old result new h =
+    writes_both old.out h.collected.out new.out (collects_writes h.count old h.collected h.collects) (writes_same h.collected new (ap (λ (p : Play). p.out) h.ends))
+pump_writes (Some why) old result new h = writes_same old new (ap (λ (p : Play). p.out) h.1)
+
+pub pumps_write_frames : PumpsWriteFrames
+pumps_write_frames old result new h = pump_writes old.client.fault old result new h

@@ -1,0 +1,12 @@
+use Rattle.std.proofs.Common.{◌∙◌, sym}
+use Rattle.session.specs.declared.port.Found.TheVariants.{Topic}
+use Rattle.session.proofs.session.Session.open_new.Goals as goal
+
+pub returns-in-Topic-clause-step : goal.returns-in-Topic-clause-step
+returns-in-Topic-clause-step g c = λ s.
+    rw (sym c.own_refusal.ensures ∙ c.in_default.is) (record {
+      found = Topic c.in-Topic.topic;
+      between = g.P.Port.broker c.find.new.self;
+      finds = rw c.as_str.ensures at (c.in-Topic.ensures.step s);
+      asks = c.open_on.ensures.step (g.met.P.Port.passes_sole _ _ c.find.ensures.passes s);
+    })

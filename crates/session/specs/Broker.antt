@@ -1,0 +1,85 @@
+-- The abstract broker as its sessions see it: topics by their numbers.
+use Rattle.std.specs.Prelude.{◌≡◌, ◌<◌, ◌≤◌, ℕ, Option, Some, None, List, [], ◌∷◌, ◌++◌, length, map, position, slice_index_or, slice_set}
+use Rattle.std.specs.Str.{bytes_eq}
+use Rattle.commands.specs.declared.reply.Reply.{Reply}
+use Rattle.topic_core.specs.declared.command.TopicCommand.{TopicCommand}
+use Rattle.topic_core.specs.declared.command.Answer.{Answer}
+use Rattle.topic_core.specs.Core.{Core, Topic, opened, topic_of}
+use Rattle.topic_core.specs.Replies.{due_to}
+use Rattle.topic_core.specs.Steps.{TopicStep, collected, left}
+use Rattle.session.specs.declared.port.Found.{Found}
+use Rattle.session.specs.declared.port.Found.TheVariants as found
+
+pub record Broker : Type 0 where
+  pub per_ledger : ℕ  -- how many entry ids a ledger id has
+  pub names : List (List ℕ)  -- the name of each topic, by its number
+  pub topics : List Topic
+
+-- a topic that nothing happened to yet
+abbrev pub fresh : ℕ → Topic
+fresh per_ledger = topic_of (opened per_ledger 0) []
+
+-- the topic of a number; one that isn't there is as a fresh one
+abbrev pub topic_at : Broker → ℕ → Topic
+topic_at b number = slice_index_or b.topics number (fresh b.per_ledger)
+
+-- the broker with another topic of this number
+abbrev pub with_topic : Broker → ℕ → Topic → Broker
+with_topic b number topic = record b { topics = slice_set b.topics number topic }
+
+-- the core changes, and what is durable stays
+abbrev pub with_core : Topic → Core → Topic
+with_core t core = record t { core = core }
+
+-- the number of a name
+abbrev pub number_of : Broker → List ℕ → Option ℕ
+number_of b name = position (λ other. bytes_eq other name) b.names
+
+-- a fresh topic more, the last one
+abbrev pub made : Broker → List ℕ → Broker
+made b name = record b { names = b.names ++ name ∷ []; topics = b.topics ++ fresh b.per_ledger ∷ [] }
+
+-- by the number that the name has
+abbrev pub FindIn : Option ℕ → Broker → List ℕ → Found → Broker → Type 0
+FindIn there old name found.NoMemory new = new ≡ old
+FindIn (Some number) old name (found.Topic n) new = (n ≡ number) × (new ≡ old)
+FindIn (Some number) old name found.TooMany new = ⊥
+FindIn None old name (found.Topic n) new = (length old.topics < 64) × (n ≡ length old.topics) × (new ≡ made old name)
+FindIn None old name found.TooMany new = (64 ≤ length old.topics) × (new ≡ old)
+
+-- a name that is there has its number; another one gets the next number, unless sixty-four are there
+abbrev pub FindStep : Broker → List ℕ → Found → Broker → Type 0
+FindStep old name result new = FindIn (number_of old name) old name result new
+
+-- what a topic's number is, where one was found
+abbrev pub IfFound : Found → (ℕ → Type 0) → Type 0
+IfFound (found.Topic number) P = P number
+IfFound found.TooMany P = Unit {0}
+IfFound found.NoMemory P = Unit {0}
+
+-- a topic works a session's command; the other topics stay
+pub record CommandStep (old : Broker) (number who : ℕ) (command : TopicCommand) (answer : Answer) (new : Broker) : Type 0 where
+  pub step : TopicStep (topic_at old number) who command answer (topic_at new number)
+  pub others : new ≡ with_topic old number (topic_at new number)
+
+-- the replies that a topic has due to a session
+abbrev pub due_at : Broker → ℕ → ℕ → List Reply
+due_at b number who = due_to who (topic_at b number).core.queues
+
+abbrev pub collected_at : Broker → ℕ → ℕ → Reply → Broker
+collected_at b number who reply = with_topic b number (with_core (topic_at b number) (collected (topic_at b number).core who reply))
+
+-- the session takes the first reply that a topic has due to it; where there is none, nothing changes
+abbrev pub CollectedAt : Broker → ℕ → ℕ → Option Reply → Broker → Type 0
+CollectedAt old number who None new = (due_at old number who ≡ []) × (new ≡ old)
+CollectedAt old number who (Some reply) new = (due_at old number who ≡ reply ∷ due_at new number who) × (new ≡ collected_at old number who reply)
+
+abbrev pub left_topic : Topic → ℕ → Topic
+left_topic t who = with_core t (left t.core who)
+
+abbrev pub left_at : Broker → ℕ → ℕ → Broker
+left_at b number who = with_topic b number (left_topic (topic_at b number) who)
+
+-- the session leaves each topic
+abbrev pub left_all : Broker → ℕ → Broker
+left_all b who = record b { topics = map (λ t. left_topic t who) b.topics }

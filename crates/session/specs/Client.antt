@@ -1,0 +1,79 @@
+-- A session, and how it writes.
+use Rattle.std.specs.Prelude.{◌≡◌, ◌⊎◌, ℕ, Bool, true, false, Option, Some, None, List, [], ◌++◌}
+use Rattle.std.specs.List.{flat_map}
+use Rattle.commands.specs.declared.reply.Reply.{Reply}
+use Rattle.commands.specs.Replies.{spelling}
+use Rattle.frames.specs.Frames.{frame_bytes}
+use Rattle.frames.specs.Streams.{Progress, at_start}
+use Rattle.topic_core.specs.declared.command.Answer.{Answer}
+use Rattle.topic_core.specs.declared.command.Answer.TheVariants.{Now, Later, NoMemory}
+use Rattle.session.specs.Broker.{Broker, left_all}
+use Rattle.session.specs.declared.fault.Fault.{Fault}
+use Rattle.session.specs.declared.fault.Fault.TheVariants as fault
+use Rattle.session.specs.declared.producer_entry.ProducerEntry.{ProducerEntry}
+
+pub record Client : Type 0 where
+  pub number : ℕ
+  pub progress : Progress  -- where its stream of bytes stands
+  pub connected : Bool  -- whether CONNECT came
+  pub producers : List ProducerEntry  -- the topic of each producer id
+  pub fault : Option Fault  -- why it ended
+
+-- nothing has come
+abbrev pub new_client : ℕ → Client
+new_client number = record { number = number; progress = at_start; connected = false; producers = []; fault = None }
+
+-- a session, the broker and the session's bytes out
+pub record Play : Type 0 where
+  pub client : Client
+  pub broker : Broker
+  pub out : List ℕ
+
+abbrev pub play : Client → Broker → List ℕ → Play
+play client broker out = record { client = client; broker = broker; out = out }
+
+abbrev pub ended : Client → Fault → Client
+ended c why = record c { fault = Some why }
+
+-- the session ends
+abbrev pub Ends : Play → Fault → Play → Type 0
+Ends old why new = new ≡ record old { client = ended old.client why }
+
+-- a session that has ended leaves each topic
+abbrev pub left_if : Option Fault → Broker → ℕ → Broker
+left_if None b who = b
+left_if (Some why) b who = left_all b who
+
+abbrev pub left_if_ended : Play → Play
+left_if_ended p = record p { broker = left_if p.client.fault p.broker p.client.number }
+
+-- the bytes of a reply
+abbrev pub reply_frame : Reply → List ℕ
+reply_frame reply = frame_bytes (spelling reply) []
+
+abbrev pub reply_frames : List Reply → List ℕ
+reply_frames replies = flat_map (λ reply. reply_frame reply) replies
+
+-- the frames of some replies are appended, each whole
+pub record Writes (old new : List ℕ) : Type 0 where
+  pub replies : List Reply
+  pub are : new ≡ old ++ reply_frames replies
+
+-- what holds of every call, whoever else uses the broker: the session's number stays, and it writes whole frames
+pub record Speaks (old : Client) (out : List ℕ) (new : Client) (out' : List ℕ) : Type 0 where
+  pub number : new.number ≡ old.number
+  pub writes : Writes out out'
+
+-- a reply goes out; or it finds no memory, which ends the session
+abbrev pub Says : Client → List ℕ → Reply → Client → List ℕ → Type 0
+Says old out reply new out' = ((new ≡ old) × (out' ≡ out ++ reply_frame reply)) ⊎ ((new ≡ ended old fault.NoMemory) × (out' ≡ out))
+
+-- the session says this by itself
+abbrev pub SaysAlone : Play → Reply → Play → Type 0
+SaysAlone old reply new = Says old.client old.out reply new.client new.out × (new.broker ≡ old.broker)
+
+-- a topic's answer goes out
+abbrev pub Answered : Client → List ℕ → Answer → Client → List ℕ → Type 0
+Answered old out (Now reply) new out' = Says old out reply new out'
+Answered old out Later new out' = (new ≡ old) × (out' ≡ out)
+Answered old out NoMemory new out' = (new ≡ ended old fault.NoMemory) × (out' ≡ out)

@@ -1,0 +1,140 @@
+-- PRODUCER and SEND, as a session works them.
+use Rattle.std.specs.Prelude.{◌≡◌, ◌⊎◌, ℕ, Bool, true, false, not, nat_eq, nat_lt, nat_le, Option, Some, None, List, [], ◌∷◌, ◌++◌, length, filter, find, codes, if◌then◌else◌}
+use Rattle.std.specs.Option.{option_map}
+use Rattle.std.specs.List.{list_any}
+use Rattle.std.specs.Fmt.{decimal}
+use Rattle.commands.specs.declared.producing.Producer.{Producer}
+use Rattle.commands.specs.declared.producing.Send.{Send}
+use Rattle.commands.specs.declared.reply.Reply.TheVariants as reply
+use Rattle.commands.specs.declared.server_error.ServerError.{ServerError}
+use Rattle.commands.specs.declared.server_error.ServerError.TheVariants.{TooManyRequests, InvalidTopicName, NotAllowedError}
+use Rattle.frames.specs.declared.frame.FrameEntry.{FrameEntry}
+use Rattle.frames.specs.declared.frame.FrameEntry.TheVariants as behind
+use Rattle.topic_core.specs.declared.command.TopicCommand.{TopicCommand}
+use Rattle.topic_core.specs.declared.command.TopicCommand.TheVariants as topic_command
+use Rattle.topic_core.specs.declared.command.SentEntry.{SentEntry}
+use Rattle.topic_core.specs.declared.command.SentEntry.TheVariants as sent
+use Rattle.topic_core.specs.declared.command.Answer.{Answer}
+use Rattle.topic_core.specs.declared.command.Answer.TheVariants.{Now, Later, NoMemory}
+use Rattle.topic_core.specs.Steps.{has_producer, first_standing}
+use Rattle.session.specs.TopicName.{is_topic_name}
+use Rattle.session.specs.Broker.{Broker, topic_at, FindStep, CommandStep}
+use Rattle.session.specs.Client.{Client, Play, Ends, SaysAlone, Answered}
+use Rattle.session.specs.declared.fault.Fault.TheVariants as fault
+use Rattle.session.specs.declared.port.Found.{Found}
+use Rattle.session.specs.declared.port.Found.TheVariants as found
+use Rattle.session.specs.declared.producer_entry.ProducerEntry.{ProducerEntry}
+
+-- the session still has this producer on its topic, open or closing
+abbrev pub is_live : Broker → ℕ → ProducerEntry → Bool
+is_live b who entry = has_producer (topic_at b entry.topic).core who entry.producer_id
+
+-- the session knows no more of the producers that it doesn't have
+abbrev pub with_live_producers : Play → Play
+with_live_producers p = record p { client = record p.client { producers = filter (is_live p.broker p.client.number) p.client.producers } }
+
+abbrev pub has_entry : List ProducerEntry → ℕ → Bool
+has_entry producers id = list_any (λ entry. nat_eq entry.producer_id id) producers
+
+-- how long a name is that was given
+abbrev pub given_len : Option (List ℕ) → ℕ
+given_len None = 0
+given_len (Some name) = length name
+
+-- PRODUCER: what the session refuses by itself, in order
+abbrev pub own_refusals : List ProducerEntry → Producer → List (Bool × ServerError)
+own_refusals producers asked =
+    (has_entry producers asked.producer_id, NotAllowedError)
+    ∷ (nat_le 64 (length producers), TooManyRequests)
+    ∷ (not (is_topic_name asked.topic), InvalidTopicName)
+    ∷ (nat_lt 255 (given_len asked.producer_name), NotAllowedError)
+    ∷ []
+
+-- the name that session S gives its producer P: sS-pP
+abbrev pub own_name : ℕ → ℕ → List ℕ
+own_name who id = codes "s" ++ decimal who ++ (codes "-p" ++ decimal id)
+
+-- the name that a producer gets: its own, or the session's where it gave none or an empty one
+abbrev pub name_for : ℕ → ℕ → Option (List ℕ) → List ℕ
+name_for who id None = own_name who id
+name_for who id (Some name) = if nat_eq (length name) 0 then own_name who id else name
+
+-- what the session asks of the topic
+abbrev pub producer_command : ℕ → Producer → TopicCommand
+producer_command who asked = topic_command.Producer asked.producer_id asked.request_id (name_for who asked.producer_id asked.producer_name)
+
+abbrev pub is_success : Answer → Bool
+is_success (Now reply.Connected) = false
+is_success (Now (reply.SendReceipt producer_id sequence_id id)) = false
+is_success (Now (reply.SendError producer_id sequence_id error)) = false
+is_success (Now (reply.Error request_id error)) = false
+is_success (Now (reply.ProducerSuccess request_id name)) = true
+is_success (Now reply.Pong) = false
+is_success Later = false
+is_success NoMemory = false
+
+-- the producers, and one more where it was accepted
+abbrev pub with_entry : List ProducerEntry → Bool → ℕ → ℕ → List ProducerEntry
+with_entry producers false id topic = producers
+with_entry producers true id topic = producers ++ record { producer_id = id; topic = topic } ∷ []
+
+abbrev pub with_producer : Client → Bool → ℕ → ℕ → Client
+with_producer c accepted id topic = record c { producers = with_entry c.producers accepted id topic }
+
+-- the topic works PRODUCER; the session keeps the producer if it was accepted, and hands on the answer
+pub record Opens (old : Play) (topic : ℕ) (asked : Producer) (new : Play) : Type 0 where
+  pub answer : Answer
+  pub step : CommandStep old.broker topic old.client.number (producer_command old.client.number asked) answer new.broker
+  pub answered : Answered (with_producer old.client (is_success answer) asked.producer_id topic) old.out answer new.client new.out
+
+-- once its topic was looked for; want of memory may end the session before the topic works anything
+abbrev pub FoundStep : Play → Producer → Found → Play → Type 0
+FoundStep old asked (found.Topic number) new = Opens old number asked new ⊎ Ends old fault.NoMemory new
+FoundStep old asked found.TooMany new = SaysAlone old (reply.Error asked.request_id TooManyRequests) new
+FoundStep old asked found.NoMemory new = Ends old fault.NoMemory new
+
+-- the topic is found, or made, and asked
+pub record Finds (old : Play) (asked : Producer) (new : Play) : Type 0 where
+  pub found : Found
+  pub between : Broker
+  pub finds : FindStep old.broker asked.topic found between
+  pub asks : FoundStep (record old { broker = between }) asked found new
+
+abbrev pub ProducerIn : Option ServerError → Play → Producer → Play → Type 0
+ProducerIn (Some error) old asked new = SaysAlone old (reply.Error asked.request_id error) new
+ProducerIn None old asked new = Finds old asked new
+
+-- PRODUCER of a session that knows just the producers that it has
+abbrev pub ProducerOf : Play → Producer → Play → Type 0
+ProducerOf old asked new = ProducerIn (first_standing (own_refusals old.client.producers asked)) old asked new
+
+abbrev pub ProducerStep : Play → Producer → Play → Type 0
+ProducerStep old asked new = ProducerOf (with_live_producers old) asked new
+
+-- the topic of a producer id
+abbrev pub topic_of : List ProducerEntry → ℕ → Option ℕ
+topic_of producers id = option_map (λ entry. entry.topic) (find (λ entry. nat_eq entry.producer_id id) producers)
+
+-- what a SEND hands to the topic
+abbrev pub sent_entry : FrameEntry → Option SentEntry
+sent_entry behind.Nothing = None
+sent_entry behind.Checksummed = Some sent.Checksummed
+sent_entry (behind.Entry bytes metadata) = Some (sent.Plain bytes metadata)
+
+abbrev pub send_command : Send → SentEntry → TopicCommand
+send_command asked entry = topic_command.Send (record { producer_id = asked.producer_id; sequence_id = asked.sequence_id; num_messages = asked.num_messages; entry = entry })
+
+-- the topic works SEND, and its answer goes out
+pub record Asks (old : Play) (topic : ℕ) (command : TopicCommand) (new : Play) : Type 0 where
+  pub answer : Answer
+  pub step : CommandStep old.broker topic old.client.number command answer new.broker
+  pub answered : Answered old.client old.out answer new.client new.out
+
+abbrev pub SendIn : Option ℕ → Option SentEntry → Play → Send → Play → Type 0
+SendIn topic None old asked new = Ends old fault.BadPayload new
+SendIn None (Some entry) old asked new = SaysAlone old (reply.SendError asked.producer_id asked.sequence_id NotAllowedError) new
+SendIn (Some topic) (Some entry) old asked new = Asks old topic (send_command asked entry) new
+
+-- SEND: a session without this producer refuses it; else the topic works it
+abbrev pub SendStep : Play → Send → FrameEntry → Play → Type 0
+SendStep old asked entry new = SendIn (topic_of old.client.producers asked.producer_id) (sent_entry entry) old asked new

@@ -1,0 +1,86 @@
+-- What a session does with the bytes that come.
+use Rattle.std.specs.Prelude.{◌≡◌, ℕ, Bool, true, false, Option, Some, None, List, [], ◌∷◌, Result, Ok, Err}
+use Rattle.commands.specs.declared.command.Command.{Command}
+use Rattle.commands.specs.declared.command.Command.TheVariants as command
+use Rattle.commands.specs.declared.reply.Reply.TheVariants as reply
+use Rattle.frames.specs.declared.fault.Fault.{Fault as FrameFault}
+use Rattle.frames.specs.declared.frame.Frame.{Frame}
+use Rattle.frames.specs.declared.frame.FrameEntry.{FrameEntry}
+use Rattle.frames.specs.Streams.{Progress, FeedsOn}
+use Rattle.session.specs.Client.{Client, Play, Ends, ended, SaysAlone, left_if_ended}
+use Rattle.session.specs.Faults.{fault_of}
+use Rattle.session.specs.Producing.{ProducerStep, SendStep}
+use Rattle.session.specs.declared.fault.Fault.{Fault}
+use Rattle.session.specs.declared.fault.Fault.TheVariants as fault
+
+-- a command after CONNECT
+abbrev pub WorksCommand : Play → Command → FrameEntry → Play → Type 0
+WorksCommand old (command.Connect c) entry new = Ends old fault.OutOfTurn new
+WorksCommand old (command.Producer c) entry new = ProducerStep old c new
+WorksCommand old (command.Send c) entry new = SendStep old c entry new
+WorksCommand old command.Ping entry new = SaysAlone old reply.Pong new
+WorksCommand old command.Pong entry new = new ≡ old
+WorksCommand old (command.Other k) entry new = Ends old fault.UnknownCommand new
+
+abbrev pub connected_client : Client → Client
+connected_client c = record c { connected = true }
+
+-- a command before CONNECT, or CONNECT itself
+abbrev pub Connects : Play → Command → Play → Type 0
+Connects old (command.Connect c) new = SaysAlone (record old { client = connected_client old.client }) reply.Connected new
+Connects old (command.Producer c) new = Ends old fault.OutOfTurn new
+Connects old (command.Send c) new = Ends old fault.OutOfTurn new
+Connects old command.Ping new = Ends old fault.OutOfTurn new
+Connects old command.Pong new = Ends old fault.OutOfTurn new
+Connects old (command.Other k) new = Ends old fault.UnknownCommand new
+
+abbrev pub FrameIn : Option Fault → Bool → Play → Frame → Play → Type 0
+FrameIn None true old frame new = WorksCommand old frame.command frame.entry new
+FrameIn None false old frame new = Connects old frame.command new
+FrameIn (Some why) connected old frame new = new ≡ old
+
+-- one frame; a session that ended works none
+abbrev pub FrameStep : Play → Frame → Play → Type 0
+FrameStep old frame new = FrameIn old.client.fault old.client.connected old frame new
+
+-- frames, in order
+abbrev pub FramesStep : Play → List Frame → Play → Type 0
+FramesStep old [] new = new ≡ old
+FramesStep old (frame ∷ frames) new = (between : Play) × FrameStep old frame between × FramesStep between frames new
+
+-- the first fault ends the session
+abbrev pub first_fault : Option Fault → Result (Unit {0}) FrameFault → Option Fault
+first_fault (Some why) read = Some why
+first_fault None (Ok u) = None
+first_fault None (Err flaw) = Some (fault_of flaw)
+
+-- the fault of its stream ends a session that has none yet
+abbrev pub ended_if : Result (Unit {0}) FrameFault → Play → Play
+ended_if read p = record p { client = record p.client { fault = first_fault p.client.fault read } }
+
+abbrev pub with_progress : Play → Progress → Play
+with_progress p progress = record p { client = record p.client { progress = progress } }
+
+-- the frames that are whole now are worked in order; then a fault that the bytes show ends the session.
+-- A session that has ended leaves each topic
+pub record Feeds (old : Play) (bytes : List ℕ) (new : Play) : Type 0 where
+  pub frames : List Frame
+  pub read : Result (Unit {0}) FrameFault
+  pub progress : Progress
+  pub feeds : FeedsOn old.client.progress bytes [] frames read progress
+  pub worked : Play
+  pub works : FramesStep (with_progress old progress) frames worked
+  pub ends : new ≡ left_if_ended (ended_if read worked)
+
+-- a call answers the fault of a session that has ended
+abbrev pub feed_result : Option Fault → Result (Unit {0}) Fault
+feed_result None = Ok tt
+feed_result (Some why) = Err why
+
+abbrev pub FeedIn : Option Fault → Play → List ℕ → Result (Unit {0}) Fault → Play → Type 0
+FeedIn None old bytes result new = Feeds old bytes new × (result ≡ feed_result new.client.fault)
+FeedIn (Some why) old bytes result new = (result ≡ Err why) × (new ≡ old)
+
+-- bytes come; a session that ended works none of them
+abbrev pub FeedStep : Play → List ℕ → Result (Unit {0}) Fault → Play → Type 0
+FeedStep old bytes result new = FeedIn old.client.fault old bytes result new

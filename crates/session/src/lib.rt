@@ -1,0 +1,26 @@
+//! A client's session works the frames of its bytes in order, over any broker behind a `Port`, and writes whole
+//! frames of the replies that an abstract broker allows. Its first fault ends it: it then leaves each topic, works
+//! and writes nothing more, and answers that fault ever after. A pump collects the replies that are due to it
+//! until none is left, or up to a bound.
+#![tactic(auto)]
+
+mod fault;
+mod laws;
+mod port;
+mod producer_entry;
+mod producing;
+mod pumping;
+mod session;
+mod topic_name;
+mod working;
+
+pub use fault::Fault;
+pub use laws::{ended_sessions_leave, pumps_finish, writes_whole_frames};
+pub use port::{Found, Port};
+pub use producer_entry::ProducerEntry;
+pub use pumping::{More, PumpFault};
+pub use session::Session;
+pub use topic_name::is_topic_name;
+
+#[cfg(test)]
+mod tests;

@@ -1,0 +1,78 @@
+ghost use Rattle.std.specs.Prelude.{◌≡◌, ◌<◌, ◌≤◌, ℕ, length};
+ghost use Rattle.topic_core.specs.Steps.{has_producer, Fits};
+ghost use Rattle.session.specs.Broker.{Broker, topic_at, FindStep, IfFound, CommandStep, CollectedAt, left_at};
+
+use commands::Reply;
+use topic_core::{Answer, TopicCommand};
+
+/// What looking for a topic gives.
+#[derive(Clone, Copy, Debug, PartialEq, Eq)]
+pub enum Found {
+    /// The number of the topic.
+    Topic(u64),
+    /// The topic isn't there, and no other one may be made.
+    TooMany,
+    /// Memory was refused, and nothing changed.
+    NoMemory,
+}
+
+/// What a session asks of a broker.
+pub trait Port {
+    /// The abstract broker.
+    ghost broker: { Self → Broker };
+
+    /// How many topics there are.
+    ghost count: { Self → ℕ };
+
+    /// Nobody else changes the broker between two calls.
+    ghost sole: { Self → Type 0 };
+
+    /// What calls may do besides what they do to the abstract broker.
+    ghost passes: { Self → Self → Type 0 };
+
+    /// How many topics there are. Their numbers count from 0.
+    fn topics(&self) -> u64
+        ensures { result ≡ count self.now };
+
+    /// Whether the session has this producer on the topic, open or closing.
+    fn has_producer(&self, topic: u64, who: u64, producer_id: u64) -> bool
+        requires { topic < count self.now }
+        ensures { sole self.now → result ≡ has_producer (topic_at (broker self.now) topic).core who producer_id };
+
+    /// The number of the topic of this name, which is made where it isn't there.
+    fn find(&mut self, name: &str) -> Found
+        ensures step { sole self.old → FindStep (broker self.old) name.now result (broker self.new) }
+        ensures there { IfFound result (λ number. number < count self.new) }
+        ensures passes { passes self.old self.new };
+
+    /// Has a topic work a session's command.
+    fn command(&mut self, topic: u64, who: u64, command: TopicCommand) -> Answer
+        requires { topic < count self.old }
+        ensures step { sole self.old → CommandStep (broker self.old) topic who command result (broker self.new) }
+        ensures fits { Fits command result }
+        ensures passes { passes self.old self.new };
+
+    /// Takes the first reply that a topic has due to the session.
+    fn collect(&mut self, topic: u64, who: u64) -> Option<Reply>
+        requires { topic < count self.old }
+        ensures step { sole self.old → CollectedAt (broker self.old) topic who result (broker self.new) }
+        ensures passes { passes self.old self.new };
+
+    /// The session leaves a topic.
+    fn leave(&mut self, topic: u64, who: u64)
+        requires { topic < count self.old }
+        ensures step { sole self.old → broker self.new ≡ left_at (broker self.old) topic who }
+        ensures passes { passes self.old self.new };
+
+    ghost passes_nothing: { (port : Self) → passes port port };
+
+    ghost passes_both: { (a b c : Self) → passes a b → passes b c → passes a c };
+
+    ghost passes_sole: { (a b : Self) → passes a b → sole a → sole b };
+
+    /// The count never falls.
+    ghost passes_count: { (a b : Self) → passes a b → count a ≤ count b };
+
+    /// It is the abstract broker's.
+    ghost counts_topics: { (port : Self) → sole port → count port ≡ length (broker port).topics };
+}

@@ -1,0 +1,117 @@
+ghost use Rattle.std.specs.Prelude.{◌≡◌, [], OnSome, IfSome};
+ghost use Rattle.session.specs.Client.{Client, Play, play, Speaks, Writes};
+ghost use Rattle.session.specs.Working.{WorksCommand, Connects, FrameStep, FramesStep, first_fault, feed_result, FeedStep};
+
+use crate::fault::Fault;
+use crate::port::Port;
+use crate::session::Session;
+use commands::{Command, Reply};
+use frames::Frame;
+
+impl Session {
+    /// Works the frames that are whole with these bytes, in order. The first fault, of a frame or behind the frames,
+    /// ends the session; each later feed answers it and does nothing else.
+    pub fn feed<P: Port>(
+        &mut self,
+        bytes: &[u8],
+        port: &mut P,
+        out: &mut Vec<u8>,
+    ) -> Result<(), Fault>
+        ensures step { P.sole port.old → FeedStep (play self.old (P.broker port.old) out.old.items) bytes.now result
+            (play self.new (P.broker port.new) out.new.items) }
+
+        // Whoever else uses the broker:
+        ensures result { result ≡ feed_result self.new.fault }
+        ensures ended { IfSome self.old.fault (λ why. (self.new ≡ self.old) × (out.new.items ≡ out.old.items)) }
+        ensures number { self.new.number ≡ self.old.number }
+        ensures writes { Writes out.old.items out.new.items }
+        ensures passes { P.passes port.old port.new }
+    {
+        if let Some(why) = self.fault {
+            return Err(why);
+        }
+        let mut frames = Vec::new(self.alloc);
+        let read = self.parser.feed(bytes, &mut frames);
+        self.work_all(frames, port, out);
+        self.end_if(read);
+        match self.leave_if_ended(port) {
+            None => Ok(()),
+            Some(why) => Err(why),
+        }
+    }
+
+    /// The fault of its stream ends a session that has none yet.
+    fn end_if(&mut self, read: Result<(), frames::Fault>)
+        ensures { self.new ≡ record self.old { fault = first_fault self.old.fault read } }
+    {
+        if self.fault.is_some() {
+            return;
+        }
+        if let Err(flaw) = read {
+            self.fault = Some(Fault::from(flaw));
+        }
+    }
+
+    fn work_all<P: Port>(&mut self, frames: Vec<Frame>, port: &mut P, out: &mut Vec<u8>)
+        ensures step { P.sole port.old → FramesStep (play self.old (P.broker port.old) out.old.items) frames.items
+            (play self.new (P.broker port.new) out.new.items) }
+        ensures speaks { Speaks self.old out.old.items self.new out.new.items }
+        ensures passes { P.passes port.old port.new }
+    {
+        for frame in frames {
+            self.work(frame, port, out);
+        }
+    }
+
+    /// Works a frame. A session that has ended works none.
+    fn work<P: Port>(&mut self, frame: Frame, port: &mut P, out: &mut Vec<u8>)
+        ensures step { P.sole port.old → FrameStep (play self.old (P.broker port.old) out.old.items) frame
+            (play self.new (P.broker port.new) out.new.items) }
+        ensures speaks { Speaks self.old out.old.items self.new out.new.items }
+        ensures passes { P.passes port.old port.new }
+    {
+        if self.fault.is_some() {
+            return;
+        }
+        if self.connected {
+            self.work_command(frame, port, out)
+        } else {
+            self.connect(&frame.command, port, out)
+        }
+    }
+
+    /// Works a command after CONNECT.
+    fn work_command<P: Port>(&mut self, frame: Frame, port: &mut P, out: &mut Vec<u8>)
+        ensures step { P.sole port.old → WorksCommand (play self.old (P.broker port.old) out.old.items) frame.command frame.entry
+            (play self.new (P.broker port.new) out.new.items) }
+        ensures speaks { Speaks self.old out.old.items self.new out.new.items }
+        ensures passes { P.passes port.old port.new }
+    {
+        let Frame { command, entry } = frame;
+        match command {
+            Command::Connect(_) => self.end_by(Fault::OutOfTurn),
+            Command::Producer(asked) => self.open(asked, port, out),
+            Command::Send(asked) => self.send(asked, entry, port, out),
+            Command::Ping => self.say(&Reply::Pong, out),
+            Command::Pong => {}
+            Command::Other(_) => self.end_by(Fault::UnknownCommand),
+        }
+    }
+
+    /// Works CONNECT ("PulsarApi.proto, CommandConnect"), or ends the session for another command before it.
+    fn connect<P: Port>(&mut self, command: &Command, port: &P, out: &mut Vec<u8>)
+        ensures step { Connects (play self.old (P.broker port.now) out.old.items) command.now (play self.new (P.broker port.now) out.new.items) }
+        ensures speaks { Speaks self.old out.old.items self.new out.new.items }
+    {
+        match command {
+            Command::Connect(_) => {
+                self.connected = true;
+                self.say(&Reply::Connected, out)
+            }
+            Command::Producer(_) | Command::Send(_) | Command::Ping | Command::Pong => {
+                self.end_by(Fault::OutOfTurn)
+            }
+            Command::Other(_) => self.end_by(Fault::UnknownCommand),
+        }
+    }
+}

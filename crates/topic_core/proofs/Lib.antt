@@ -1,0 +1,11 @@
+pub mod Lists
+pub mod Places
+pub mod Queues
+pub mod Receipts
+pub mod Sends
+pub mod Collects
+pub mod Flushes
+pub mod Openings
+pub mod Flushing
+pub mod Steps
+pub mod Keeps

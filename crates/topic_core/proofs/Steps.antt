@@ -1,0 +1,81 @@
+-- What a step answers fits its command, and what waits then came from accepted SENDs.
+use Rattle.std.proofs.Common.{◌≡◌, inl, inr, ℕ, Bool, true, false, cond, Some, None, List, [], ◌∷◌, ◌++◌, length, refl, subst, sym, ap, ◌∙◌, arith, append-nil}
+use Rattle.std.specs.List.{AllByRecursion}
+use Rattle.commands.specs.declared.server_error.ServerError.{ServerError}
+use Rattle.commands.specs.declared.reply.Reply.TheVariants.{ProducerSuccess, SendError, Error}
+use Rattle.topic_core.specs.declared.command.Send.{Send}
+use Rattle.topic_core.specs.declared.command.TopicCommand.{TopicCommand}
+use Rattle.topic_core.specs.declared.command.TopicCommand.TheVariants as command
+use Rattle.topic_core.specs.declared.command.Answer.{Answer}
+use Rattle.topic_core.specs.declared.command.Answer.TheVariants.{Now, Later, NoMemory}
+use Rattle.topic_core.specs.Core.{Core}
+use Rattle.topic_core.specs.Steps.{CoreStep, Fits, IsAmong, outcome_of, first_standing, refused_or, producer_refusals, send_refusals, producer_errors, send_errors, with_producer, accepted, bytes_of}
+use Rattle.topic_core.specs.Laws.{IsPublished, entries_added}
+
+-- the first refusal that stands is one of the table's
+among : (errors : List ServerError) (rows : List (Bool × ServerError)) → AllByRecursion (λ row. IsAmong row.1 errors) rows → (e : ServerError) → first_standing rows ≡ Some e → IsAmong e errors
+among errors [] all e is = cc
+among errors (row ∷ rows) all e is =
+    elim row.0 as (λ b. cond b (Some row.1) (first_standing rows) ≡ Some e → IsAmong e errors) [
+      | true ↦ λ first. let same : row.1 ≡ e = cc in subst (λ (x : ServerError). IsAmong x errors) same all.0
+      | false ↦ λ later. among errors rows all.1 e later
+    ] is
+
+outcome-fits : (t : Core) (who : ℕ) (c : TopicCommand) → Fits c (outcome_of t who c).answer
+outcome-fits t who (command.Producer id request name) =
+    elim (first_standing (producer_refusals t name)) as (λ o. first_standing (producer_refusals t name) ≡ o → Fits (command.Producer id request name) (refused_or o (λ error. Error request error) t
+    (record { answer = Now (ProducerSuccess request name); core = with_producer t who id name })).answer) [
+      | None ↦ λ _. (refl, refl)
+      | Some e ↦ λ is. (refl, among producer_errors (producer_refusals t name) (inl refl, (inr (inl refl), tt)) e is)
+    ] refl
+outcome-fits t who (command.Send send) =
+    elim (first_standing (send_refusals t who send)) as (λ o. first_standing (send_refusals t who send) ≡ o → Fits (command.Send send) (refused_or o (λ error. SendError send.producer_id send.sequence_id error) t
+    (record { answer = Later; core = accepted t who send.producer_id send.sequence_id (bytes_of send.entry) })).answer) [
+      | None ↦ λ _. tt
+      | Some e ↦ λ is. (
+        refl,
+        refl,
+        among send_errors (send_refusals t who send)
+            (inl refl, (inr (inl refl), (inl refl, (inl refl, (inr (inr (inl refl)), (inr (inr (inr (inl refl))), (inr (inr (inr (inl refl))), (inr (inr (inr (inl refl))), (inr (inr (inr (inl refl))), tt))))))))) e is,
+      )
+    ] refl
+
+pub step-fits : (t : Core) (who : ℕ) (c : TopicCommand) (a : Answer) (new : Core) → CoreStep t who c a new → Fits c a
+step-fits t who c NoMemory new h = tt
+step-fits t who c (Now r) new h = let P : Answer → Type 0 = λ x. Fits c x in subst P (sym h.0) (outcome-fits t who c)
+step-fits t who c Later new h = let P : Answer → Type 0 = λ x. Fits c x in subst P (sym h.0) (outcome-fits t who c)
+
+-- nothing is added to what waits
+unchanged : (t new : Core) (c : TopicCommand) (a : Answer) → entries_added c a ≡ [] → new.waiting ≡ t.waiting → new.accepted ≡ t.accepted → IsPublished t c a new
+unchanged t new c a none waiting accepted = record {
+  waiting = waiting ∙ sym (append-nil t.waiting) ∙ ap (λ es. t.waiting ++ es) (sym none);
+  accepted = let e = ap (λ (es : List (List ℕ)). length es) none in omega (arith, accepted, e);
+}
+
+producer-publishes : (t new : Core) (who id request : ℕ) (name : List ℕ) (a : Answer) → entries_added (command.Producer id request name) a ≡ [] → new ≡ (outcome_of t who (command.Producer id request name)).core → IsPublished t (command.Producer id request name) a new
+producer-publishes t new who id request name a none is =
+    elim (first_standing (producer_refusals t name)) as (λ o. new ≡ (refused_or o (λ error. Error request error) t (record { answer = Now (ProducerSuccess request name); core = with_producer t who id name })).core
+    → IsPublished t (command.Producer id request name) a new) [
+      | None ↦ λ e. unchanged t new (command.Producer id request name) a none (ap (λ (k : Core). k.waiting) e) (ap (λ (k : Core). k.accepted) e)
+      | Some error ↦ λ e. unchanged t new (command.Producer id request name) a none (ap (λ (k : Core). k.waiting) e) (ap (λ (k : Core). k.accepted) e)
+    ] is
+
+send-publishes : (t new : Core) (who : ℕ) (send : Send) (a : Answer) → a ≡ (outcome_of t who (command.Send send)).answer → new ≡ (outcome_of t who (command.Send send)).core → IsPublished t (command.Send send) a new
+send-publishes t new who send a answered is =
+    elim (first_standing (send_refusals t who send)) as (λ o.
+    a ≡ (refused_or o (λ error. SendError send.producer_id send.sequence_id error) t (record { answer = Later; core = accepted t who send.producer_id send.sequence_id (bytes_of send.entry) })).answer
+    → new ≡ (refused_or o (λ error. SendError send.producer_id send.sequence_id error) t (record { answer = Later; core = accepted t who send.producer_id send.sequence_id (bytes_of send.entry) })).core
+    → IsPublished t (command.Send send) a new) [
+      | None ↦ λ later e. let P : Answer → Type 0 = λ x. IsPublished t (command.Send send) x new in
+          subst P (sym later) (record { waiting = ap (λ (k : Core). k.waiting) e; accepted = ap (λ (k : Core). k.accepted) e })
+      | Some error ↦ λ now e. let P : Answer → Type 0 = λ x. IsPublished t (command.Send send) x new in
+          subst P (sym now) (unchanged t new (command.Send send) (Now (SendError send.producer_id send.sequence_id error)) refl (ap (λ (k : Core). k.waiting) e) (ap (λ (k : Core). k.accepted) e))
+    ] answered is
+
+pub step-publishes : (t : Core) (who : ℕ) (c : TopicCommand) (a : Answer) (new : Core) → CoreStep t who c a new → IsPublished t c a new
+step-publishes t who (command.Producer id request name) NoMemory new h = unchanged t new (command.Producer id request name) NoMemory refl (ap (λ (k : Core). k.waiting) h) (ap (λ (k : Core). k.accepted) h)
+step-publishes t who (command.Producer id request name) (Now r) new h = producer-publishes t new who id request name (Now r) refl h.1
+step-publishes t who (command.Producer id request name) Later new h = producer-publishes t new who id request name Later refl h.1
+step-publishes t who (command.Send send) NoMemory new h = unchanged t new (command.Send send) NoMemory refl (ap (λ (k : Core). k.waiting) h) (ap (λ (k : Core). k.accepted) h)
+step-publishes t who (command.Send send) (Now r) new h = send-publishes t new who send (Now r) h.0 h.1
+step-publishes t who (command.Send send) Later new h = send-publishes t new who send Later h.0 h.1

@@ -1,0 +1,72 @@
+-- The abstract topic. Its core is all but the bytes of the committed entries and the durable subscriptions.
+use Rattle.std.specs.Prelude.{ℕ, ◌+◌, Bool, false, Option, Some, None, List, [], length, sum_by}
+use Rattle.std.specs.Ordering.{nat_cmp}
+use Rattle.std.specs.Cmp.Lexicographic.{slice_cmp}
+use Rattle.std.specs.FinMap as map
+use Rattle.topic_core.specs.declared.producer.Producer.{Producer}
+use Rattle.topic_core.specs.Subscriptions.{Subscription, Change, Positions}
+use Rattle.topic_core.specs.Replies.{SessionReplies, receipts_in}
+
+-- how much a flush handed on that hasn't come to a good end; the replies are counted in their queues
+pub record Doubt : Type 0 where
+  pub entries : ℕ  -- of the first waiting ones
+  pub changes : ℕ  -- of the first changes
+
+pub record Core : Type 0 where
+  pub per_ledger : ℕ  -- how many entry ids a ledger id has
+  pub committed : ℕ  -- how many entries are committed
+  pub waiting : List (List ℕ)  -- the accepted entries that aren't
+  pub accepted : ℕ  -- how many SENDs were accepted since the node opened
+  pub handed : ℕ  -- how many receipts were collected since then
+  pub producers : List Producer
+  pub subs : List Subscription
+  pub changes : List Change  -- the ones that aren't durable yet
+  pub queues : List SessionReplies  -- one a session at most
+  pub doubt : Option Doubt
+  pub failed : Bool
+
+pub record Topic : Type 0 where
+  pub core : Core
+  pub ledger : List (List ℕ)  -- the committed entries
+  pub kept : map.FinMap (slice_cmp nat_cmp) Positions  -- the durable subscriptions: each name's acknowledged positions
+
+-- a core that was opened over so many committed entries, and that nothing happened to since
+abbrev pub opened : ℕ → ℕ → Core
+opened per_ledger committed = record {
+  per_ledger = per_ledger;
+  committed = committed;
+  waiting = [];
+  accepted = 0;
+  handed = 0;
+  producers = [];
+  subs = [];
+  changes = [];
+  queues = [];
+  doubt = None;
+  failed = false;
+}
+
+-- a core over a store of entries, without durable subscriptions
+abbrev pub topic_of : Core → List (List ℕ) → Topic
+topic_of core ledger = record { core = core; ledger = ledger; kept = map.empty }
+
+-- how many of the waiting entries and of the changes a flush handed on
+abbrev pub entries_of : Option Doubt → ℕ
+entries_of None = 0
+entries_of (Some doubt) = doubt.entries
+
+abbrev pub changes_of : Option Doubt → ℕ
+changes_of None = 0
+changes_of (Some doubt) = doubt.changes
+
+-- the position that the next accepted entry gets
+abbrev pub next_position : Core → ℕ
+next_position t = t.committed + length t.waiting
+
+-- how many bytes the waiting entries have
+abbrev pub waiting_bytes : Core → ℕ
+waiting_bytes t = sum_by length t.waiting
+
+-- how many receipts are due
+abbrev pub receipts_due : List SessionReplies → ℕ
+receipts_due queues = sum_by (λ q. receipts_in q.due) queues

@@ -1,0 +1,77 @@
+-- A flush of a topic, and its parts.
+use Rattle.std.specs.Prelude.{◌≡◌, ℕ, ◌+◌, Bool, true, false, ◌&&◌, ◌||◌, Some, None, is_some, Result, Ok, Err, [], ◌++◌, length, drop, map, nat_eq}
+use Rattle.std.specs.List.{list_all}
+use Rattle.topic_core.specs.declared.refusal.Refusal.{Refusal}
+use Rattle.topic_core.specs.declared.refusal.Refusal.TheVariants as refusal
+use Rattle.topic_core.specs.declared.store.StoreError.{StoreError}
+use Rattle.topic_core.specs.declared.store.StoreError.TheVariants as store
+use Rattle.topic_core.specs.Replies.{hand_on, make_due, take_back, make_all_due}
+use Rattle.topic_core.specs.Core.{Core, Topic, entries_of, changes_of}
+
+-- nothing waits for a flush
+abbrev pub is_idle : Core → Bool
+is_idle t = nat_eq (length t.waiting) 0 && nat_eq (length t.changes) 0 && list_all (λ q. nat_eq (length q.pending) 0) t.queues
+
+-- a flush has nothing to do: one is under way, or nothing waits
+abbrev pub has_no_flush : Core → Bool
+has_no_flush t = is_some t.doubt || is_idle t
+
+-- all that waits is handed on
+abbrev pub handed_on : Core → Core
+handed_on t = record t {
+  doubt = Some (record { entries = length t.waiting; changes = length t.changes });
+  queues = map (λ q. hand_on q) t.queues;
+}
+
+-- a flush begins by handing on all that waits, where it has something to do
+abbrev pub TakeStep : Core → Bool → Core → Type 0
+TakeStep old true new = (has_no_flush old ≡ false) × (new ≡ handed_on old)
+TakeStep old false new = (has_no_flush old ≡ true) × (new ≡ old)
+
+-- what was handed on is committed, and its replies are due
+abbrev pub finished : Core → Core
+finished t = record t {
+  committed = t.committed + entries_of t.doubt;
+  waiting = drop (entries_of t.doubt) t.waiting;
+  changes = drop (changes_of t.doubt) t.changes;
+  queues = map (λ q. make_due q) t.queues;
+  doubt = None;
+}
+
+-- what was handed on waits again
+abbrev pub taken_back : Core → Core
+taken_back t = record t { queues = map (λ q. take_back q) t.queues; doubt = None }
+
+-- a flush ends as its write did
+abbrev pub FinishStep : Core → Result (Unit {0}) StoreError → Result ℕ Refusal → Core → Type 0
+FinishStep old (Ok done) result new = (result ≡ Ok (entries_of old.doubt)) × (new ≡ finished old)
+FinishStep old (Err store.NoMemory) result new = (result ≡ Err refusal.NoMemory) × (new ≡ taken_back old)
+
+-- all that waits is committed, and all replies that await a flush are due
+abbrev pub flushed : Core → Core
+flushed t = record t {
+  committed = t.committed + length t.waiting;
+  waiting = [];
+  changes = [];
+  queues = map (λ q. make_all_due q) t.queues;
+  doubt = None;
+}
+
+-- the ledger gains the entries
+abbrev pub flushed_topic : Topic → Topic
+flushed_topic t = record t { core = flushed t.core; ledger = t.ledger ++ t.core.waiting }
+
+-- the end of a flush that began
+abbrev pub FlushEnds : Topic → Result ℕ Refusal → Topic → Type 0
+FlushEnds old (Ok count) new = (count ≡ length old.core.waiting) × (new ≡ flushed_topic old)
+FlushEnds old (Err refusal.NoMemory) new = new ≡ old
+FlushEnds old (Err refusal.Device) new = ⊥
+
+-- of a topic that failed, or where one is under way, a flush changes nothing
+abbrev pub FlushIn : Bool → Bool → Topic → Result ℕ Refusal → Topic → Type 0
+FlushIn true under_way old result new = (result ≡ Err refusal.Device) × (new ≡ old)
+FlushIn false true old result new = (result ≡ Ok 0) × (new ≡ old)
+FlushIn false false old result new = FlushEnds old result new
+
+abbrev pub FlushStep : Topic → Result ℕ Refusal → Topic → Type 0
+FlushStep old result new = FlushIn old.core.failed (is_some old.core.doubt) old result new

@@ -1,0 +1,46 @@
+use bytes::Bytes;
+use commands::{MessageMeta, Reply, ReplyText};
+
+/// What stands behind a SEND in its frame.
+#[derive(Drop)]
+pub enum SentEntry {
+    /// An entry with a checksum, which isn't read ("Pulsar binary protocol, Payload commands").
+    Checksummed,
+    Plain {
+        /// Metadata size, metadata and payload, as they stand.
+        bytes: Bytes,
+        metadata: MessageMeta,
+    },
+}
+
+/// A SEND ("PulsarApi.proto, CommandSend") with its entry.
+#[derive(Drop)]
+pub struct Send {
+    pub producer_id: u64,
+    pub sequence_id: u64,
+    pub num_messages: i32,
+    pub entry: SentEntry,
+}
+
+/// What a session asks of a topic.
+#[derive(Drop)]
+pub enum TopicCommand {
+    /// A PRODUCER ("PulsarApi.proto, CommandProducer") with the name that the producer gets. The session has no producer with this id.
+    Producer {
+        producer_id: u64,
+        request_id: u64,
+        producer_name: ReplyText,
+    },
+    Send(Send),
+}
+
+/// What a topic answers.
+#[derive(Drop)]
+pub enum Answer {
+    /// This reply, at once.
+    Now(Reply),
+    /// Nothing yet: the reply is due after a flush.
+    Later,
+    /// Memory was refused, and nothing changed.
+    NoMemory,
+}

@@ -1,0 +1,343 @@
+ghost use Rattle.std.specs.Prelude.{◌≡◌, ◌+◌, ◌^◌, ◌<◌, ◌≤◌, ◌&&◌, ℕ, None, length, IfOk, IfSome, OnOk, OnErr, filter, not, nat_eq, sum_by};
+ghost use Rattle.std.specs.List.{list_any};
+ghost use Rattle.std.specs.Str.{bytes_eq};
+ghost use Rattle.topic_core.specs.Core.{Core, opened, next_position};
+ghost use Rattle.topic_core.specs.Replies.{is_receipt};
+ghost use Rattle.topic_core.specs.Steps.{Meets, CoreStep, Collects, Fits, first_standing, producer_refusals, send_refusals, limit_refusals, producer_outcome, send_outcome, has_producer, has_open_producer, has_name, is_producer, is_open, is_single_message, accepted, receipt, left};
+
+use crate::command::{Answer, Send, SentEntry, TopicCommand};
+use crate::producer::{Producer, ProducerState};
+use crate::reply_queue::{ReplyQueue, forget_replies, push_reply, take_reply};
+use bytes::Bytes;
+use commands::{MessageId, MessageMeta, Reply, ReplyText, ServerError, Text};
+use std::alloc::{AllocError, Global};
+use std::marker::Model;
+
+/// The most entries that a topic has, committed and waiting, and the most SENDs that it accepts. Our own rule.
+const MOST_ENTRIES: u64 = 1 << 62;
+
+/// The most entries that wait for a flush. Our own rule.
+const MOST_WAITING: usize = 1_024;
+
+/// The most bytes that they have together. Our own rule.
+const MOST_WAITING_BYTES: u64 = 16_777_216;
+
+/// The most bytes of an entry, as CONNECTED tells it ("PulsarApi.proto, CommandConnected, max_message_size").
+const LONGEST_ENTRY: usize = 1_048_576;
+
+/// How much a flush handed on that hasn't come to a good end.
+#[derive(Clone, Copy)]
+pub(crate) struct Doubt {
+    pub(crate) entries: usize,
+}
+
+/// One topic, without the bytes of its committed entries.
+#[derive(Drop)]
+pub struct TopicCore {
+    pub(crate) alloc: Global,
+    pub(crate) per_ledger: u64,
+    pub(crate) committed: u64,
+    pub(crate) waiting: Vec<Bytes>,
+    pub(crate) waiting_bytes: u64,
+    pub(crate) accepted: u64,
+    pub(crate) handed: u64,
+    pub(crate) producers: Vec<Producer>,
+    pub(crate) queues: Vec<ReplyQueue>,
+    pub(crate) doubt: Option<Doubt>,
+    pub(crate) failed: bool,
+}
+
+impl Model for TopicCore {
+    ghost use Rattle.std.specs.Prelude.{◌≡◌, ℕ, sum_by, length};
+    ghost use Rattle.std.specs.Coded.{codes, coded_ℕ};
+    ghost use Rattle.std.specs.Ordering.{nat_cmp};
+    ghost use Rattle.std.specs.FinSet as set;
+    ghost use Rattle.std.specs.FinMap as map;
+    ghost use Rattle.topic_core.specs.Core.{Core};
+    ghost use Rattle.topic_core.specs.Soundness.{IsSound, AreReceipts};
+
+    ghost Value = { Core };
+
+    ghost coded = { Prim.hlevel (codes, set.code {R = nat_cmp} coded_ℕ, map.code {R = nat_cmp} coded_ℕ coded_ℕ) };
+
+    ghost use Rattle.topic_core.specs.Held.{core_of};
+
+    ghost view = { core_of };
+
+    ghost invariant = { λ t. (t.waiting_bytes ≡ sum_by length t.waiting.items) × IsSound (core_of t) × AreReceipts (core_of t) };
+}
+
+impl TopicCore {
+    /// A topic over a store of so many entries, where a ledger id has so many entry ids.
+    pub fn new(alloc: Global, per_ledger: u64, committed: u64) -> TopicCore
+        requires numbered { 0 < per_ledger }
+        requires few { committed ≤ 2 ^ 62 }
+        ensures { result ≡ opened per_ledger committed }
+    {
+        TopicCore {
+            alloc,
+            per_ledger,
+            committed,
+            waiting: Vec::new(alloc),
+            waiting_bytes: 0,
+            accepted: 0,
+            handed: 0,
+            producers: Vec::new(alloc),
+            queues: Vec::new(alloc),
+            doubt: None,
+            failed: false,
+        }
+    }
+
+    /// Whether a device failure ended the topic's work.
+    pub fn is_failed(&self) -> bool
+        ensures { result ≡ self.now.failed }
+    {
+        self.failed
+    }
+
+    /// How many entries are committed.
+    pub fn committed(&self) -> u64
+        ensures { result ≡ self.now.committed }
+    {
+        self.committed
+    }
+
+    /// Whether the session has this producer, open or closing.
+    pub fn has_producer(&self, who: u64, id: u64) -> bool
+        ensures { result ≡ has_producer self.now who id }
+    {
+        self.producers
+            .iter()
+            .any(|p| p.session == who && p.id == id)
+    }
+
+    fn has_open_producer(&self, who: u64, id: u64) -> bool
+        ensures { result ≡ has_open_producer self.now who id }
+    {
+        has_open(self.producers.as_slice(), who, id)
+    }
+
+    fn has_name(&self, name: &str) -> bool
+        ensures { result ≡ has_name self.now name.now }
+    {
+        self.producers.iter().any(|p| p.name.as_str() == name)
+    }
+
+    fn producer_refusal(&self, name: &str) -> Option<ServerError>
+        ensures { result ≡ first_standing (producer_refusals self.now name.now) }
+    {
+        if self.is_failed() {
+            return Some(ServerError::PersistenceError);
+        }
+        if self.has_name(name) {
+            return Some(ServerError::ProducerBusy);
+        }
+        None
+    }
+
+    fn send_refusal(&self, who: u64, send: &Send) -> Option<ServerError>
+        ensures { result ≡ first_standing (send_refusals self.now who send.now) }
+    {
+        if !self.has_open_producer(who, send.producer_id) {
+            return Some(ServerError::NotAllowedError);
+        }
+        let SentEntry::Plain { bytes, metadata } = &send.entry else {
+            return Some(ServerError::ChecksumError);
+        };
+        let len = bytes.len();
+        if len > LONGEST_ENTRY {
+            return Some(ServerError::NotAllowedError);
+        }
+        if !is_single_message(send.num_messages, metadata) {
+            return Some(ServerError::NotAllowedError);
+        }
+        if self.is_failed() {
+            return Some(ServerError::PersistenceError);
+        }
+        self.limit_refusal(len)
+    }
+
+    /// What a topic that has too much refuses of an entry of this length.
+    fn limit_refusal(&self, len: usize) -> Option<ServerError>
+        requires { len ≤ 1048576 }
+        ensures { result ≡ first_standing (limit_refusals self.now len) }
+    {
+        if self.waiting.len() >= MOST_WAITING
+            || self.waiting_bytes + len as u64 > MOST_WAITING_BYTES
+            || self.committed + self.waiting.len() as u64 >= MOST_ENTRIES
+            || self.accepted >= MOST_ENTRIES
+        {
+            return Some(ServerError::TooManyRequests);
+        }
+        None
+    }
+
+    fn add_producer(
+        &mut self,
+        who: u64,
+        producer_id: u64,
+        request_id: u64,
+        producer_name: ReplyText,
+    ) -> Result<Answer, AllocError>
+        ensures ok { IfOk result (λ answer. Meets (producer_outcome self.old who producer_id request_id producer_name) self.old answer self.new) }
+        ensures err { OnErr result (self.new ≡ self.old) }
+    {
+        if let Some(error) = self.producer_refusal(producer_name.as_str()) {
+            return Ok(Answer::Now(Reply::Error { request_id, error }));
+        }
+        let name = String::from_str(self.alloc, producer_name.as_str())?;
+        self.producers.push(Producer {
+            session: who,
+            id: producer_id,
+            name: Text::new(name),
+            state: ProducerState::Open,
+        })?;
+        Ok(Answer::Now(Reply::ProducerSuccess {
+            request_id,
+            producer_name,
+        }))
+    }
+
+    fn send(&mut self, who: u64, send: Send) -> Result<Answer, AllocError>
+        ensures ok { IfOk result (λ answer. Meets (send_outcome self.old who send) self.old answer self.new) }
+        ensures err { OnErr result (self.new ≡ self.old) }
+    {
+        if let Some(error) = self.send_refusal(who, &send) {
+            return Ok(Answer::Now(Reply::SendError {
+                producer_id: send.producer_id,
+                sequence_id: send.sequence_id,
+                error,
+            }));
+        }
+        let Send {
+            producer_id,
+            sequence_id,
+            num_messages: _,
+            entry,
+        } = send;
+        let SentEntry::Plain { bytes, metadata: _ } = entry else {
+            unreachable!()
+        };
+        self.accept(who, producer_id, sequence_id, bytes)?;
+        Ok(Answer::Later)
+    }
+
+    /// The entry waits, and the receipt for its position awaits a flush.
+    fn accept(
+        &mut self,
+        who: u64,
+        producer_id: u64,
+        sequence_id: u64,
+        entry: Bytes,
+    ) -> Result<(), AllocError>
+        requires short { length entry ≤ 1048576 }
+        requires room { first_standing (limit_refusals self.old (length entry)) ≡ None }
+        ensures ok { OnOk result (self.new ≡ accepted self.old who producer_id sequence_id entry) }
+        ensures err { OnErr result (self.new ≡ self.old) }
+    {
+        let position = self.committed + self.waiting.len() as u64;
+        let message_id = MessageId {
+            ledger_id: position / self.per_ledger,
+            entry_id: position % self.per_ledger,
+        };
+        let len = entry.len() as u64;
+        self.waiting.reserve(1)?;
+        let receipt = Reply::SendReceipt {
+            producer_id,
+            sequence_id,
+            message_id,
+        };
+        push_reply(self.alloc, who, receipt, &mut self.queues)?;
+        self.waiting.push(entry).unwrap();
+        self.waiting_bytes += len;
+        self.accepted += 1;
+        Ok(())
+    }
+
+    /// Works a session's command.
+    pub fn command(&mut self, who: u64, command: TopicCommand) -> Answer
+        ensures step { CoreStep self.old who command result self.new }
+        ensures fits { Fits command result }
+    {
+        let answer = match command {
+            TopicCommand::Producer {
+                producer_id,
+                request_id,
+                producer_name,
+            } => self.add_producer(who, producer_id, request_id, producer_name),
+            TopicCommand::Send(send) => self.send(who, send),
+        };
+        answer.unwrap_or(Answer::NoMemory)
+    }
+
+    /// The session's first due reply, which it takes.
+    pub fn collect(&mut self, who: u64) -> Option<Reply>
+        ensures { Collects self.old who result self.new }
+    {
+        let reply = take_reply(who, &mut self.queues)?;
+        if is_receipt(&reply) {
+            self.handed += 1;
+        }
+        Some(reply)
+    }
+
+    /// A session leaves. What it sent stays.
+    pub fn leave(&mut self, who: u64)
+        ensures { self.new ≡ left self.old who }
+    {
+        forget_producers(who, &mut self.producers);
+        forget_replies(who, &mut self.queues);
+    }
+}
+
+/// Whether a session has this producer, and it is open.
+fn has_open(producers: &[Producer], who: u64, id: u64) -> bool
+    ensures { result ≡ list_any (λ p. is_producer who id p && is_open p.state) producers.now }
+{
+    producers.iter().any(|p| p.session == who && p.id == id && p.state == ProducerState::Open)
+}
+
+/// Whether an entry is one message, neither compressed nor delayed.
+fn is_single_message(num_messages: i32, metadata: &MessageMeta) -> bool
+    ensures { result ≡ is_single_message num_messages metadata.now }
+{
+    metadata.compression == 0
+        && metadata.deliver_at_time.is_none()
+        && num_messages == 1
+        && metadata.num_messages_in_batch == 1
+}
+
+/// Drops the producers of a session.
+fn forget_producers(who: u64, producers: &mut Vec<Producer>)
+    ensures { producers.new.items ≡ filter (λ p. not (nat_eq p.session who)) producers.old.items }
+{
+    producers.retain(|p| p.session != who);
+}
+
+fn is_receipt(reply: &Reply) -> bool
+    ensures { result ≡ is_receipt reply.now }
+{
+    match reply {
+        Reply::SendReceipt {
+            producer_id: _,
+            sequence_id: _,
+            message_id: _,
+        } => true,
+        Reply::Connected
+        | Reply::ProducerSuccess {
+            request_id: _,
+            producer_name: _,
+        }
+        | Reply::SendError {
+            producer_id: _,
+            sequence_id: _,
+            error: _,
+        }
+        | Reply::Error {
+            request_id: _,
+            error: _,
+        }
+        | Reply::Pong => false,
+    }
+}
