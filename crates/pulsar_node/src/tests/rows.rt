@@ -5,7 +5,11 @@ use std::process::Abort;
 use std::test::Fail;
 
 // Want of memory is handed on, also where a line of output tells it.
-fn assert_lines(rt: &(impl Abort + AllocGlobal), script: &str, want: &str) -> Result<(), ProgramFault> {
+fn assert_lines(
+    rt: &(impl Abort + AllocGlobal),
+    script: &str,
+    want: &str,
+) -> Result<(), ProgramFault> {
     let mut lines = Limited::new(2048);
     replay(rt.alloc(), &mut script.as_bytes(), &mut lines)?;
     if tells_no_memory(lines.as_slice()) {
@@ -16,9 +20,7 @@ fn assert_lines(rt: &(impl Abort + AllocGlobal), script: &str, want: &str) -> Re
 }
 
 fn tells_no_memory(lines: &[u8]) -> bool {
-    lines
-        .windows(3)
-        .any(|word| word == b" S5".as_slice() || word == b" F9".as_slice())
+    lines.windows(3).any(|word| word == b" S5".as_slice() || word == b" F9".as_slice())
 }
 
 // A producer connects, sends, and gets its receipt once the entry is committed.
