@@ -41,12 +41,13 @@ impl From<AllocError> for ProgramFault {
     }
 }
 
-/// Writes the line that says why the program ends: `error: `, the fault's text and a line feed.
+/// Writes the line that says why the program ends: `error: `, the fault's text and a line feed. A fault of the writer is
+/// handed on, and how much went out isn't said.
 pub fn write_fault<W: Write>(fault: &ProgramFault, writer: &mut W) -> io::Result<()> {
     writeln!(writer, "error: {fault}")
 }
 
-/// What the program exits with after a fault.
+/// The status that the program exits with after a fault. Our own rule.
 pub fn exit_status(fault: &ProgramFault) -> u8
     ensures { result ≡ 1 }
 {

@@ -1,6 +1,6 @@
-//! The broker as a program.
-//! A replay reads a whole script before it works its first line, and writes one line for each line of the script, in order: all of them where it ends well, and otherwise a front of them.
-//! A bad script is answered by the number of its first bad line, and nothing is written.
+//! The broker as a program. A replay reads a whole script before it works the first line, and writes a line for each
+//! line of the script, in order and by a run of the broker: all of them where it ends well, otherwise a front of them. A
+//! bad script is answered by the number of its first bad line, and nothing is written.
 #![tactic(auto)]
 
 mod arguments;

@@ -11,7 +11,9 @@ use std::alloc::Global;
 use std::io;
 use std::io::{ErrorKind, Read, Write};
 
-/// Runs the script that the reader holds over a broker in memory, and writes a line for each of its lines.
+/// Runs the script that the reader holds over a broker in memory, and writes a line for each of its lines. Where the
+/// reader's or the writer's bytes aren't known, the contract speaks of some bytes. A reader or writer that fails is a
+/// device fault; a signal that interrupts it isn't.
 pub fn replay<R: Read, W: Write>(
     alloc: Global,
     reader: &mut R,

@@ -1,5 +1,6 @@
-//! Reads a script of events from its bytes, or answers the number of its first bad line, and writes the lines that a script prints.
-//! What is read is exactly what the bytes spell by the grammar in `specs/Line.antt` and `specs/Script.antt`; only want of memory is answered in place of it.
+//! Reads a script of events from its bytes, or answers the number of its first bad line, and makes the lines that a
+//! replay prints. What is read is exactly what the bytes spell by the grammar in `specs/Line.antt` and
+//! `specs/Script.antt`, and only want of memory is ever answered in its place.
 //! A printed line is the one spelling of its number, bytes and result.
 #![tactic(auto)]
 

@@ -7,13 +7,19 @@ use crate::text::{after, around};
 use hex::FromHexError;
 use std::alloc::Global;
 
-/// One event of a script. Sessions and topics are named by their numbers.
+/// One event of a script, and the line that says it. Our own rule: words one space apart, sessions and topics by their
+/// numbers, which count from 0, in decimal.
 #[derive(Drop)]
 pub enum Line {
+    /// `open`: a client connects, and its session takes the next number.
     Open,
+    /// `bytes S HEX`: bytes of a session's client come, one or more, two hex digits a byte in either case.
     Bytes { session: u64, bytes: Sequence<u8> },
+    /// `pump S`: a session collects what is due to it.
     Pump(u64),
+    /// `close S`: a session's client is gone.
     Close(u64),
+    /// `flush T`: what waits on a topic is to be committed.
     Flush(u64),
 }
 

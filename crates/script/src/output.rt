@@ -3,7 +3,7 @@ ghost use Rattle.script.specs.Output.{output_line as line_of_output, hex_or_dash
 
 use std::alloc::{AllocError, Global};
 
-/// A fault that ended a session.
+/// A fault that ended a session, `F1` to `F9` in this order.
 #[derive(Clone, Copy, Debug, PartialEq, Eq)]
 pub enum SessionFault {
     TooLarge,
@@ -32,7 +32,7 @@ pub enum Outcome {
 }
 
 impl SessionFault {
-    /// The word of an output line.
+    /// The fault as a printed line names it.
     pub fn as_str(self) -> &'static str
         ensures { result.now ≡ word_of_fault self }
     {
@@ -51,7 +51,7 @@ impl SessionFault {
 }
 
 impl Outcome {
-    /// The word of an output line.
+    /// The ending as a printed line names it: `ok`, the session's fault, `S5` for want of memory, `full` or `none`.
     pub fn as_str(self) -> &'static str
         ensures { result.now ≡ word_of_outcome self }
     {
@@ -65,7 +65,8 @@ impl Outcome {
     }
 }
 
-/// The line that a script prints of one event: its number, the bytes out and how it ended.
+/// The line that a replay prints of one event. Our own rule: its number, counted from 1, the bytes out in lower-case
+/// hex or `-` for none, and how it ended, one space apart, and a line feed.
 pub fn output_line(
     alloc: Global,
     number: u64,

@@ -10,9 +10,10 @@ use crate::text::first_piece;
 use std::alloc::Global;
 use thiserror::Error;
 
-/// A script: a broker of this many entries a ledger, and what happens to it.
+/// A script: what happens to a broker, in order.
 #[derive(Drop)]
 pub struct Script {
+    /// How many entries a ledger has, 1 to 50,000.
     pub per_ledger: u64,
     pub lines: Sequence<Line>,
 }
@@ -27,7 +28,8 @@ pub enum ScriptFault {
     NoMemory,
 }
 
-/// Reads a whole script.
+/// Reads a whole script. Our own rule: `init N` comes first and only there, each further line is an event, a line feed
+/// ends a line, and the last may lack it. Bytes without a line are bad in line 1.
 pub fn read_script(alloc: Global, bytes: &[u8]) -> Result<Script, ScriptFault>
     // What is read is spelled so, and what is spelled so is read, unless memory runs out.
     ensures found { IfOk result (λ script. IsScript bytes.now script) }
