@@ -1,4 +1,4 @@
-use super::support::Limited;
+use super::support::{Limited, tells_no_memory};
 use crate::fault::ProgramFault;
 use crate::replay::replay;
 use std::process::Abort;
@@ -17,10 +17,6 @@ fn assert_lines(
     }
     assert_eq!(rt; lines.as_slice(), want.as_bytes());
     Ok(())
-}
-
-fn tells_no_memory(lines: &[u8]) -> bool {
-    lines.windows(3).any(|word| word == b" S5".as_slice() || word == b" F9".as_slice())
 }
 
 // A producer connects, sends, and gets its receipt once the entry is committed.

@@ -1,4 +1,4 @@
-use super::support::{Failing, Limited};
+use super::support::{Failing, Limited, tells_no_memory};
 use crate::fault::ProgramFault;
 use crate::replay::replay;
 use std::process::Abort;
@@ -68,8 +68,11 @@ fn refuses_bad_forms(rt: HostRuntime) -> Result<(), Fail> {
 
 #[test]
 fn writes_a_line_for_each_line(rt: HostRuntime) -> Result<(), Fail> {
-    let mut lines = Limited::new(LINES.len());
+    let mut lines = Limited::new(100);
     replay(rt.alloc(), &mut &SCRIPT[..], &mut lines)?;
+    if tells_no_memory(lines.as_slice()) {
+        return Err(Fail::from(ProgramFault::NoMemory));
+    }
     assert_eq!(rt; lines.as_slice(), LINES);
     Ok(())
 }
@@ -80,6 +83,9 @@ fn assert_front(rt: &(impl Abort + AllocGlobal), room: usize) -> Result<(), Prog
     match replay(rt.alloc(), &mut &SCRIPT[..], &mut lines) {
         Err(ProgramFault::NoMemory) => return Err(ProgramFault::NoMemory),
         ended => assert_eq!(rt; ended, Err(ProgramFault::Device)),
+    }
+    if tells_no_memory(lines.as_slice()) {
+        return Err(ProgramFault::NoMemory);
     }
     assert_eq!(rt; Some(lines.as_slice()), LINES.get(..room));
     Ok(())

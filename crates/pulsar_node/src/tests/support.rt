@@ -81,3 +81,8 @@ impl Read for Failing<'_> {
         Ok(count)
     }
 }
+
+/// Whether a line tells that memory was refused, in place of the answer.
+pub fn tells_no_memory(lines: &[u8]) -> bool {
+    lines.windows(3).any(|word| word == b" S5".as_slice() || word == b" F9".as_slice())
+}

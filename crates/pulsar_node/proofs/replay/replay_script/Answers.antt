@@ -27,8 +27,8 @@ returns-in-Ok g c =
     (g.W.Write.contents c.write_output.new.writer) (g.W.Write.contents c.work_lines.new.writer) (g.W.Write.contents c.flush.new.self) c.work_lines.new.node
     c.in_ok-write_output.ensures worked.0 worked.1 worked.2 c.flush.ensures.bytes
 
-pub returns-in-Err : goal.returns-in-Err
-returns-in-Err g c =
+pub returns : goal.returns
+returns g c =
     let worked = works_same {X = Unit {0}} c.in_ok-node.node (fresh_state c.in_ok-per_ledger.field-0.per_ledger) c.into_vec.result.items c.in_ok-per_ledger.field-0.lines
     (g.W.Write.contents c.write_output.new.writer) c.work_lines.new.node (g.W.Write.contents c.work_lines.new.writer) (Ok tt) c.in_ok-node.ensures c.into_vec.ensures c.in_ok-work_lines.ensures in
     flush_fails c.args.bytes.now c.in_ok-per_ledger.field-0 c.in_ok-per_ledger.ensures.found (g.W.Write.contents c.args.writer.now)
