@@ -1,6 +1,7 @@
 pub mod Utf8
 pub mod Walk
 pub mod Spelled
+pub mod Told
 pub mod Occurrences
 pub mod Readable
 pub mod Apart

@@ -41,10 +41,10 @@ value-is_field k (Fixed32 n) is small =
       value_is = (refl, refl, sym (from_le_bytes-to_le_bytes_4 n small));
     }
 
-none : All IsWritable []
+pub none : All IsWritable []
 none i d h = absurd (omega arith)
 
-messages : (fields : List Field) → All IsWritable fields → FieldsOf (message_spelling fields) fields
+pub messages : (fields : List Field) → All IsWritable fields → FieldsOf (message_spelling fields) fields
 messages [] h = refl
 messages (field ∷ fields) h =
     let first = All-head IsWritable field fields h in
@@ -68,7 +68,7 @@ rising (ProducerSuccess request_id producer_name) = rising-cons 1 2 [] (omega ar
 rising Pong = λ k h. absurd (omega arith)
 
 -- the type of a reply is the number of a field
-type-is : (reply : Reply) → IsFieldNumber (reply_type reply)
+pub type-is : (reply : Reply) → IsFieldNumber (reply_type reply)
 type-is Connected = (omega arith, omega arith)
 type-is (SendReceipt producer_id sequence_id id) = (omega arith, omega arith)
 type-is (SendError producer_id sequence_id error) = (omega arith, omega arith)
@@ -76,7 +76,7 @@ type-is (Error request_id error) = (omega arith, omega arith)
 type-is (ProducerSuccess request_id producer_name) = (omega arith, omega arith)
 type-is Pong = (omega arith, omega arith)
 
-replies : (reply : Reply) → All IsWritable (fields_in reply) → length (reply_fields reply) < 2 ^ 64 → IsSpelled reply
+pub replies : (reply : Reply) → All IsWritable (fields_in reply) → length (reply_fields reply) < 2 ^ 64 → IsSpelled reply
 unfolding spelling
 replies reply h small =
     let k : IsFieldNumber (reply_type reply) = type-is reply in

@@ -1,5 +1,5 @@
 -- What holds of commands and replies, in the words of the standard.
-use Rattle.std.specs.Prelude.{◌≡◌, ◌≢◌, ◌<◌, ◌^◌, ◌↔◌, ◌==◌, ℕ, List, [], ◌∷◌, ◌++◌, length, map, filter, Some, None, MatchOption, IsSome, Result, Ok, Err, IsOk, All}
+use Rattle.std.specs.Prelude.{◌≡◌, ◌≢◌, ◌<◌, ◌≤◌, ◌^◌, ◌↔◌, ◌==◌, ℕ, List, [], ◌∷◌, ◌++◌, length, map, filter, Some, None, MatchOption, IsSome, Result, Ok, Err, IsOk, All, ⊤}
 use Rattle.std.specs.Int.{w32, from_be_bytes}
 use Rattle.std.specs.List.Sorted.{IsStrictlyIncreasing}
 use Rattle.std.specs.Result.{result_unwrap_or}
@@ -14,6 +14,7 @@ use Rattle.commands.specs.declared.command.Command.{Command}
 use Rattle.commands.specs.declared.command.Command.TheVariants.{Other}
 use Rattle.commands.specs.declared.metadata.MessageMeta.{MessageMeta}
 use Rattle.commands.specs.declared.reply.Reply.{Reply}
+use Rattle.commands.specs.declared.reply.Reply.TheVariants.{Connected, SendReceipt, SendError, Error, ProducerSuccess, Pong}
 use Rattle.commands.specs.Message.{varint_of, content_of, u64_field, bytes_field, message_field}
 use Rattle.commands.specs.Metadata.{meta_of, entry_of}
 use Rattle.commands.specs.Commands.{command_type, command_in, command_of}
@@ -41,6 +42,19 @@ pub record IsSpelled (reply : Reply) : Type 0 where
 pub record SpellsFields : Type 0 where
   pub messages : (fields : List Field) → All IsWritable fields → FieldsOf (message_spelling fields) fields
   pub replies : (reply : Reply) → All IsWritable (fields_in reply) → length (reply_fields reply) < 2 ^ 64 → IsSpelled reply
+
+-- a reply as it is built: its numbers have 64 bits, and its text has its bound
+abbrev pub IsBuilt : Reply → Type 0
+IsBuilt Connected = ⊤
+IsBuilt (SendReceipt producer_id sequence_id id) = (producer_id < 2 ^ 64) × (sequence_id < 2 ^ 64) × (id.ledger_id < 2 ^ 64) × (id.entry_id < 2 ^ 64)
+IsBuilt (SendError producer_id sequence_id error) = (producer_id < 2 ^ 64) × (sequence_id < 2 ^ 64)
+IsBuilt (Error request_id error) = request_id < 2 ^ 64
+IsBuilt (ProducerSuccess request_id producer_name) = (request_id < 2 ^ 64) × (length producer_name ≤ 65535)
+IsBuilt Pong = ⊤
+
+-- the bytes of a reply tell which reply it is
+abbrev pub TellsReplies : Type 0
+TellsReplies = (reply other : Reply) → IsBuilt reply → IsBuilt other → spelling reply ≡ spelling other → reply ≡ other
 
 -- the last field of this number holds x; each of them has the wire type
 pub record IsLast {A : Type 0} (kind : Value → Result A CommandFault) (k : ℕ) (fields : List Field) (x : A) : Type 0 where

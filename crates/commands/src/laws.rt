@@ -1,4 +1,4 @@
-ghost use Rattle.commands.specs.Laws.{ReadsOccurrences, ReadsCommands, ReadsEntries, SpellsFields};
+ghost use Rattle.commands.specs.Laws.{ReadsOccurrences, ReadsCommands, ReadsEntries, SpellsFields, TellsReplies};
 
 /// Of a scalar the last occurrence counts; the occurrences of an embedded message are read as one (Protocol
 /// Buffers encoding guide, Last One Wins). Each occurrence must have the wire type.
@@ -20,4 +20,9 @@ pub fn reads_entries()
 /// The fields of a message that is written, and of each reply, are the fields of its bytes.
 pub fn spells_fields()
     ensures { SpellsFields }
+{}
+
+/// The bytes of a reply tell which reply it is.
+pub fn tells_replies()
+    ensures { TellsReplies }
 {}

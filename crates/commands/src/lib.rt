@@ -22,7 +22,7 @@ mod writing;
 pub use command::{Command, read_command};
 pub use connection::Connect;
 pub use fault::CommandFault;
-pub use laws::{reads_commands, reads_entries, reads_occurrences, spells_fields};
+pub use laws::{reads_commands, reads_entries, reads_occurrences, spells_fields, tells_replies};
 pub use metadata::{MessageMeta, read_entry, read_meta, size_at};
 pub use producing::{Producer, Send};
 pub use reply::{MessageId, Reply};

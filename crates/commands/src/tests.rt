@@ -441,13 +441,16 @@ fn fault_texts(rt: HostRuntime) -> Result<(), Fail> {
 #[test]
 fn texts(rt: HostRuntime) -> Result<(), Fail> {
     let name = ReplyText::new(String::from_str(rt.alloc(), "s0-p1")?);
+    assert_eq!(rt; name.as_str(), "s0-p1");
     assert_eq!(rt;
         Text::new(name.into_string()).into_string().as_str(),
         "s0-p1"
     );
     assert_eq!(rt;
-        Sequence::new(hex(rt.alloc(), "01 02")?).into_vec().len(),
-        2
+        Sequence::new(hex(rt.alloc(), "01 02")?)
+            .into_vec()
+            .as_slice(),
+        [1, 2].as_slice()
     );
     Ok(())
 }

@@ -1,10 +1,13 @@
 -- Written frames can be told apart.
-use Rattle.std.proofs.Common.{◌≡◌, ◌<◌, ◌^◌, ℕ, ◌+◌, List, [], ◌∷◌, ◌++◌, length, take, refl, ap, ◌∙◌, sym, arith, append_assoc}
+use Rattle.std.proofs.Common.{◌≡◌, ◌<◌, ◌≤◌, ◌^◌, ℕ, ◌+◌, List, [], ◌∷◌, ◌++◌, length, take, refl, ap, ◌∙◌, sym, arith, append_assoc}
 use Rattle.std.proofs.lemmas.List.{append_cancel_left}
 use Rattle.std.proofs.lemmas.List.Elements.{All-head, All-tail}
 use Rattle.std.proofs.lemmas.Nat.{from_be_bytes-to_be_bytes_4}
 use Rattle.std.specs.Int.{w32, from_be_bytes, to_be_bytes}
-use Rattle.frames.specs.Laws.{FitsFrame, WritesFrames, WritesApart, WritesLists}
+use Rattle.commands.specs.declared.reply.Reply.{Reply}
+use Rattle.commands.specs.Replies.{spelling}
+use Rattle.commands.proofs.Told.{short-spelling, tells_replies}
+use Rattle.frames.specs.Laws.{FitsFrame, IsTold, WritesFrames, WritesApart, WritesLists, WritesReplies}
 use Rattle.frames.proofs.Entries.{take_front}
 
 pub writes_frames : WritesFrames
@@ -62,3 +65,23 @@ writes_lists (parts ∷ written) (other ∷ others) h k e =
     let same = writes_apart parts other _ _ (All-head FitsFrame parts written h) (All-head FitsFrame other others k) e in
     let rest = writes_lists written others (All-tail FitsFrame parts written h) (All-tail FitsFrame other others k) same.1 in
     λ i. same.0 i ∷ rest i
+
+-- a reply and its entry fit a frame
+fits : (told : Reply × List ℕ) → IsTold told → FitsFrame (spelling told.0, told.1)
+fits told h =
+    let short = short-spelling told.0 h.0 in
+    let small : length told.1 ≤ 2 ^ 31 = h.1 in
+    omega arith
+
+pub writes_replies : WritesReplies
+writes_replies [] [] h k e = refl
+writes_replies [] (other ∷ others) h k e = let n = ap length e in cc
+writes_replies (frame ∷ told) [] h k e = let n = ap length e in cc
+writes_replies (frame ∷ told) (other ∷ others) h k e =
+    let this = All-head IsTold frame told h in
+    let that = All-head IsTold other others k in
+    let same = writes_apart (spelling frame.0, frame.1) (spelling other.0, other.1) _ _ (fits frame this) (fits other that) e in
+    let replies = tells_replies frame.0 other.0 this.0 that.0 (ap (λ parts. parts.0) same.0) in
+    let entries = ap (λ parts. parts.1) same.0 in
+    let rest = writes_replies told others (All-tail IsTold frame told h) (All-tail IsTold other others k) same.1 in
+    λ i. (replies i, entries i) ∷ rest i

@@ -1,6 +1,9 @@
 -- What holds of streams, pieces and written frames.
 use Rattle.std.specs.Prelude.{◌≡◌, ◌≢◌, ◌<◌, ◌≤◌, ◌^◌, ℕ, ◌+◌, List, [], ◌∷◌, ◌++◌, length, Option, Some, None, Result, MatchOption}
 use Rattle.std.specs.List.{flat_map, All}
+use Rattle.commands.specs.declared.reply.Reply.{Reply}
+use Rattle.commands.specs.Replies.{spelling}
+use Rattle.commands.specs.Laws.{IsBuilt}
 use Rattle.frames.specs.declared.fault.Fault.{Fault}
 use Rattle.frames.specs.declared.fault.Fault.TheVariants.{NoMemory}
 use Rattle.frames.specs.declared.frame.Frame.{Frame}
@@ -74,3 +77,12 @@ WritesApart = (parts others : List ℕ × List ℕ) (next rest : List ℕ) → F
 abbrev pub WritesLists : Type 0
 WritesLists = (written others : List (List ℕ × List ℕ)) → All FitsFrame written → All FitsFrame others →
     flat_map (λ parts. frame_bytes parts.0 parts.1) written ≡ flat_map (λ parts. frame_bytes parts.0 parts.1) others → written ≡ others
+
+-- a reply as it is built, and an entry that can be written behind it
+abbrev pub IsTold : Reply × List ℕ → Type 0
+IsTold told = IsBuilt told.0 × (length told.1 ≤ 2 ^ 31)
+
+-- and so do those of replies determine the list of them and of their entries
+abbrev pub WritesReplies : Type 0
+WritesReplies = (told others : List (Reply × List ℕ)) → All IsTold told → All IsTold others →
+    flat_map (λ frame. frame_bytes (spelling frame.0) frame.1) told ≡ flat_map (λ frame. frame_bytes (spelling frame.0) frame.1) others → told ≡ others

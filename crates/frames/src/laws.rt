@@ -1,4 +1,4 @@
-ghost use Rattle.frames.specs.Laws.{HasReading, OneReading, NoFrameAtFault, AnyPieces, AnyCut, WritesFrames, WritesApart, WritesLists};
+ghost use Rattle.frames.specs.Laws.{HasReading, OneReading, NoFrameAtFault, AnyPieces, AnyCut, WritesFrames, WritesApart, WritesLists, WritesReplies};
 
 /// Each stream of bytes has one reading: its frames, and an unfinished frame or a fault behind
 /// them.
@@ -14,9 +14,10 @@ pub fn any_cut()
     ensures cuts { AnyCut }
 {}
 
-/// Written frames, one after another, can be told apart.
+/// Written frames, one after another, can be told apart, and tell their replies.
 pub fn written_frames()
     ensures form { WritesFrames }
     ensures apart { WritesApart }
     ensures lists { WritesLists }
+    ensures replies { WritesReplies }
 {}

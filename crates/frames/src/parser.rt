@@ -12,7 +12,7 @@ use std::mem;
 
 /// Cuts a stream of bytes into frames. Contracts see the bytes of the unfinished frame, which are
 /// all that it keeps, and the fault that ended the stream. Each frame's bytes are gathered in
-/// memory of their own, which grows as they come and never ahead of them.
+/// memory of their own, which grows by the bytes that have come, whatever size the frame tells.
 #[derive(Drop)]
 pub struct Parser {
     alloc: Global,

@@ -1,5 +1,5 @@
 use super::*;
-use commands::{Command, MessageId, Reply, ServerError};
+use commands::{Command, MessageId, Reply, ReplyText, ServerError};
 use std::alloc::{AllocError, Global};
 use std::process::Abort;
 use std::test::Fail;
@@ -7,6 +7,10 @@ use std::test::Fail;
 const CONNECT: &[u8; 17] = b"\x00\x00\x00\x0d\x00\x00\x00\x09\x08\x02\x12\x05\x0a\x01\x63\x20\x05";
 
 const PING: &[u8; 13] = b"\x00\x00\x00\x09\x00\x00\x00\x05\x08\x12\x92\x01\x00";
+
+/// CONNECT, and then PRODUCER of the topic persistent://a/b/c.
+const CONNECT_AND_PRODUCER: &[u8; 53] =
+    b"\x00\x00\x00\x0d\x00\x00\x00\x09\x08\x02\x12\x05\x0a\x01\x63\x20\x05\x00\x00\x00\x20\x00\x00\x00\x1c\x08\x05\x2a\x18\x0a\x12\x70\x65\x72\x73\x69\x73\x74\x65\x6e\x74\x3a\x2f\x2f\x61\x2f\x62\x2f\x63\x10\x01\x18\x07";
 
 /// A reply, so no client command: type 3.
 const CONNECTED: &[u8; 10] = b"\x00\x00\x00\x06\x00\x00\x00\x02\x08\x03";
@@ -190,6 +194,23 @@ fn connect_at_its_last_byte(rt: HostRuntime) -> Result<(), Fail> {
     assert_eq!(rt; fed(&mut parser, last, 1, &mut frames)?, Ok(()));
     assert_eq!(rt; frames.len(), 1);
     assert!(rt; is_connect(&frames[0]));
+    Ok(())
+}
+
+#[test]
+fn connect_and_producer(rt: HostRuntime) -> Result<(), Fail> {
+    let (frames, read) = read_both_ways(&rt, rt.alloc(), CONNECT_AND_PRODUCER)?;
+    assert_eq!(rt; read, Ok(()));
+    assert_eq!(rt; frames.len(), 2);
+    assert!(rt; is_connect(&frames[0]));
+    let Command::Producer(producer) = &frames[1].command else {
+        assert!(rt; false, "no PRODUCER");
+        return Ok(());
+    };
+    assert_eq!(rt; producer.topic.as_str(), "persistent://a/b/c");
+    assert_eq!(rt; (producer.producer_id, producer.request_id), (1, 7));
+    assert!(rt; producer.producer_name.is_none());
+    assert!(rt; matches!(&frames[1].entry, FrameEntry::Nothing));
     Ok(())
 }
 
@@ -427,6 +448,23 @@ fn reply_to_connect(rt: HostRuntime) -> Result<(), Fail> {
     let frame =
         b"\x00\x00\x00\x16\x00\x00\x00\x12\x08\x03\x1a\x0e\x0a\x06\x6e\x6f\x64\x65\x2d\x31\x10\x05\x18\x80\x80\x40";
     writes(&rt, rt.alloc(), &Reply::Connected, None, frame)
+}
+
+#[test]
+fn reply_to_producer(rt: HostRuntime) -> Result<(), Fail> {
+    let reply = Reply::ProducerSuccess {
+        request_id: 7,
+        producer_name: ReplyText::new(String::from_str(rt.alloc(), "s0-p1")?),
+    };
+    let frame =
+        b"\x00\x00\x00\x12\x00\x00\x00\x0e\x08\x11\x8a\x01\x09\x08\x07\x12\x05\x73\x30\x2d\x70\x31";
+    writes(&rt, rt.alloc(), &reply, None, frame)
+}
+
+#[test]
+fn reply_to_ping(rt: HostRuntime) -> Result<(), Fail> {
+    let frame = b"\x00\x00\x00\x09\x00\x00\x00\x05\x08\x13\x9a\x01\x00";
+    writes(&rt, rt.alloc(), &Reply::Pong, None, frame)
 }
 
 #[test]

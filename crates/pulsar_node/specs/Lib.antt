@@ -1,3 +1,4 @@
+pub mod Arguments
 pub mod Event
 pub mod Fault
 pub mod Replay

@@ -1,3 +1,6 @@
+ghost use Rattle.std.specs.Prelude.{◌≡◌, option_map};
+ghost use Rattle.pulsar_node.specs.Arguments.{file_of};
+
 use clap::{Arg, ArgMatches, Command};
 use std::alloc::{AllocError, Global};
 
@@ -38,7 +41,9 @@ For each line one line is printed: its number, the bytes out in hex or `-`, and 
 session or topic that isn't there.";
 
 /// The file of the script, or none for the standard input.
-pub(crate) fn script_file<'a>(matches: &ArgMatches<'a>) -> Option<&'a str> {
+pub(crate) fn script_file<'a>(matches: &ArgMatches<'a>) -> Option<&'a str>
+    ensures { option_map (λ path. path.now) result ≡ file_of matches.now }
+{
     let (_, replay) = matches.subcommand()?;
     replay.get_str("FILE")
 }

@@ -1,5 +1,5 @@
 use crate::{
-    Line, Outcome, Script, ScriptFault, SessionFault, one_reading, output_line,
+    Line, Outcome, Script, ScriptFault, Sequence, SessionFault, one_reading, output_line,
     printed_bytes_are_read, read_script,
 };
 use std::process::Abort;
@@ -169,5 +169,13 @@ fn says_which_line_is_bad(rt: HostRuntime) -> Result<(), Fail> {
         format!(in alloc; "{}", ScriptFault::NoMemory)?.as_str(),
         "no memory"
     );
+    Ok(())
+}
+
+#[test]
+fn a_sequence_keeps_its_values(rt: HostRuntime) -> Result<(), Fail> {
+    let sequence = Sequence::new([3u8, 1, 2].to_vec(rt.alloc())?);
+    assert_eq!(rt; sequence.as_slice(), [3, 1, 2].as_slice());
+    assert_eq!(rt; sequence.into_vec().as_slice(), [3, 1, 2].as_slice());
     Ok(())
 }

@@ -528,3 +528,29 @@ fn what_a_leaving_session_sent_stays(rt: HostRuntime) -> Result<(), Fail> {
     ];
     agree(&rt, rt.alloc(), &steps)
 }
+
+#[test]
+fn texts_of_refusals(rt: HostRuntime) -> Result<(), Fail> {
+    let alloc = rt.alloc();
+    let no_memory = Refusal::from(StoreError::NoMemory);
+    assert_eq!(rt; format!(in alloc; "{no_memory}")?.as_str(), "no memory");
+    assert_eq!(rt;
+        format!(in alloc; "{}", StoreError::NoMemory)?.as_str(),
+        "no memory"
+    );
+    assert_eq!(rt;
+        format!(in alloc; "{}", Refusal::Device)?.as_str(),
+        "device"
+    );
+    Ok(())
+}
+
+#[test]
+fn laws_cost_nothing() {
+    answers_fit();
+    answers_are_no_receipts();
+    entries_are_published();
+    stays_sound();
+    receipts_are_covered();
+    flushes_commit();
+}

@@ -1,4 +1,4 @@
-use super::support::{Failing, Limited, tells_no_memory};
+use super::support::{Failing, Limited, Unflushed, tells_no_memory};
 use crate::fault::ProgramFault;
 use crate::replay::replay;
 use std::process::Abort;
@@ -107,6 +107,15 @@ fn writes_a_front_of_the_first_line(rt: HostRuntime) -> Result<(), Fail> {
 fn writes_whole_lines_and_a_front(rt: HostRuntime) -> Result<(), Fail> {
     assert_front(&rt, 7)?;
     assert_front(&rt, 57)?;
+    Ok(())
+}
+
+#[test]
+fn tells_that_lines_were_not_flushed(rt: HostRuntime) -> Result<(), Fail> {
+    match replay(rt.alloc(), &mut b"init 1\n".as_slice(), &mut Unflushed) {
+        Err(ProgramFault::NoMemory) => return Err(Fail::from(ProgramFault::NoMemory)),
+        ended => assert_eq!(rt; ended, Err(ProgramFault::Device)),
+    }
     Ok(())
 }
 

@@ -56,6 +56,20 @@ impl Write for Limited {
     }
 }
 
+/// A device that takes all bytes, and fails when it is to be flushed.
+#[derive(Drop)]
+pub struct Unflushed;
+
+impl Write for Unflushed {
+    fn write(&mut self, buf: &[u8]) -> io::Result<usize> {
+        Ok(buf.len())
+    }
+
+    fn flush(&mut self) -> io::Result<()> {
+        Err(io::Error::other("full"))
+    }
+}
+
 /// A device that gives a few bytes at once, and fails behind the last one by an error of the system.
 #[derive(Drop)]
 pub struct Failing<'a> {

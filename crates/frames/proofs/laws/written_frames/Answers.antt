@@ -9,3 +9,6 @@ returns-clause-apart c = written.writes_apart
 
 pub returns-clause-lists : goal.returns-clause-lists
 returns-clause-lists c = written.writes_lists
+
+pub returns-clause-replies : goal.returns-clause-replies
+returns-clause-replies c = written.writes_replies
