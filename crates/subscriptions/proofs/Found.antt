@@ -1,0 +1,101 @@
+-- What one subscription does, of all: by where the one of a name or of a consumer stands.
+use Rattle.std.proofs.Common.{Result, Ok, Err, ◌≡◌, ℕ, Bool, false, List, [], ◌∷◌, ◌++◌, get_or, set, refl, ap, sym, subst, ◌∙◌, Some, None, Option}
+use Rattle.std.specs.Prelude.{map as each, IfSome, IfNone, OnErr}
+use Rattle.std.specs.List.{find, position}
+use Rattle.holds.specs.declared.consumer.ConsumerKey.{ConsumerKey}
+use Rattle.subscriptions.specs.declared.consumer.Mode.{Mode}
+use Rattle.subscriptions.specs.declared.consumer.Refusal.{Refusal}
+use Rattle.subscriptions.specs.declared.change.Change.{Change}
+use Rattle.subscriptions.specs.declared.change.Change.TheVariants.{Made, Acknowledged}
+use Rattle.subscriptions.specs.State.{Subscription, Subscriptions}
+use Rattle.subscriptions.specs.Steps.{first_changed, first_standing, is_named, is_on, subscribe_refusals, refusals_at, making_refusals, attach_refusals, attached_to, attached_at, attached, made, granted, granted_on, grants_too_many, is_past, is_past_on, is_consumer, acknowledged, acknowledgements, acked_on, Admits, AdmitsAt, AdmitsOn, sent_before, times_at}
+use Rattle.holds.specs.Deliveries.{times}
+use Rattle.subscriptions.proofs.Places.{changes, finds, stays, misses}
+
+-- what holds anyhow holds where there is an error
+pub on_err : {T E P : Type 0} (r : Result T E) → P → OnErr r P
+on_err (Ok x) p = tt
+on_err (Err e) p = p
+
+-- ---- by name
+
+pub refusal_none : (t : Subscriptions) (name : List ℕ) (mode : Mode) (r : Option Refusal) → position (is_named name) t.subs ≡ None → r ≡ first_standing (making_refusals t) → r ≡ first_standing (subscribe_refusals t name mode)
+refusal_none t name mode r at is = is ∙ sym (ap (λ (o : Option Subscription). first_standing (refusals_at o t mode)) (misses (is_named name) t.subs at))
+
+pub refusal_some : (t : Subscriptions) (name : List ℕ) (mode : Mode) (r : Option Refusal) (i : ℕ) (s : Subscription) → position (is_named name) t.subs ≡ Some i → s ≡ get_or t.subs i s → r ≡ first_standing (attach_refusals mode s) → r ≡ first_standing (subscribe_refusals t name mode)
+refusal_some t name mode r i s at read is = is ∙ sym (ap (λ (o : Option Subscription). first_standing (refusals_at o t mode)) (finds (is_named name) t.subs i s at read))
+
+pub allowed_none : (t : Subscriptions) (name : List ℕ) (mode : Mode) → position (is_named name) t.subs ≡ None → first_standing (subscribe_refusals t name mode) ≡ None → first_standing (making_refusals t) ≡ None
+allowed_none t name mode at is = ap (λ (o : Option Subscription). first_standing (refusals_at o t mode)) (sym (misses (is_named name) t.subs at)) ∙ is
+
+pub allowed_some : (t : Subscriptions) (name : List ℕ) (mode : Mode) (i : ℕ) (s : Subscription) → position (is_named name) t.subs ≡ Some i → s ≡ get_or t.subs i s → first_standing (subscribe_refusals t name mode) ≡ None → first_standing (attach_refusals mode s) ≡ None
+allowed_some t name mode i s at read is = ap (λ (o : Option Subscription). first_standing (refusals_at o t mode)) (sym (finds (is_named name) t.subs i s at read)) ∙ is
+
+pub attaches_none : (t : Subscriptions) (name : List ℕ) (mode : Mode) (key : ConsumerKey) (start : ℕ) (s : Subscription) → position (is_named name) t.subs ≡ None → s ≡ attached_to mode key (made name mode start)
+    → (let n : Subscriptions = record { subs = t.subs ++ s ∷ []; changes = t.changes ++ Made name start ∷ [] } in n ≡ attached t name mode key start)
+attaches_none t name mode key start s at is =
+    ap (λ (x : Subscription). let n : Subscriptions = record { subs = t.subs ++ x ∷ []; changes = t.changes ++ Made name start ∷ [] } in n) is
+    ∙ sym (ap (λ (o : Option Subscription). attached_at o t name mode key start) (misses (is_named name) t.subs at))
+
+pub attaches_some : (t : Subscriptions) (name : List ℕ) (mode : Mode) (key : ConsumerKey) (start : ℕ) (i : ℕ) (s s' : Subscription) → position (is_named name) t.subs ≡ Some i → s ≡ get_or t.subs i s → s' ≡ attached_to mode key s
+    → (let n : Subscriptions = record t { subs = set t.subs i s' } in n ≡ attached t name mode key start)
+attaches_some t name mode key start i s s' at read is =
+    ap (λ (xs : List Subscription). let n : Subscriptions = record t { subs = xs } in n) (changes (is_named name) (attached_to mode key) t.subs i s s' at read is)
+    ∙ sym (ap (λ (o : Option Subscription). attached_at o t name mode key start) (finds (is_named name) t.subs i s at read))
+
+-- ---- by consumer
+
+nothing_more : {X : Type 0} (xs : List X) → xs ++ [] ≡ xs
+nothing_more [] = refl
+nothing_more (x ∷ xs) = ap (λ ys. x ∷ ys) (nothing_more xs)
+
+module _ (t : Subscriptions) (key : ConsumerKey) where
+  abbrev with_subs : List Subscription → Subscriptions
+  with_subs xs = record t { subs = xs }
+
+  pub grants_none : (permits : ℕ) → position (is_on key) t.subs ≡ None → (grants_too_many t key permits ≡ false) × (t ≡ granted t key permits)
+  grants_none permits at = (
+    ap (is_past_on key permits) (misses (is_on key) t.subs at),
+    ap with_subs (stays (is_on key) (granted_on key permits) t.subs at),
+  )
+
+  pub grants_at : (permits : ℕ) (i : ℕ) (s : Subscription) (b : Bool) → position (is_on key) t.subs ≡ Some i → s ≡ get_or t.subs i s → is_past permits (find (is_consumer key) s.consumers) ≡ b → grants_too_many t key permits ≡ b
+  grants_at permits i s b at read is = ap (is_past_on key permits) (finds (is_on key) t.subs i s at read) ∙ is
+
+  -- one subscription changes
+  pub changes_at : (f : Subscription → Subscription) (i : ℕ) (s s' : Subscription) → position (is_on key) t.subs ≡ Some i → s ≡ get_or t.subs i s → s' ≡ f s → with_subs (set t.subs i s') ≡ with_subs (first_changed (is_on key) f t.subs)
+  changes_at f i s s' at read is = ap with_subs (changes (is_on key) f t.subs i s s' at read is)
+
+  abbrev with_both : List Subscription → List Change → Subscriptions
+  with_both xs cs = record { subs = xs; changes = cs }
+
+  pub acknowledges_none : (ps : List ℕ) → position (is_on key) t.subs ≡ None → t ≡ acknowledged t key ps
+  acknowledges_none ps at =
+      ap with_subs (stays (is_on key) (acked_on ps) t.subs at)
+      ∙ ap (with_both (first_changed (is_on key) (acked_on ps) t.subs)) (sym (nothing_more t.changes) ∙ sym (ap (λ (o : Option Subscription). t.changes ++ acknowledgements o ps) (misses (is_on key) t.subs at)))
+
+  pub acknowledges_at : (ps : List ℕ) (i : ℕ) (s s' : Subscription) → position (is_on key) t.subs ≡ Some i → s ≡ get_or t.subs i s → s' ≡ acked_on ps s
+      → with_both (set t.subs i s') (t.changes ++ each (λ p. Acknowledged s.name p) ps) ≡ acknowledged t key ps
+  acknowledges_at ps i s s' at read is =
+      ap (λ xs. with_both xs (t.changes ++ each (λ p. Acknowledged s.name p) ps)) (changes (is_on key) (acked_on ps) t.subs i s s' at read is)
+      ∙ sym (ap (λ (o : Option Subscription). with_both (first_changed (is_on key) (acked_on ps) t.subs) (t.changes ++ acknowledgements o ps)) (finds (is_on key) t.subs i s at read))
+
+  pub admits_none : (committed i : ℕ) → position (is_on key) t.subs ≡ None → Admits t key committed i → ⊥
+  admits_none committed i at a = let none : AdmitsAt None key committed i = subst (λ (o : Option Subscription). AdmitsAt o key committed i) (misses (is_on key) t.subs at) a in none
+
+  pub admitted : (committed i : ℕ) (p : ℕ) (s : Subscription) → position (is_on key) t.subs ≡ Some p → s ≡ get_or t.subs p s → Admits t key committed i → AdmitsOn s key committed i
+  admitted committed i p s at read a = subst (λ (o : Option Subscription). AdmitsAt o key committed i) (finds (is_on key) t.subs p s at read) a
+
+  pub admits : (committed i : ℕ) (p : ℕ) (s : Subscription) → position (is_on key) t.subs ≡ Some p → s ≡ get_or t.subs p s → AdmitsOn s key committed i → Admits t key committed i
+  admits committed i p s at read a = subst (λ (o : Option Subscription). AdmitsAt o key committed i) (sym (finds (is_on key) t.subs p s at read)) a
+
+  pub picks_some : (committed : ℕ) (p : ℕ) (s : Subscription) (r : Option ℕ) → position (is_on key) t.subs ≡ Some p → s ≡ get_or t.subs p s → IfSome r (AdmitsOn s key committed) → IfSome r (Admits t key committed)
+  picks_some committed p s (Some i) at read a = admits committed i p s at read a
+  picks_some committed p s None at read a = tt
+
+  pub picks_none : (committed : ℕ) (p : ℕ) (s : Subscription) (r : Option ℕ) → position (is_on key) t.subs ≡ Some p → s ≡ get_or t.subs p s → IfNone r ((i : ℕ) → AdmitsOn s key committed i → ⊥) → IfNone r ((i : ℕ) → Admits t key committed i → ⊥)
+  picks_none committed p s (Some i) at read never = tt
+  picks_none committed p s None at read never = λ i a. never i (admitted committed i p s at read a)
+
+  pub before_at : (i : ℕ) (p : ℕ) (s : Subscription) (n : ℕ) → position (is_on key) t.subs ≡ Some p → s ≡ get_or t.subs p s → n ≡ times s.deliveries i → n ≡ sent_before t key i
+  before_at i p s n at read is = is ∙ sym (ap (λ (o : Option Subscription). times_at o i) (finds (is_on key) t.subs p s at read))

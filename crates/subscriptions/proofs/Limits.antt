@@ -1,0 +1,205 @@
+-- Each step keeps the limits of a topic's subscriptions, and each of them sound.
+use Rattle.std.proofs.Common.{◌≡◌, ℕ, ◌+◌, ◌<◌, ◌≤◌, Bool, false, true, nat_eq, nat_le, cond, ◌||◌, List, [], ◌∷◌, ◌++◌, length, ◌∙◌, ap, sym, subst, refl, arith, Some, None, Option, length-append, length-drop}
+use Rattle.std.proofs.lemmas.Bool.Decides.{nat_tests}
+use Rattle.std.proofs.lemmas.Map.Keys.{IsDistinct-push}
+use Rattle.std.specs.List.{list_any, find, AllByRecursion, IsDistinct}
+use Rattle.std.specs.Cmp.Lexicographic.{nat_list_eq_equiv}
+use Rattle.std.specs.Str.{bytes_eq}
+use Rattle.std.specs.Prelude.{map as each}
+use Rattle.std.specs.Option.{option_map}
+use Rattle.std.specs.Ordering.{nat_cmp}
+use Rattle.std.specs.FinMap as map
+use Rattle.holds.specs.Deliveries.{sent_to}
+use Rattle.holds.specs.declared.consumer.ConsumerKey.{ConsumerKey}
+use Rattle.holds.specs.declared.delivery.Delivery.{Delivery}
+use Rattle.holds.proofs.Kept.{get_inserted}
+use Rattle.subscriptions.specs.declared.consumer.Mode.{Mode}
+use Rattle.subscriptions.specs.declared.consumer.Refusal.{Refusal}
+use Rattle.subscriptions.specs.declared.change.Change.{Change}
+use Rattle.subscriptions.specs.declared.change.Change.TheVariants.{Acknowledged}
+use Rattle.subscriptions.specs.State.{Subscription, Subscriptions}
+use Rattle.subscriptions.specs.Steps.{first_changed, first_standing, is_named, is_on, refusals_at, making_refusals, attach_refusals, attached_to, attached_at, made, granted_on, grants_too_many, is_past_on, acknowledged, acknowledgements, acked_on, Admits, AdmitsAt, AdmitsOn, sent_on, left, left_on, freed, settled}
+use Rattle.subscriptions.specs.Soundness.{IsSoundSubscription, HasLimits, IsSound, IsCommittedOn, IsCommitted}
+use Rattle.subscriptions.specs.Laws.{StaysSound, DeliveriesAreCommitted, PickedIsOpen, IsOpenFor}
+use Rattle.subscriptions.proofs.Sound.{length_changed, all_changed, all_pushed, sound_made, sound_attached, sound_granted, sound_acked, sound_sent, sound_left, get_freed}
+use Rattle.subscriptions.proofs.Kept.{names, turned}
+use Rattle.subscriptions.proofs.Settled.{is_in, get_forgotten}
+
+pub names_changed : (test : Subscription → Bool) (f : Subscription → Subscription) → ((s : Subscription) → (f s).name ≡ s.name) → (subs : List Subscription) → names (first_changed test f subs) ≡ names subs
+names_changed test f same [] = refl
+names_changed test f same (x ∷ xs) = elim (test x) as (λ b. names (cond b (f x ∷ xs) (x ∷ first_changed test f xs)) ≡ names (x ∷ xs)) [
+  | true ↦ ap (λ n. n ∷ names xs) (same x)
+  | false ↦ ap (λ ns. x.name ∷ ns) (names_changed test f same xs)
+]
+
+pub names_each : (f : Subscription → Subscription) → ((s : Subscription) → (f s).name ≡ s.name) → (subs : List Subscription) → names (each (λ s. f s) subs) ≡ names subs
+names_each f same [] = refl
+names_each f same (x ∷ xs) = ap (λ n. n ∷ names (each (λ s. f s) xs)) (same x) ∙ ap (λ ns. x.name ∷ ns) (names_each f same xs)
+
+-- the limits, where one subscription changes and keeps its name
+pub limits_changed : (t : Subscriptions) (test : Subscription → Bool) (f : Subscription → Subscription) → ((s : Subscription) → (f s).name ≡ s.name) → HasLimits t → HasLimits (record t { subs = first_changed test f t.subs })
+limits_changed t test f same l = record {
+  names = subst (IsDistinct bytes_eq) (sym (names_changed test f same t.subs)) l.names;
+  subscriptions = rw length_changed l.subscriptions;
+  changes = l.changes;
+}
+
+length_each : (f : Subscription → Subscription) (subs : List Subscription) → length (each (λ s. f s) subs) ≡ length subs
+length_each f [] = refl
+length_each f (x ∷ xs) = omega (arith, length_each f xs)
+
+pub limits_left : (t : Subscriptions) (who : ℕ) → HasLimits t → HasLimits (left t who)
+limits_left t who l = record {
+  names = subst (IsDistinct bytes_eq) (sym (names_each (left_on who) (λ _. refl) t.subs)) l.names;
+  subscriptions = omega (arith, length_each (left_on who) t.subs, l.subscriptions);
+  changes = l.changes;
+}
+
+pub limits_settled : (t : Subscriptions) (count : ℕ) → HasLimits t → HasLimits (settled t count)
+limits_settled t count l = record { names = l.names; subscriptions = l.subscriptions; changes = omega (arith, length-drop count t.changes, l.changes) }
+
+two_rows : (a b : Bool) (x y : Refusal) → cond a (Some x) (cond b (Some y) None) ≡ None → (a ≡ false) × (b ≡ false)
+two_rows true b x y h = absurd (cc)
+two_rows false true x y h = absurd (cc)
+two_rows false false x y h = (refl, refl)
+
+below_64 : (n : ℕ) → nat_le 64 n ≡ false → n + 1 ≤ 64
+below_64 n h = grind (arith, nat_tests)
+
+below_65536 : (n : ℕ) → nat_le 65536 n ≡ false → n + 1 ≤ 65536
+below_65536 n h = grind (arith, nat_tests)
+
+no_such_name : (name : List ℕ) (subs : List Subscription) → find (is_named name) subs ≡ None → list_any (bytes_eq name) (names subs) ≡ false
+no_such_name name [] none = refl
+no_such_name name (x ∷ xs) none = elim (bytes_eq x.name name) as (λ b. bytes_eq x.name name ≡ b → cond b (Some x) (find (is_named name) xs) ≡ None → (bytes_eq name x.name || list_any (bytes_eq name) (names xs)) ≡ false) [
+  | true ↦ λ here none. absurd (cc)
+  | false ↦ λ here none. ap (λ b. b || list_any (bytes_eq name) (names xs)) (turned name x.name ∙ here) ∙ no_such_name name xs none
+] refl none
+
+names_pushed : (subs : List Subscription) (s : Subscription) → names (subs ++ s ∷ []) ≡ names subs ++ s.name ∷ []
+names_pushed [] s = refl
+names_pushed (x ∷ xs) s = ap (λ ns. x.name ∷ ns) (names_pushed xs s)
+
+pub limits_made : (t : Subscriptions) (name : List ℕ) (mode : Mode) (key : ConsumerKey) (start : ℕ) → find (is_named name) t.subs ≡ None → first_standing (making_refusals t) ≡ None
+    → HasLimits t → HasLimits (attached_at None t name mode key start)
+limits_made t name mode key start none allowed l =
+    let rows = two_rows (nat_le 64 (length t.subs)) (nat_le 65536 (length t.changes)) _ _ allowed in record {
+      names = subst (IsDistinct bytes_eq) (sym (names_pushed t.subs (attached_to mode key (made name mode start)))) (IsDistinct-push nat_list_eq_equiv (names t.subs) name l.names (no_such_name name t.subs none));
+      subscriptions = rw length-append (below_64 (length t.subs) rows.0);
+      changes = rw length-append (below_65536 (length t.changes) rows.1);
+    }
+
+length_made : (name : List ℕ) (ps : List ℕ) → length (each (λ p. Acknowledged name p) ps) ≡ length ps
+length_made name [] = refl
+length_made name (p ∷ ps) = omega (arith, length_made name ps)
+
+length_acks : (o : Option Subscription) (ps : List ℕ) → length (acknowledgements o ps) ≤ length ps
+length_acks None ps = omega arith
+length_acks (Some s) ps = omega (arith, length_made s.name ps)
+
+pub limits_acknowledged : (t : Subscriptions) (key : ConsumerKey) (ps : List ℕ) → length t.changes + length ps ≤ 65536 → HasLimits t → HasLimits (acknowledged t key ps)
+limits_acknowledged t key ps room l = record {
+  names = subst (IsDistinct bytes_eq) (sym (names_changed (is_on key) (acked_on ps) (λ _. refl) t.subs)) l.names;
+  subscriptions = rw length_changed l.subscriptions;
+  changes = rw length-append (omega (arith, length_acks (find (is_on key) t.subs) ps));
+}
+
+all_each : (f : Subscription → Subscription) → ((s : Subscription) → IsSoundSubscription s → IsSoundSubscription (f s)) → (subs : List Subscription) → AllByRecursion IsSoundSubscription subs → AllByRecursion IsSoundSubscription (each (λ s. f s) subs)
+all_each f to [] all = tt
+all_each f to (x ∷ xs) all = (to x all.0, all_each f to xs all.1)
+
+sound_attach : (t : Subscriptions) (name : List ℕ) (mode : Mode) (key : ConsumerKey) (start : ℕ) (o : Option Subscription) → find (is_named name) t.subs ≡ o → first_standing (refusals_at o t mode) ≡ None → IsSound t → IsSound (attached_at o t name mode key start)
+sound_attach t name mode key start None none allowed sound = record {
+  limits = limits_made t name mode key start none allowed sound.limits;
+  each_one = all_pushed IsSoundSubscription t.subs (attached_to mode key (made name mode start)) sound.each_one
+      (sound_attached mode key (made name mode start) refl (sound_made name mode start));
+}
+sound_attach t name mode key start (Some s) found allowed sound = record {
+  limits = limits_changed t (is_named name) (attached_to mode key) (λ _. refl) sound.limits;
+  each_one = all_changed (is_named name) (attached_to mode key) IsSoundSubscription t.subs
+      (λ x is ok. sound_attached mode key x (let same : x ≡ s = cc in ap (λ (y : Subscription). first_standing (attach_refusals mode y)) same ∙ allowed) ok) sound.each_one;
+}
+
+granted_at : (key : ConsumerKey) (permits : ℕ) (t : Subscriptions) (x : Subscription) → find (is_on key) t.subs ≡ Some x → grants_too_many t key permits ≡ false → is_past_on key permits (Some x) ≡ false
+granted_at key permits t x is h = ap (is_past_on key permits) (sym is) ∙ h
+
+admitted_at : (key : ConsumerKey) (committed i : ℕ) (t : Subscriptions) (x : Subscription) → find (is_on key) t.subs ≡ Some x → Admits t key committed i → AdmitsOn x key committed i
+admitted_at key committed i t x is a = subst (λ (o : Option Subscription). AdmitsAt o key committed i) is a
+
+no_names : IsDistinct bytes_eq []
+unfolding IsDistinct
+no_names = tt
+
+pub each_sound : StaysSound
+each_sound = record {
+  made = record { limits = record { names = no_names; subscriptions = omega arith; changes = omega arith }; each_one = tt };
+  attach = λ t name mode key start allowed sound. sound_attach t name mode key start (find (is_named name) t.subs) refl allowed sound;
+  grant = λ t key permits within sound. record {
+    limits = limits_changed t (is_on key) (granted_on key permits) (λ _. refl) sound.limits;
+    each_one = all_changed (is_on key) (granted_on key permits) IsSoundSubscription t.subs (λ x is ok. sound_granted key permits x (granted_at key permits t x is within) ok) sound.each_one;
+  };
+  acknowledge = λ t key ps room sound. record {
+    limits = limits_acknowledged t key ps room sound.limits;
+    each_one = all_changed (is_on key) (acked_on ps) IsSoundSubscription t.subs (λ x is ok. sound_acked ps x ok) sound.each_one;
+  };
+  send = λ t key committed i a sound. record {
+    limits = limits_changed t (is_on key) (sent_on key i) (λ _. refl) sound.limits;
+    each_one = all_changed (is_on key) (sent_on key i) IsSoundSubscription t.subs (λ x is ok. sound_sent key committed i x (admitted_at key committed i t x is a) ok) sound.each_one;
+  };
+  leave = λ t who sound. record { limits = limits_left t who sound.limits; each_one = all_each (left_on who) (sound_left who) t.subs sound.each_one };
+  settle = λ t count sound. record { limits = limits_settled t count sound.limits; each_one = sound.each_one };
+}
+
+-- ---- deliveries are of committed positions
+
+differs : (j i committed : ℕ) → committed ≤ j → i < committed → nat_eq j i ≡ false
+differs j i committed h k = grind (arith, nat_tests)
+
+either_none : {X : Type 0} (b : Bool) (x : Option X) → x ≡ None → cond b None x ≡ None
+either_none true x h = refl
+either_none false x h = h
+
+not_here : {X : Type 0} (b : Bool) (v x : Option X) → b ≡ false → x ≡ None → cond b v x ≡ None
+not_here b v x e none = ap (λ c. cond c v x) e ∙ none
+
+committed_sent : (committed i : ℕ) (key : ConsumerKey) (s : Subscription) → AdmitsOn s key committed i → IsCommittedOn committed s → IsCommittedOn committed (sent_on key i s)
+committed_sent committed i key s a c j h =
+    get_inserted s.deliveries i (sent_to key (map.get s.deliveries i)) j
+    ∙ not_here (nat_eq j i) (Some (sent_to key (map.get s.deliveries i))) (map.get s.deliveries j) (differs j i committed h a.least.0.is_committed) (c j h)
+
+committed_acked : (committed : ℕ) (ps : List ℕ) (s : Subscription) → IsCommittedOn committed s → IsCommittedOn committed (acked_on ps s)
+committed_acked committed ps s c j h = get_forgotten s.deliveries ps j ∙ either_none (is_in j ps) (map.get s.deliveries j) (c j h)
+
+committed_left : (committed who : ℕ) (s : Subscription) → IsCommittedOn committed s → IsCommittedOn committed (left_on who s)
+committed_left committed who s c j h = get_freed who s.deliveries j ∙ ap (option_map (freed who)) (c j h)
+
+each_left : (committed who : ℕ) (subs : List Subscription) → AllByRecursion (IsCommittedOn committed) subs → AllByRecursion (IsCommittedOn committed) (each (λ s. left_on who s) subs)
+each_left committed who [] all = tt
+each_left committed who (x ∷ xs) all = (committed_left committed who x all.0, each_left committed who xs all.1)
+
+committed_attach : (committed : ℕ) (t : Subscriptions) (name : List ℕ) (mode : Mode) (key : ConsumerKey) (start : ℕ) (o : Option Subscription) → IsCommitted committed t → IsCommitted committed (attached_at o t name mode key start)
+committed_attach committed t name mode key start None all =
+    all_pushed (IsCommittedOn committed) t.subs (attached_to mode key (made name mode start)) all (λ i h. map.get-empty {X = Delivery} nat_cmp i)
+committed_attach committed t name mode key start (Some s) all =
+    all_changed (is_named name) (attached_to mode key) (IsCommittedOn committed) t.subs (λ x is c. c) all
+
+pub each_committed : DeliveriesAreCommitted
+each_committed = record {
+  made = λ committed. tt;
+  attach = λ committed t name mode key start all. committed_attach committed t name mode key start (find (is_named name) t.subs) all;
+  grant = λ committed t key permits all. all_changed (is_on key) (granted_on key permits) (IsCommittedOn committed) t.subs (λ x is c. c) all;
+  acknowledge = λ committed t key ps all. all_changed (is_on key) (acked_on ps) (IsCommittedOn committed) t.subs (λ x is c. committed_acked committed ps x c) all;
+  send = λ committed t key i a all. all_changed (is_on key) (sent_on key i) (IsCommittedOn committed) t.subs (λ x is c. committed_sent committed i key x (admitted_at key committed i t x is a) c) all;
+  leave = λ committed t who all. each_left committed who t.subs all;
+  settle = λ committed t count all. all;
+}
+
+picked_at : (o : Option Subscription) (key : ConsumerKey) (committed i : ℕ) → AdmitsAt o key committed i → IsOpenFor o committed i
+picked_at None key committed i a = a
+picked_at (Some s) key committed i a = a.least.0
+
+pub picked : PickedIsOpen
+picked t key committed i a = picked_at (find (is_on key) t.subs) key committed i a
+
+pub limits_none : (subs : List Subscription) (changes : List Change) → subs ≡ [] → changes ≡ [] → HasLimits (record { subs = subs; changes = changes })
+limits_none subs changes first second = rw (first, second) (record { names = no_names; subscriptions = omega arith; changes = omega arith })

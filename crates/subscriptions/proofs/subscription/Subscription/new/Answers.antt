@@ -1,0 +1,8 @@
+use Rattle.std.proofs.Common.{◌≡◌, [], rules}
+use Rattle.subscriptions.proofs.Sound.{sound_made}
+use Rattle.subscriptions.proofs.subscription.Subscription.new.Goals as goal
+
+pub invariant_of-result : goal.invariant_of-result
+invariant_of-result c =
+    let nobody : c.new.result.items ≡ [] = search rules in
+    rw (nobody, c.new-2.ensures.acked, c.new-2.ensures.deliveries) (sound_made c.args.name c.args.mode c.args.start)

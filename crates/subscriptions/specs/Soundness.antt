@@ -1,0 +1,42 @@
+-- What holds of the subscriptions of a topic at any time.
+use Rattle.std.specs.Prelude.{◌≡◌, ℕ, ◌^◌, ◌≤◌, true, Some, None, length, map as each}
+use Rattle.std.specs.List.{AllByRecursion, IsDistinct}
+use Rattle.std.specs.Str.{bytes_eq}
+use Rattle.std.specs.FinMap as map
+use Rattle.holds.specs.Deliveries.{holder}
+use Rattle.holds.specs.declared.consumer.ConsumerKey.{ConsumerKey}
+use Rattle.subscriptions.specs.declared.consumer.Mode.TheVariants.{Exclusive}
+use Rattle.subscriptions.specs.declared.consumer.Consumer.{Consumer}
+use Rattle.subscriptions.specs.State.{Subscription, Subscriptions}
+use Rattle.subscriptions.specs.Progress.{AreApart}
+use Rattle.subscriptions.specs.Steps.{is_on}
+
+-- a consumer got no more messages than permits, and no more permits than there are positions
+pub record IsWithinPermits (c : Consumer) : Type 0 where
+  pub sent : c.sent ≤ c.granted
+  pub granted : c.granted ≤ 2 ^ 62
+
+pub record IsSoundSubscription (s : Subscription) : Type 0 where
+  pub few : length s.consumers ≤ 64
+  pub single : s.mode ≡ Exclusive → length s.consumers ≤ 1
+  pub permits : AllByRecursion IsWithinPermits s.consumers
+  -- a held position is unacknowledged, and its holder is attached
+  pub unacknowledged : AreApart s.acked s.deliveries
+  pub held : (i : ℕ) (key : ConsumerKey) → holder s.deliveries i ≡ Some key → is_on key s ≡ true
+
+-- the names differ, and the limits hold
+pub record HasLimits (t : Subscriptions) : Type 0 where
+  pub names : IsDistinct bytes_eq (each (λ s. s.name) t.subs)
+  pub subscriptions : length t.subs ≤ 64
+  pub changes : length t.changes ≤ 65536
+
+pub record IsSound (t : Subscriptions) : Type 0 where
+  pub limits : HasLimits t
+  pub each_one : AllByRecursion IsSoundSubscription t.subs
+
+-- no position from the committed length on is known: all deliveries are of committed positions
+abbrev pub IsCommittedOn : ℕ → Subscription → Type 0
+IsCommittedOn committed s = (i : ℕ) → committed ≤ i → map.get s.deliveries i ≡ None
+
+abbrev pub IsCommitted : ℕ → Subscriptions → Type 0
+IsCommitted committed t = AllByRecursion (IsCommittedOn committed) t.subs

@@ -1,0 +1,18 @@
+-- The subscriptions of a topic, and the changes of them that aren't durable yet.
+use Rattle.std.specs.Prelude.{ℕ, List}
+use Rattle.cursor.specs.Positions.{Positions}
+use Rattle.holds.specs.Deliveries.{Deliveries}
+use Rattle.subscriptions.specs.declared.consumer.Mode.{Mode}
+use Rattle.subscriptions.specs.declared.consumer.Consumer.{Consumer}
+use Rattle.subscriptions.specs.declared.change.Change.{Change}
+
+pub record Subscription : Type 0 where
+  pub name : List ℕ
+  pub mode : Mode
+  pub consumers : List Consumer  -- the attached ones, the earliest first
+  pub acked : Positions  -- the acknowledged positions
+  pub deliveries : Deliveries  -- of the positions that were sent and aren't acknowledged: who holds each, and how often it was sent
+
+pub record Subscriptions : Type 0 where
+  pub subs : List Subscription  -- the earliest made first
+  pub changes : List Change  -- the ones that aren't durable yet

@@ -1,0 +1,217 @@
+-- What each call does to the subscriptions of a topic.
+use Rattle.std.specs.Prelude.{◌≡◌, ℕ, ◌+◌, ◌^◌, Bool, true, false, cond, not, ◌&&◌, nat_eq, nat_lt, nat_le, Option, Some, None, List, [], ◌∷◌, ◌++◌, length, filter, drop, map as each}
+use Rattle.std.specs.List.{list_any, find}
+use Rattle.std.specs.Str.{bytes_eq}
+use Rattle.std.specs.FinSet as set
+use Rattle.std.specs.FinMap as map
+use Rattle.cursor.specs.Positions.{below}
+use Rattle.holds.specs.Deliveries.{Deliveries, same_key, sent_to, times}
+use Rattle.holds.specs.Backlog.{IsOpenAt, IsLeast}
+use Rattle.holds.specs.declared.consumer.ConsumerKey.{ConsumerKey}
+use Rattle.holds.specs.declared.delivery.Delivery.{Delivery}
+use Rattle.subscriptions.specs.declared.consumer.Mode.{Mode}
+use Rattle.subscriptions.specs.declared.consumer.Mode.TheVariants.{Exclusive, Failover}
+use Rattle.subscriptions.specs.declared.consumer.Consumer.{Consumer}
+use Rattle.subscriptions.specs.declared.consumer.Refusal.{Refusal}
+use Rattle.subscriptions.specs.declared.consumer.Refusal.TheVariants.{ConsumerBusy, TooManyRequests}
+use Rattle.subscriptions.specs.declared.change.InitialPosition.{InitialPosition}
+use Rattle.subscriptions.specs.declared.change.InitialPosition.TheVariants.{Latest, Earliest}
+use Rattle.subscriptions.specs.declared.change.Change.{Change}
+use Rattle.subscriptions.specs.declared.change.Change.TheVariants.{Made, Acknowledged}
+use Rattle.subscriptions.specs.State.{Subscription, Subscriptions}
+use Rattle.subscriptions.specs.Progress.{joined, listed}
+
+-- no subscription, and no change
+abbrev pub none_yet : Subscriptions
+none_yet = record { subs = []; changes = [] }
+
+-- the first that passes a test is changed
+abbrev pub first_changed : {X : Type 0} → (X → Bool) → (X → X) → List X → List X
+first_changed test f [] = []
+first_changed test f (x ∷ xs) = cond (test x) (f x ∷ xs) (x ∷ first_changed test f xs)
+
+abbrev pub is_consumer : ConsumerKey → Consumer → Bool
+is_consumer key c = same_key c.key key
+
+-- the consumer is attached to the subscription
+abbrev pub is_on : ConsumerKey → Subscription → Bool
+is_on key s = list_any (is_consumer key) s.consumers
+
+abbrev pub has_consumer : Subscriptions → ConsumerKey → Bool
+has_consumer t key = list_any (is_on key) t.subs
+
+abbrev pub is_named : List ℕ → Subscription → Bool
+is_named name s = bytes_eq s.name name
+
+-- the first refusal that stands, of a table in the order in which they are looked at
+abbrev pub first_standing : List (Bool × Refusal) → Option Refusal
+first_standing [] = None
+first_standing (row ∷ rows) = cond row.0 (Some row.1) (first_standing rows)
+
+abbrev pub same_mode : Mode → Mode → Bool
+same_mode Exclusive Exclusive = true
+same_mode Exclusive Failover = false
+same_mode Failover Exclusive = false
+same_mode Failover Failover = true
+
+abbrev pub is_exclusive : Mode → Bool
+is_exclusive Exclusive = true
+is_exclusive Failover = false
+
+abbrev pub has_some : {X : Type 0} → List X → Bool
+has_some xs = nat_lt 0 (length xs)
+
+-- SUBSCRIBE: what is refused of one more consumer, in order; the mode is that of the attached ones
+abbrev pub attach_refusals : Mode → Subscription → List (Bool × Refusal)
+attach_refusals mode s =
+    (has_some s.consumers && not (same_mode s.mode mode), ConsumerBusy)
+    ∷ (has_some s.consumers && is_exclusive mode, ConsumerBusy)
+    ∷ (nat_le 64 (length s.consumers), TooManyRequests)
+    ∷ []
+
+-- SUBSCRIBE: what is refused of a new name, in order
+abbrev pub making_refusals : Subscriptions → List (Bool × Refusal)
+making_refusals t =
+    (nat_le 64 (length t.subs), TooManyRequests)
+    ∷ (nat_le 65536 (length t.changes), TooManyRequests)
+    ∷ []
+
+-- by whether there is such a subscription
+abbrev pub refusals_at : Option Subscription → Subscriptions → Mode → List (Bool × Refusal)
+refusals_at None t mode = making_refusals t
+refusals_at (Some s) t mode = attach_refusals mode s
+
+abbrev pub subscribe_refusals : Subscriptions → List ℕ → Mode → List (Bool × Refusal)
+subscribe_refusals t name mode = refusals_at (find (is_named name) t.subs) t mode
+
+-- one more consumer, without permits, and attached last
+abbrev pub attached_to : Mode → ConsumerKey → Subscription → Subscription
+attached_to mode key s = record s { mode = mode; consumers = s.consumers ++ record { key = key; granted = 0; sent = 0 } ∷ [] }
+
+-- the position below which all is acknowledged on a new subscription
+abbrev pub start_of : InitialPosition → ℕ → ℕ
+start_of Latest committed = committed
+start_of Earliest committed = 0
+
+abbrev pub made : List ℕ → Mode → ℕ → Subscription
+made name mode start = record { name = name; mode = mode; consumers = []; acked = below start; deliveries = map.empty }
+
+-- SUBSCRIBE: a name that is there gains a consumer, and another name is made with it
+abbrev pub attached_at : Option Subscription → Subscriptions → List ℕ → Mode → ConsumerKey → ℕ → Subscriptions
+attached_at None t name mode key start = record { subs = t.subs ++ attached_to mode key (made name mode start) ∷ []; changes = t.changes ++ Made name start ∷ [] }
+attached_at (Some s) t name mode key start = record t { subs = first_changed (is_named name) (attached_to mode key) t.subs }
+
+abbrev pub attached : Subscriptions → List ℕ → Mode → ConsumerKey → ℕ → Subscriptions
+attached t name mode key start = attached_at (find (is_named name) t.subs) t name mode key start
+
+-- FLOW: the consumer has so many permits more
+abbrev pub granted_to : ℕ → Consumer → Consumer
+granted_to permits c = record c { granted = c.granted + permits }
+
+abbrev pub granted_on : ConsumerKey → ℕ → Subscription → Subscription
+granted_on key permits s = record s { consumers = first_changed (is_consumer key) (granted_to permits) s.consumers }
+
+abbrev pub granted : Subscriptions → ConsumerKey → ℕ → Subscriptions
+granted t key permits = record t { subs = first_changed (is_on key) (granted_on key permits) t.subs }
+
+-- FLOW: a consumer would have more than 2 ^ 62 permits in all
+abbrev pub is_past : ℕ → Option Consumer → Bool
+is_past permits None = false
+is_past permits (Some c) = nat_lt (2 ^ 62) (c.granted + permits)
+
+abbrev pub is_past_on : ConsumerKey → ℕ → Option Subscription → Bool
+is_past_on key permits None = false
+is_past_on key permits (Some s) = is_past permits (find (is_consumer key) s.consumers)
+
+abbrev pub grants_too_many : Subscriptions → ConsumerKey → ℕ → Bool
+grants_too_many t key permits = is_past_on key permits (find (is_on key) t.subs)
+
+-- ACK: the positions are acknowledged, and their deliveries forgotten
+abbrev pub acked_on : List ℕ → Subscription → Subscription
+acked_on positions s = record s {
+  acked = joined s.acked positions;
+  deliveries = map.retain_keys s.deliveries (λ p. not (set.contains (listed positions) p));
+}
+
+-- ACK: one change for each position, also where it was acknowledged before
+abbrev pub acknowledgements : Option Subscription → List ℕ → List Change
+acknowledgements None positions = []
+acknowledgements (Some s) positions = each (λ p. Acknowledged s.name p) positions
+
+abbrev pub acknowledged : Subscriptions → ConsumerKey → List ℕ → Subscriptions
+acknowledged t key positions = record {
+  subs = first_changed (is_on key) (acked_on positions) t.subs;
+  changes = t.changes ++ acknowledgements (find (is_on key) t.subs) positions;
+}
+
+-- the consumer has a permit left
+abbrev pub has_permit : Option Consumer → Bool
+has_permit None = false
+has_permit (Some c) = nat_lt c.sent c.granted
+
+-- the mode serves the consumer: on Exclusive the only one, on Failover the one that was attached first
+abbrev pub is_first : ConsumerKey → List Consumer → Bool
+is_first key [] = false
+is_first key (c ∷ cs) = is_consumer key c
+
+abbrev pub serves : Mode → ConsumerKey → List Consumer → Bool
+serves Exclusive key consumers = true
+serves Failover key consumers = is_first key consumers
+
+-- a consumer may get position i of so many committed ones: it is attached, has a permit and is served, and the position is the least open
+pub record AdmitsOn (s : Subscription) (key : ConsumerKey) (committed i : ℕ) : Type 0 where
+  pub permit : has_permit (find (is_consumer key) s.consumers) ≡ true
+  pub served : serves s.mode key s.consumers ≡ true
+  pub least : IsLeast (IsOpenAt committed s.acked s.deliveries) i
+
+abbrev pub AdmitsAt : Option Subscription → ConsumerKey → ℕ → ℕ → Type 0
+AdmitsAt None key committed i = ⊥
+AdmitsAt (Some s) key committed i = AdmitsOn s key committed i
+
+abbrev pub Admits : Subscriptions → ConsumerKey → ℕ → ℕ → Type 0
+Admits t key committed i = AdmitsAt (find (is_on key) t.subs) key committed i
+
+-- MESSAGE: the consumer holds the position, which was sent once more, and has one permit less
+abbrev pub sent_one : Consumer → Consumer
+sent_one c = record c { sent = c.sent + 1 }
+
+abbrev pub sent_on : ConsumerKey → ℕ → Subscription → Subscription
+sent_on key i s = record s {
+  consumers = first_changed (is_consumer key) (λ c. sent_one c) s.consumers;
+  deliveries = map.insert s.deliveries i (sent_to key (map.get s.deliveries i));
+}
+
+abbrev pub sent : Subscriptions → ConsumerKey → ℕ → Subscriptions
+sent t key i = record t { subs = first_changed (is_on key) (sent_on key i) t.subs }
+
+-- how often a position was sent before on the consumer's subscription
+abbrev pub times_at : Option Subscription → ℕ → ℕ
+times_at None i = 0
+times_at (Some s) i = times s.deliveries i
+
+abbrev pub sent_before : Subscriptions → ConsumerKey → ℕ → ℕ
+sent_before t key i = times_at (find (is_on key) t.subs) i
+
+-- a session leaves: its consumers go, and what they hold is free; the counts stay
+abbrev pub is_of : ℕ → Option ConsumerKey → Bool
+is_of who None = false
+is_of who (Some key) = nat_eq key.session who
+
+abbrev pub freed : ℕ → Delivery → Delivery
+freed who d = record { holder = cond (is_of who d.holder) None d.holder; times = d.times }
+
+abbrev pub freed_by : ℕ → Deliveries → Deliveries
+freed_by who deliveries = map.from_entries (each (λ e. (e.0, freed who e.1)) (map.entries deliveries))
+
+abbrev pub left_on : ℕ → Subscription → Subscription
+left_on who s = record s {
+  consumers = filter (λ c. not (nat_eq c.key.session who)) s.consumers;
+  deliveries = freed_by who s.deliveries;
+}
+
+abbrev pub left : Subscriptions → ℕ → Subscriptions
+left t who = record t { subs = each (λ s. left_on who s) t.subs }
+
+-- the first changes are durable
+abbrev pub settled : Subscriptions → ℕ → Subscriptions
+settled t count = record t { changes = drop count t.changes }

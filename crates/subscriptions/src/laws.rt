@@ -1,0 +1,21 @@
+ghost use Rattle.subscriptions.specs.Laws.{StaysSound, DeliveriesAreCommitted, AreKept, PickedIsOpen};
+
+/// Each call keeps the subscriptions sound.
+pub fn stays_sound()
+    ensures { StaysSound }
+{}
+
+/// Only committed positions are ever held.
+pub fn deliveries_are_committed()
+    ensures { DeliveriesAreCommitted }
+{}
+
+/// The names and sets of the subscriptions are what the changes make of the kept ones.
+pub fn subscriptions_are_kept()
+    ensures { AreKept }
+{}
+
+/// A position that is picked is committed, unacknowledged and held by nobody.
+pub fn picked_is_open()
+    ensures { PickedIsOpen }
+{}

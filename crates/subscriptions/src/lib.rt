@@ -1,0 +1,24 @@
+//! `Subscriptions` is all that one topic knows of its subscriptions: who is attached, what each
+//! consumer may still get, what was sent and acknowledged, and which changes aren't durable yet.
+//! Each call moves an abstract value by one step that is stated whole, and a position is picked
+//! exactly where one is admitted. What lacks memory changes nothing.
+#![tactic(auto)]
+
+mod change;
+mod consumer;
+mod laws;
+mod name;
+mod progress;
+mod subscription;
+mod table;
+
+pub use change::{Change, InitialPosition};
+pub use consumer::{Consumer, Mode, Refusal, TooManyPermits};
+pub use laws::{deliveries_are_committed, picked_is_open, stays_sound, subscriptions_are_kept};
+pub use name::Name;
+pub use table::Subscriptions;
+
+#[cfg(test)]
+mod plain;
+#[cfg(test)]
+mod tests;

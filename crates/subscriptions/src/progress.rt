@@ -1,0 +1,172 @@
+// What is acknowledged and held on a subscription, with a quick search for the next open position.
+ghost use Rattle.std.specs.Prelude.{◌≡◌, ℕ, ◌+◌, ◌^◌, ◌<◌, ◌≤◌, not, All, IfOk, OnOk, OnErr, IfSome, IfNone, ◌||◌, ◌&&◌, is_none, nat_eq, cond, Some, None};
+ghost use Rattle.std.specs.List.{list_any};
+ghost use Rattle.std.specs.Option.{option_map};
+ghost use Rattle.std.specs.FinSet as set;
+ghost use Rattle.std.specs.FinMap as map;
+ghost use Rattle.cursor.specs.Positions.{below};
+ghost use Rattle.holds.specs.Deliveries.{holder, sent_to, times, given_back};
+ghost use Rattle.holds.specs.Backlog.{IsOpenAt, IsLeast};
+ghost use Rattle.subscriptions.specs.Progress.{joined, listed};
+
+use cursor::Cursor;
+use holds::{ConsumerKey, Holds};
+use std::alloc::{AllocError, Global};
+use std::marker::Model;
+
+/// The acknowledged and the held positions. No position below the frontier is open, so a search
+/// begins there. The late ones are acknowledged, but the cursor had no memory for them so far.
+#[derive(Drop)]
+pub(crate) struct Progress {
+    acked: Cursor,
+    late: Vec<u64>,
+    holds: Holds,
+    frontier: u64,
+}
+
+impl Model for Progress {
+    ghost use Rattle.std.specs.Prelude.{All, ◌<◌, ◌^◌};
+    ghost use Rattle.subscriptions.specs.Progress.{State, state_code, IsSettled, joined};
+
+    ghost Value = { State };
+
+    ghost coded = { state_code };
+
+    ghost view = { λ p. record { acked = joined p.acked p.late.items; deliveries = p.holds } };
+
+    ghost invariant = { λ p. IsSettled p.frontier (joined p.acked p.late.items) p.holds × All (λ i. i < 2 ^ 62) p.late.items };
+}
+
+impl Progress {
+    /// All positions below `start` are acknowledged, and nothing was sent.
+    pub(crate) fn new(alloc: Global, start: u64) -> Self
+        requires { start ≤ 2 ^ 62 }
+        ensures acked { result.acked ≡ below start }
+        ensures deliveries { result.deliveries ≡ map.empty }
+    {
+        Self {
+            acked: acked_below(alloc, start),
+            late: Vec::new(alloc),
+            holds: Holds::new(alloc),
+            frontier: 0,
+        }
+    }
+
+    /// Acknowledges positions. A refusal changes nothing.
+    pub(crate) fn acknowledge(&mut self, positions: &[u64]) -> Result<(), AllocError>
+        requires { All (λ p. p < 2 ^ 62) positions.now }
+        ensures acked { OnOk result (self.new.acked ≡ joined self.old.acked positions.now) }
+        ensures deliveries { OnOk result (self.new.deliveries ≡ map.retain_keys self.old.deliveries (λ p. not (set.contains (listed positions.now) p))) }
+        ensures err { OnErr result (self.new ≡ self.old) }
+    {
+        self.late.extend_from_slice(positions)?;
+        forget(&mut self.holds, positions);
+        absorb(&mut self.acked, &mut self.late);
+        Ok(())
+    }
+
+    /// How often the position was sent.
+    pub(crate) fn sent_before(&self, position: u64) -> u32
+        ensures { result ≡ times self.now.deliveries position }
+    {
+        self.holds.sent_before(position)
+    }
+
+    /// The least open position is sent to the consumer. A refusal changes nothing.
+    pub(crate) fn hold(
+        &mut self,
+        position: u64,
+        consumer: ConsumerKey,
+        committed: u64,
+    ) -> Result<(), AllocError>
+        requires fits { committed ≤ 2 ^ 62 }
+        requires least { IsLeast (IsOpenAt committed self.old.acked self.old.deliveries) position }
+        ensures acked { self.new.acked ≡ self.old.acked }
+        ensures ok { OnOk result (self.new.deliveries ≡ map.insert self.old.deliveries position (sent_to consumer (map.get self.old.deliveries position))) }
+        ensures err { OnErr result (self.new ≡ self.old) }
+    {
+        self.holds.hold(position, consumer)?;
+        self.frontier = position + 1;
+        Ok(())
+    }
+
+    /// All that the consumer holds is given back.
+    pub(crate) fn give_back(&mut self, consumer: ConsumerKey)
+        ensures acked { self.new.acked ≡ self.old.acked }
+        ensures deliveries { (q : ℕ) → map.get self.new.deliveries q ≡ option_map (given_back consumer) (map.get self.old.deliveries q) }
+    {
+        self.holds.give_back(consumer);
+        self.frontier = 0;
+    }
+
+    /// The least open position.
+    pub(crate) fn first_open(&self, committed: u64) -> Option<u64>
+        requires { committed ≤ 2 ^ 62 }
+        ensures some { IfSome result (IsLeast (IsOpenAt committed self.now.acked self.now.deliveries)) }
+        ensures none { IfNone result ((i : ℕ) → IsOpenAt committed self.now.acked self.now.deliveries i → ⊥) }
+    {
+        let mut position = self.frontier;
+        while position < committed {
+            position = self.acked.first_open(position);
+            if position >= committed {
+                break;
+            }
+            if is_free(self.late.as_slice(), &self.holds, position) {
+                return Some(position);
+            }
+            position += 1;
+        }
+        None
+    }
+}
+
+// The positions below `start`.
+fn acked_below(alloc: Global, start: u64) -> Cursor
+    requires { start ≤ 2 ^ 62 }
+    ensures { result ≡ below start }
+{
+    let mut acked = Cursor::new(alloc);
+    if start == 0 {
+        return acked;
+    }
+    acked.ack_through(start - 1);
+    acked
+}
+
+// Whether a position is among the late ones.
+fn is_late(late: &[u64], position: u64) -> bool
+    ensures { result ≡ list_any (λ p. nat_eq p position) late.now }
+{
+    late.iter().any(|p| *p == position)
+}
+
+// Whether a position that the cursor lacks is open.
+fn is_free(late: &[u64], holds: &Holds, position: u64) -> bool
+    ensures { result ≡ (not (list_any (λ p. nat_eq p position) late.now) && is_none (holder holds.now position)) }
+{
+    !is_late(late, position) && holds.holder(position).is_none()
+}
+
+// The positions are acknowledged: nobody holds them, and their counts go.
+fn forget(holds: &mut Holds, positions: &[u64])
+    ensures { (q : ℕ) → map.get holds.new q ≡ cond (list_any (λ p. nat_eq p q) positions.now) None (map.get holds.old q) }
+{
+    for position in positions {
+        holds.forget(*position);
+    }
+}
+
+// Moves late positions into the cursor, as far as memory goes.
+fn absorb(acked: &mut Cursor, late: &mut Vec<u64>)
+    requires { All (λ i. i < 2 ^ 62) late.old.items }
+    ensures same { joined acked.new late.new.items ≡ joined acked.old late.old.items }
+    ensures fits { All (λ i. i < 2 ^ 62) late.new.items }
+{
+    while let Some(position) = late.last() {
+        let position = *position;
+        if acked.ack(position).is_err() {
+            return;
+        }
+        let _ = late.pop();
+    }
+}

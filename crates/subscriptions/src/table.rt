@@ -1,0 +1,293 @@
+ghost use Rattle.std.specs.Prelude.{◌≡◌, ◌+◌, ◌^◌, ◌<◌, ◌≤◌, ◌++◌, ◌∷◌, [], ℕ, All, IfOk, IfNone, IfSome, OnOk, OnErr, Some, None, true, false, drop, length, nat_le, position, map as each};
+ghost use Rattle.std.specs.List.{find, list_any};
+ghost use Rattle.subscriptions.specs.declared.change.Change.TheVariants.{Acknowledged as acknowledged_change};
+ghost use Rattle.subscriptions.specs.Steps.{none_yet, first_changed, is_on, is_named, has_consumer, first_standing, making_refusals, subscribe_refusals, attach_refusals, attached_to, attached, attached_at, start_of, made, granted, granted_on, is_past_on, grants_too_many, acknowledged, acked_on, Admits, AdmitsAt, AdmitsOn, sent, sent_on, sent_before, times_at, left, left_on, settled};
+
+use crate::change::{Change, InitialPosition};
+use crate::consumer::{Mode, Refusal, TooManyPermits};
+use crate::name::Name;
+use crate::subscription::Subscription;
+use holds::ConsumerKey;
+use std::alloc::{AllocError, Global};
+use std::marker::Model;
+
+/// How many subscriptions a topic has. Our own rule.
+const MOST_SUBSCRIPTIONS: usize = 64;
+
+/// How many changes wait for a flush. Our own rule.
+const MOST_CHANGES: usize = 65_536;
+
+/// The subscriptions of one topic, with the changes of them that aren't durable yet.
+#[derive(Drop)]
+pub struct Subscriptions {
+    alloc: Global,
+    subs: Vec<Subscription>,
+    changes: Vec<Change>,
+}
+
+impl Model for Subscriptions {
+    ghost use Rattle.std.specs.Coded.{codes};
+    ghost use Rattle.cursor.specs.Positions.{positions_code};
+    ghost use Rattle.holds.specs.Deliveries.{deliveries_code};
+    ghost use Rattle.subscriptions.specs.State.{Subscriptions as State};
+    ghost use Rattle.subscriptions.specs.Soundness.{HasLimits};
+
+    ghost Value = { State };
+
+    ghost coded = { Prim.hlevel (codes, positions_code, deliveries_code) };
+
+    ghost view = { λ t. record { subs = t.subs.items; changes = t.changes.items } };
+
+    ghost invariant = { λ t. HasLimits (record { subs = t.subs.items; changes = t.changes.items }) };
+}
+
+impl Subscriptions {
+    /// No subscription, and no change.
+    pub fn new(alloc: Global) -> Subscriptions
+        ensures { result ≡ none_yet }
+    {
+        Subscriptions {
+            alloc,
+            subs: Vec::new(alloc),
+            changes: Vec::new(alloc),
+        }
+    }
+
+    /// Whether the consumer is attached to a subscription.
+    pub fn has_consumer(&self, key: ConsumerKey) -> bool
+        ensures { result ≡ has_consumer self.now key }
+    {
+        self.subs.iter().any(|s| s.is_on(key))
+    }
+
+    /// The changes that aren't durable yet, the earliest first.
+    pub fn changes(&self) -> &[Change]
+        ensures { result.now ≡ self.now.changes }
+    {
+        self.changes.as_slice()
+    }
+
+    /// Whether so many more changes may wait for a flush.
+    pub fn has_room(&self, count: usize) -> bool
+        ensures { result ≡ nat_le (length self.now.changes + count) 65536 }
+    {
+        count <= MOST_CHANGES - self.changes.len()
+    }
+
+    /// Why a SUBSCRIBE to this name is refused.
+    pub fn refusal(&self, name: &str, mode: Mode) -> Option<Refusal>
+        ensures { result ≡ first_standing (subscribe_refusals self.now name.now mode) }
+    {
+        let Some(place) = place_named(self.subs.as_slice(), name) else {
+            return self.making_refusal();
+        };
+        let sub = &self.subs[place];
+        sub.refusal(mode)
+    }
+
+    /// Why a new name is refused.
+    fn making_refusal(&self) -> Option<Refusal>
+        ensures { result ≡ first_standing (making_refusals self.now) }
+    {
+        if self.subs.len() >= MOST_SUBSCRIPTIONS {
+            return Some(Refusal::TooManyRequests);
+        }
+        if self.changes.len() >= MOST_CHANGES {
+            return Some(Refusal::TooManyRequests);
+        }
+        None
+    }
+
+    /// SUBSCRIBE: a name that is there gains a consumer, and another name is made with it. A
+    /// refusal changes nothing.
+    pub fn attach(
+        &mut self,
+        name: &str,
+        mode: Mode,
+        key: ConsumerKey,
+        initial: InitialPosition,
+        committed: u64,
+    ) -> Result<(), AllocError>
+        requires fits { committed ≤ 2 ^ 62 }
+        requires allowed { first_standing (subscribe_refusals self.old name.now mode) ≡ None }
+        ensures ok { OnOk result (self.new ≡ attached self.old name.now mode key (start_of initial committed)) }
+        ensures err { OnErr result (self.new ≡ self.old) }
+    {
+        let Some(place) = place_named(self.subs.as_slice(), name) else {
+            let start = start_of(initial, committed);
+            let sub = new_subscription(self.alloc, name, mode, key, start)?;
+            let change = Change::Made {
+                name: Name::new(self.alloc, name)?,
+                start,
+            };
+            self.subs.reserve(1)?;
+            self.changes.push(change)?;
+            self.subs.push(sub).unwrap();
+            return Ok(());
+        };
+        let sub = &mut self.subs[place];
+        sub.attach(mode, key)?;
+        Ok(())
+    }
+
+    /// FLOW: the consumer has so many permits more, unless it would have more than 2^62 in all. An
+    /// unknown consumer changes nothing.
+    pub fn grant(&mut self, key: ConsumerKey, permits: u64) -> Result<(), TooManyPermits>
+        ensures ok { OnOk result ((grants_too_many self.old key permits ≡ false) × (self.new ≡ granted self.old key permits)) }
+        ensures err { OnErr result ((grants_too_many self.old key permits ≡ true) × (self.new ≡ self.old)) }
+    {
+        let Some(place) = place_of(self.subs.as_slice(), key) else {
+            return Ok(());
+        };
+        let sub = &mut self.subs[place];
+        sub.grant(key, permits)?;
+        Ok(())
+    }
+
+    /// ACK: the positions are acknowledged, with one change for each. An unknown consumer changes
+    /// nothing, and neither does a refusal.
+    pub fn acknowledge(&mut self, key: ConsumerKey, positions: &[u64]) -> Result<(), AllocError>
+        requires fits { All (λ p. p < 2 ^ 62) positions.now }
+        requires room { length self.old.changes + length positions.now ≤ 65536 }
+        ensures ok { OnOk result (self.new ≡ acknowledged self.old key positions.now) }
+        ensures err { OnErr result (self.new ≡ self.old) }
+    {
+        let Some(place) = place_of(self.subs.as_slice(), key) else {
+            return Ok(());
+        };
+        let sub = &mut self.subs[place];
+        let mut added = acknowledgements(self.alloc, sub.name(), positions)?;
+        self.changes.reserve(positions.len())?;
+        sub.acknowledge(positions)?;
+        self.changes.append(&mut added).unwrap();
+        Ok(())
+    }
+
+    /// The position that the consumer may get: one exactly where one is admitted.
+    pub fn pick(&self, key: ConsumerKey, committed: u64) -> Option<u64>
+        requires { committed ≤ 2 ^ 62 }
+        ensures some { IfSome result (Admits self.now key committed) }
+        ensures none { IfNone result ((i : ℕ) → Admits self.now key committed i → ⊥) }
+    {
+        let Some(place) = place_of(self.subs.as_slice(), key) else {
+            return None;
+        };
+        let sub = &self.subs[place];
+        sub.pick(key, committed)
+    }
+
+    /// MESSAGE: the consumer holds a position that it may get, and has one permit less. The answer
+    /// is how often that was sent before. A refusal changes nothing.
+    pub fn send(
+        &mut self,
+        key: ConsumerKey,
+        position: u64,
+        committed: u64,
+    ) -> Result<u32, AllocError>
+        requires fits { committed ≤ 2 ^ 62 }
+        requires admitted { Admits self.old key committed position }
+        ensures ok { OnOk result (self.new ≡ sent self.old key position) }
+        ensures before { IfOk result (λ before. before ≡ sent_before self.old key position) }
+        ensures err { OnErr result (self.new ≡ self.old) }
+    {
+        let Some(place) = place_of(self.subs.as_slice(), key) else {
+            unreachable!()
+        };
+        let sub = &mut self.subs[place];
+        let before = sub.send(key, position, committed)?;
+        Ok(before)
+    }
+
+    /// A session leaves: its consumers go, and what they hold is free.
+    pub fn leave(&mut self, who: u64)
+        ensures { self.new ≡ left self.old who }
+    {
+        leave_all(&mut self.subs, who);
+    }
+
+    /// The first changes are durable, and go.
+    pub fn settle(&mut self, count: usize)
+        requires { count ≤ length self.old.changes }
+        ensures { self.new ≡ settled self.old count }
+    {
+        drop_first(&mut self.changes, count);
+    }
+}
+
+/// The position below which all is acknowledged on a new subscription.
+fn start_of(initial: InitialPosition, committed: u64) -> u64
+    requires { committed ≤ 2 ^ 62 }
+    ensures start { result ≡ start_of initial committed }
+    ensures fits { result ≤ 2 ^ 62 }
+{
+    match initial {
+        InitialPosition::Latest => committed,
+        InitialPosition::Earliest => 0,
+    }
+}
+
+/// A new subscription with its first consumer.
+fn new_subscription(
+    alloc: Global,
+    name: &str,
+    mode: Mode,
+    key: ConsumerKey,
+    start: u64,
+) -> Result<Subscription, AllocError>
+    requires { start ≤ 2 ^ 62 }
+    ensures { IfOk result (λ s. s ≡ attached_to mode key (made name.now mode start)) }
+{
+    let mut sub = Subscription::new(alloc, Name::new(alloc, name)?, mode, start);
+    sub.attach(mode, key)?;
+    Ok(sub)
+}
+
+/// Where the subscription of this name stands.
+fn place_named(subs: &[Subscription], name: &str) -> Option<usize>
+    ensures place { result ≡ position (is_named name.now) subs.now }
+    ensures within { IfSome result (λ place. place < length subs.now) }
+{
+    subs.iter().position(|s| s.name() == name)
+}
+
+/// Where the subscription of this consumer stands.
+fn place_of(subs: &[Subscription], key: ConsumerKey) -> Option<usize>
+    ensures place { result ≡ position (is_on key) subs.now }
+    ensures within { IfSome result (λ place. place < length subs.now) }
+{
+    subs.iter().position(|s| s.is_on(key))
+}
+
+/// A change for each position.
+fn acknowledgements(alloc: Global, name: &str, positions: &[u64]) -> Result<Vec<Change>, AllocError>
+    ensures { IfOk result (λ changes. changes.items ≡ each (λ p. acknowledged_change name.now p) positions.now) }
+{
+    let mut changes = Vec::new(alloc);
+    for position in positions {
+        changes.push(Change::Acknowledged {
+            name: Name::new(alloc, name)?,
+            position: *position,
+        })?;
+    }
+    Ok(changes)
+}
+
+/// The session leaves each subscription.
+fn leave_all(subs: &mut Vec<Subscription>, who: u64)
+    ensures { subs.new.items ≡ each (λ s. left_on who s) subs.old.items }
+{
+    for i in 0..subs.len() {
+        let sub = &mut subs[i];
+        sub.leave(who);
+    }
+}
+
+/// Drops the first changes.
+fn drop_first(changes: &mut Vec<Change>, count: usize)
+    requires { count ≤ length changes.old.items }
+    ensures { changes.new.items ≡ drop count changes.old.items }
+{
+    let left = changes.len() - count;
+    changes.rotate_left(count);
+    changes.truncate(left);
+}

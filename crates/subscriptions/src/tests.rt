@@ -1,0 +1,293 @@
+ghost use Rattle.std.specs.Prelude.{◌^◌, ◌≤◌};
+
+use crate::plain::PlainSubscription;
+use crate::{Change, InitialPosition, Mode, Refusal, Subscriptions, TooManyPermits};
+use holds::ConsumerKey;
+use std::alloc::{AllocError, Global};
+use std::process::Abort;
+use std::test::Fail;
+
+const FIRST: ConsumerKey = ConsumerKey { session: 0, id: 2 };
+
+const SECOND: ConsumerKey = ConsumerKey { session: 1, id: 2 };
+
+/// Attaches a consumer where nothing is against it.
+fn subscribe(
+    subs: &mut Subscriptions,
+    name: &str,
+    mode: Mode,
+    key: ConsumerKey,
+    initial: InitialPosition,
+    committed: u32,
+) -> Result<Option<Refusal>, AllocError> {
+    let refusal = subs.refusal(name, mode);
+    if refusal.is_some() {
+        return Ok(refusal);
+    }
+    subs.attach(name, mode, key, initial, u64::from(committed))?;
+    Ok(None)
+}
+
+/// What a consumer gets of so many committed positions: one of them, and how often it was sent
+/// before.
+fn dispatch(
+    subs: &mut Subscriptions,
+    key: ConsumerKey,
+    committed: u32,
+) -> Result<Option<(u64, u32)>, AllocError> {
+    let Some(position) = subs.pick(key, u64::from(committed)) else {
+        return Ok(None);
+    };
+    let before = subs.send(key, position, u64::from(committed))?;
+    Ok(Some((position, before)))
+}
+
+/// Acknowledges one position where there is room.
+fn acknowledge(
+    subs: &mut Subscriptions,
+    key: ConsumerKey,
+    position: u32,
+) -> Result<(), AllocError> {
+    if !subs.has_room(1) {
+        return Ok(());
+    }
+    subs.acknowledge(key, &[u64::from(position)])
+}
+
+fn name_of(change: &Change) -> (&str, bool, u64) {
+    match change {
+        Change::Made { name, start } => (name.as_str(), true, *start),
+        Change::Acknowledged { name, position } => (name.as_str(), false, *position),
+    }
+}
+
+#[test]
+fn one_consumer_gets_each_message_once(rt: HostRuntime) -> Result<(), Fail> {
+    let mut subs = Subscriptions::new(rt.alloc());
+    assert!(rt; !subs.has_consumer(FIRST));
+    assert_eq!(rt;
+        subscribe(
+            &mut subs,
+            "s",
+            Mode::Exclusive,
+            FIRST,
+            InitialPosition::Earliest,
+            1
+        )?,
+        None
+    );
+    assert!(rt; subs.has_consumer(FIRST) && !subs.has_consumer(SECOND));
+    assert_eq!(rt; dispatch(&mut subs, FIRST, 2)?, None);
+    assert_eq!(rt; subs.grant(FIRST, 5), Ok(()));
+    assert_eq!(rt; dispatch(&mut subs, FIRST, 2)?, Some((0, 0)));
+    assert_eq!(rt; dispatch(&mut subs, FIRST, 2)?, Some((1, 0)));
+    assert_eq!(rt; dispatch(&mut subs, FIRST, 2)?, None);
+    acknowledge(&mut subs, FIRST, 0)?;
+    subs.leave(0);
+    assert!(rt; !subs.has_consumer(FIRST));
+    assert_eq!(rt;
+        subscribe(
+            &mut subs,
+            "s",
+            Mode::Exclusive,
+            SECOND,
+            InitialPosition::Latest,
+            2
+        )?,
+        None
+    );
+    assert_eq!(rt; subs.grant(SECOND, 1), Ok(()));
+    assert_eq!(rt; dispatch(&mut subs, SECOND, 3)?, Some((1, 1)));
+    assert_eq!(rt; dispatch(&mut subs, SECOND, 3)?, None);
+    Ok(())
+}
+
+#[test]
+fn changes_wait_until_they_are_settled(rt: HostRuntime) -> Result<(), Fail> {
+    let mut subs = Subscriptions::new(rt.alloc());
+    subscribe(
+        &mut subs,
+        "late",
+        Mode::Exclusive,
+        FIRST,
+        InitialPosition::Latest,
+        3,
+    )?;
+    acknowledge(&mut subs, FIRST, 3)?;
+    acknowledge(&mut subs, FIRST, 3)?;
+    assert_eq!(rt; subs.grant(FIRST, 1), Ok(()));
+    assert_eq!(rt; subs.pick(FIRST, 4), None);
+    assert_eq!(rt; subs.pick(FIRST, 5), Some(4));
+    let found = subs.changes();
+    assert_eq!(rt; found.len(), 3);
+    assert_eq!(rt; name_of(&found[0]), ("late", true, 3));
+    assert_eq!(rt; name_of(&found[2]), ("late", false, 3));
+    subs.settle(2);
+    assert_eq!(rt; subs.changes().len(), 1);
+    assert!(rt; subs.has_room(65_535) && !subs.has_room(65_536));
+    Ok(())
+}
+
+#[test]
+fn second_consumers(rt: HostRuntime) -> Result<(), Fail> {
+    let mut subs = Subscriptions::new(rt.alloc());
+    subscribe(
+        &mut subs,
+        "s",
+        Mode::Exclusive,
+        FIRST,
+        InitialPosition::Earliest,
+        0,
+    )?;
+    assert_eq!(rt;
+        subs.refusal("s", Mode::Exclusive),
+        Some(Refusal::ConsumerBusy)
+    );
+    assert_eq!(rt;
+        subs.refusal("s", Mode::Failover),
+        Some(Refusal::ConsumerBusy)
+    );
+    subscribe(
+        &mut subs,
+        "f",
+        Mode::Failover,
+        FIRST,
+        InitialPosition::Earliest,
+        0,
+    )?;
+    assert_eq!(rt;
+        subscribe(
+            &mut subs,
+            "f",
+            Mode::Failover,
+            SECOND,
+            InitialPosition::Earliest,
+            0
+        )?,
+        None
+    );
+    assert_eq!(rt; subs.grant(SECOND, 1), Ok(()));
+    assert_eq!(rt; subs.pick(SECOND, 1), None);
+    subs.leave(0);
+    assert_eq!(rt; subs.pick(SECOND, 1), Some(0));
+    Ok(())
+}
+
+#[test]
+fn most_permits(rt: HostRuntime) -> Result<(), Fail> {
+    let mut subs = Subscriptions::new(rt.alloc());
+    subscribe(
+        &mut subs,
+        "s",
+        Mode::Exclusive,
+        FIRST,
+        InitialPosition::Earliest,
+        0,
+    )?;
+    assert_eq!(rt; subs.grant(FIRST, 1 << 62), Ok(()));
+    assert_eq!(rt; subs.grant(FIRST, 1), Err(TooManyPermits));
+    assert_eq!(rt; subs.grant(FIRST, 0), Ok(()));
+    assert_eq!(rt; subs.grant(SECOND, u64::MAX), Ok(()));
+    Ok(())
+}
+
+#[derive(Clone, Copy, Debug)]
+enum Action {
+    Grant(u32),
+    Send,
+    Ack(u32),
+    Change,
+}
+
+use Action::{Ack, Change as ChangeConsumer, Grant, Send};
+
+/// Works one action with both programs, and compares what goes out of six committed positions.
+fn act(
+    rt: &impl Abort,
+    subs: &mut Subscriptions,
+    plain: &mut PlainSubscription,
+    action: Action,
+) -> Result<(), AllocError> {
+    match action {
+        Grant(permits) => {
+            plain.grant(permits);
+            assert_eq!(rt; subs.grant(FIRST, u64::from(permits)), Ok(()));
+        }
+        Send => assert_eq!(rt; dispatch(subs, FIRST, 6)?, plain.dispatch(6)?),
+        Ack(position) => {
+            acknowledge(subs, FIRST, position)?;
+            plain.acknowledge(u64::from(position))?;
+        }
+        ChangeConsumer => {
+            subs.leave(0);
+            subscribe(
+                subs,
+                "s",
+                Mode::Exclusive,
+                FIRST,
+                InitialPosition::Latest,
+                6,
+            )?;
+            plain.change_consumer();
+        }
+    }
+    Ok(())
+}
+
+fn run_both(rt: &impl Abort, alloc: Global, script: &[Action]) -> Result<(), AllocError> {
+    let mut subs = Subscriptions::new(alloc);
+    let mut plain = PlainSubscription::new(alloc);
+    subscribe(
+        &mut subs,
+        "s",
+        Mode::Exclusive,
+        FIRST,
+        InitialPosition::Earliest,
+        0,
+    )?;
+    for action in script {
+        act(rt, &mut subs, &mut plain, *action)?;
+    }
+    Ok(())
+}
+
+#[test]
+fn acknowledged_positions_are_passed_over(rt: HostRuntime) -> Result<(), Fail> {
+    run_both(
+        &rt,
+        rt.alloc(),
+        &[
+            Ack(1),
+            Grant(2),
+            Send,
+            Send,
+            Send,
+            Ack(0),
+            Grant(3),
+            Send,
+            Ack(4),
+            Send,
+        ],
+    )?;
+    Ok(())
+}
+
+#[test]
+fn what_a_consumer_held_goes_to_the_next(rt: HostRuntime) -> Result<(), Fail> {
+    run_both(
+        &rt,
+        rt.alloc(),
+        &[
+            Grant(3),
+            Send,
+            Send,
+            Ack(0),
+            ChangeConsumer,
+            Send,
+            Grant(9),
+            Send,
+            Send,
+        ],
+    )?;
+    Ok(())
+}
