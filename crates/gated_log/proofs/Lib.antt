@@ -5,6 +5,7 @@ mod Gates
 mod Heads
 mod Made
 mod Opening
+mod Parts
 mod Places
 mod Scan
 mod Torn

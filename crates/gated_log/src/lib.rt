@@ -12,10 +12,12 @@ mod law;
 mod log;
 mod log_id;
 mod open;
+mod part;
 mod place;
 mod prepared;
 mod read;
 mod refusal;
+mod room;
 
 pub use batch_list::BatchList;
 pub use create::{lay_closed, open_header};
@@ -28,3 +30,4 @@ pub use log::GatedLog;
 pub use log_id::LogId;
 pub use prepared::{MAX_BODY, PreparedBatch};
 pub use refusal::Refusal;
+pub use room::Room;

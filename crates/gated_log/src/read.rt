@@ -7,15 +7,15 @@ use crate::place::Place;
 use disk::{FileId, Shelf};
 use std::alloc::Global;
 
-// Reads a body at its place, which is behind a gate, with one device call. A file that ends within
-// the body is damaged.
+// Reads a body or a part of one at its place, with one device call. A file that ends within it is
+// damaged at the gate of its batch.
 pub(crate) fn read_body<S: Shelf>(
     alloc: Global,
     shelf: &mut S,
     file: FileId,
+    gate: u64,
     place: Place,
 ) -> Result<Vec<u8>, Refusal>
-    requires { 5 ≤ place.offset }
     ensures body { (S.disk shelf.old).honest → IfOk result (λ body. body.items ≡ take place.size (drop place.offset ((S.disk shelf.old).seen file))) }
     ensures refused { (S.disk shelf.old).honest → place.offset + place.size ≤ length ((S.disk shelf.old).seen file) →
         IfErr result (λ e. (e ≡ Refusal.NoMemory) ⊎ (e ≡ Refusal.Device)) }
@@ -28,10 +28,7 @@ pub(crate) fn read_body<S: Shelf>(
     let mut body = vec![in alloc; 0; place.size as usize]?;
     let found = shelf.read(file, place.offset, body.as_mut_slice())?;
     if found < body.len() {
-        return Err(Refusal::Damaged {
-            file,
-            offset: place.offset - 5,
-        });
+        return Err(Refusal::Damaged { file, offset: gate });
     }
     Ok(body)
 }
