@@ -1,5 +1,6 @@
 pub mod Utf8
 pub mod Walk
+pub mod Each
 pub mod Spelled
 pub mod Told
 pub mod Occurrences

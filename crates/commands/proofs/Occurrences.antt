@@ -1,5 +1,5 @@
 -- The occurrences of a field, by the fields themselves.
-use Rattle.std.proofs.Common.{◌≡◌, ◌≢◌, ◌↔◌, ℕ, List, [], ◌∷◌, ◌++◌, map, Some, None, unwrap_or, Result, Ok, Err, IsOk, true, false, nat_eq, All, refl, ap, ◌∙◌, sym, subst, arith}
+use Rattle.std.proofs.Common.{◌≡◌, ◌≢◌, ◌↔◌, ℕ, List, [], ◌∷◌, ◌++◌, map, Some, None, unwrap_or, Result, Ok, Err, IsOk, true, false, ◌||◌, nat_eq, All, refl, ap, ◌∙◌, sym, subst, arith}
 use Rattle.std.specs.List.{flat_map}
 use Rattle.std.specs.Result.{result_unwrap_or}
 use Rattle.std.proofs.lemmas.List.Elements.{All-head, All-tail, All-cons}
@@ -8,8 +8,10 @@ use Rattle.proto_fields.specs.declared.value.Field.{Field}
 use Rattle.proto_fields.specs.declared.value.Value.{Value}
 use Rattle.commands.specs.declared.fault.CommandFault.{CommandFault}
 use Rattle.commands.specs.Reading.{◌>>=◌}
-use Rattle.commands.specs.Message.{varint_of, content_of, occurrences, last, joined, last_field, message_field}
-use Rattle.commands.specs.Laws.{IsLast, IsAbsent, IsJoined, content_in, of_number, ReadsOccurrences}
+use Rattle.commands.specs.Message.{varint_of, content_of, occurrences, last, joined, last_field, message_field, each, repeated_field, has_field}
+use Rattle.commands.specs.MessageIds.{message_id_of}
+use Rattle.commands.specs.KeyShared.{int_range_of}
+use Rattle.commands.specs.Laws.{IsLast, IsAbsent, IsJoined, IsListed, ReadsEach, content_in, of_number, ReadsOccurrences}
 
 -- both steps succeed where one after the other does
 pub bind_ok : {A B : Type 0} (r : Result A CommandFault) (f : A → Result B CommandFault) (y : B) → (r >>= f) ≡ Ok y → (x : A) × (r ≡ Ok x) × (f x ≡ Ok y)
@@ -266,6 +268,56 @@ message_none_iff k fields = (
   λ h. rw (absent-occurrences content_of k fields h) refl,
 )
 
+-- the contents in order
+listed_iff : (k : ℕ) (parts : List (List ℕ)) (fields : List Field) → (occurrences content_of k fields ≡ Ok parts) ↔ IsListed k fields parts
+listed_iff k parts fields = (
+  λ h. let kinds = occurrences-contents k fields parts h in
+      record { kinds = kinds; parts_are = same_ok _ _ (sym h ∙ contents-occurrences k fields kinds) },
+  λ h. contents-occurrences k fields h.kinds ∙ ap (λ x. Ok x) (sym h.parts_are),
+)
+
+abbrev AreValues : {A : Type 0} → (List ℕ → Result A CommandFault) → List (List ℕ) → List A → Type 0
+AreValues read parts values = map read parts ≡ map (λ value. Ok value) values
+
+each-values : {A : Type 0} (read : List ℕ → Result A CommandFault) (parts : List (List ℕ)) (values : List A) → each read parts ≡ Ok values → AreValues read parts values
+each-values {A} read [] values h = let P : List A → Type 0 = AreValues read [] in subst P (same_ok _ _ h) refl
+each-values {A} read (part ∷ parts) values h =
+    let first = bind_ok (read part) _ _ h in
+    let others = bind_ok (each read parts) _ _ first.2 in
+    let P : List A → Type 0 = AreValues read (part ∷ parts) in
+    subst P (same_ok _ _ others.2) (ap (λ r. r ∷ map read parts) first.1 ∙ ap (λ l. Ok first.0 ∷ l) (each-values read parts others.0 others.1))
+
+values-each : {A : Type 0} (read : List ℕ → Result A CommandFault) (parts : List (List ℕ)) (values : List A) → AreValues read parts values → each read parts ≡ Ok values
+values-each read [] [] h = refl
+values-each read [] (value ∷ values) h = cc
+values-each read (part ∷ parts) [] h = cc
+values-each read (part ∷ parts) (value ∷ values) h =
+    let first : read part ≡ Ok value = cc in
+    let others : AreValues read parts values = cc in
+    rw first (rw (values-each read parts values others) refl)
+
+reads_each : {A : Type 0} (read : List ℕ → Result A CommandFault) → ReadsEach read
+unfolding repeated_field
+reads_each read k values fields = (
+  λ h. let parts = bind_ok (occurrences content_of k fields) _ _ h in
+      (parts.0, (listed_iff k parts.0 fields).0 parts.1, each-values read parts.0 values parts.2),
+  λ h. rw ((listed_iff k h.0 fields).1 h.1) (values-each read h.0 values h.2),
+)
+
+-- which fields are there
+has-absent : (k : ℕ) (fields : List Field) → has_field k fields ≡ false → IsAbsent k fields
+has-absent k [] h = absent-nothing k
+has-absent k (field ∷ fields) h =
+    elim (nat_eq field.number k) as (λ b. nat_eq field.number k ≡ b → (b || has_field k fields) ≡ false → IsAbsent k (field ∷ fields)) [
+      | true ↦ λ e so. cc
+      | false ↦ λ e so. All-cons (λ f. f.number ≢ k) field fields (isnt_number field k e) (has-absent k fields so)
+    ] refl h
+
+absent-has : (k : ℕ) (fields : List Field) → IsAbsent k fields → has_field k fields ≡ false
+absent-has k [] h = refl
+absent-has k (field ∷ fields) h =
+    rw (other_number field k (All-head (λ f. f.number ≢ k) field fields h)) (absent-has k fields (All-tail (λ f. f.number ≢ k) field fields h))
+
 pub reads_occurrences : ReadsOccurrences
 reads_occurrences = record {
   numbers = λ k n fields. last_iff varint_of k n fields;
@@ -274,4 +326,7 @@ reads_occurrences = record {
   no_number = none_iff varint_of;
   no_content = none_iff content_of;
   no_message = message_none_iff;
+  message_ids = reads_each message_id_of;
+  ranges = reads_each int_range_of;
+  not_there = λ k fields. (has-absent k fields, absent-has k fields);
 }

@@ -1,5 +1,6 @@
 -- The bytes of a reply tell which reply it is.
-use Rattle.std.proofs.Common.{◌≡◌, ◌<◌, ◌≤◌, ◌+◌, ◌*◌, ◌^◌, ℕ, List, [], ◌∷◌, ◌++◌, length, All, Result, Ok, Err, ◌==◌, if◌then◌else◌, refl, ap, ◌∙◌, sym, subst, arith}
+use Rattle.std.proofs.Common.{◌≡◌, ◌<◌, ◌≤◌, ◌+◌, ◌*◌, ◌^◌, ℕ, List, [], ◌∷◌, ◌++◌, length, All, Some, None, Result, Ok, Err, true, false, cond, nat_eq, ◌==◌, if◌then◌else◌, refl, ap, ◌∙◌, sym, subst, arith}
+use Rattle.std.proofs.lemmas.Bool.{eqb-true}
 use Rattle.std.proofs.lemmas.List.{length-append}
 use Rattle.std.proofs.lemmas.List.Elements.{All-head, All-tail, All-cons}
 use Rattle.std.specs.Int.{w32, w64, to_le_bytes}
@@ -12,11 +13,11 @@ use Rattle.proto_fields.specs.Spelling.{varint}
 use Rattle.proto_fields.proofs.FieldList.{reads_whole, has_one_reading}
 use Rattle.proto_fields.proofs.Shortest.{varint-is}
 use Rattle.commands.specs.declared.reply.Reply.{Reply}
-use Rattle.commands.specs.declared.reply.Reply.TheVariants.{Connected, SendReceipt, SendError, Error, ProducerSuccess, Pong}
-use Rattle.commands.specs.declared.reply.MessageId.{MessageId}
+use Rattle.commands.specs.declared.reply.Reply.TheVariants.{Connected, SendReceipt, SendError, Message, Success, Error, ProducerSuccess, Pong, AckResponse}
+use Rattle.ids.specs.declared.message_id.MessageId.{MessageId}
 use Rattle.commands.specs.declared.server_error.ServerError.{ServerError}
 use Rattle.commands.specs.declared.server_error.ServerError.TheVariants.{PersistenceError, ConsumerBusy, ChecksumError, ConsumerNotFound, TooManyRequests, ProducerBusy, InvalidTopicName, ConsumerAssignError, NotAllowedError}
-use Rattle.commands.specs.Replies.{error_code, error_name, number, content, value_spelling, field_spelling, message_spelling, id_fields, reply_type, fields_in, reply_fields, frame_fields, spelling}
+use Rattle.commands.specs.Replies.{error_code, error_name, number, content, value_spelling, field_spelling, message_spelling, id_fields, count_fields, reply_type, fields_in, reply_fields, frame_fields, spelling}
 use Rattle.commands.specs.Laws.{FitsKind, IsWritable, IsBuilt, TellsReplies}
 use Rattle.commands.proofs.Spelled.{none, messages, type-is, replies}
 
@@ -126,6 +127,16 @@ writable (SendError producer_id sequence_id error) h =
     All-cons IsWritable (number 1 producer_id) (number 2 sequence_id ∷ number 3 (error_code error) ∷ content 4 (error_name error) ∷ []) (a_number 1 producer_id (omega arith) (omega arith) h.0)
     (three _ _ _ (a_number 2 sequence_id (omega arith) (omega arith) h.1) (a_number 3 (error_code error) (omega arith) (omega arith) (omega arith))
     (a_content 4 (error_name error) (omega arith) (omega arith) (omega arith)))
+writable (Message consumer_id id redelivery_count) h =
+    let short = id-short id h.1 h.2 in
+    let count : redelivery_count < 2 ^ 32 = h.3 in
+    let first : IsWritable (number 1 consumer_id) = a_number 1 consumer_id (omega arith) (omega arith) h.0 in
+    let second : IsWritable (content 2 (message_spelling (id_fields id))) = a_content 2 (message_spelling (id_fields id)) (omega arith) (omega arith) (omega arith) in
+    elim (nat_eq redelivery_count 0) as (λ b. All IsWritable (number 1 consumer_id ∷ content 2 (message_spelling (id_fields id)) ∷ cond b [] (number 3 redelivery_count ∷ []))) [
+      | true ↦ two _ _ first second
+      | false ↦ three _ _ _ first second (a_number 3 redelivery_count (omega arith) (omega arith) (omega arith))
+    ]
+writable (Success request_id) h = one _ (a_number 1 request_id (omega arith) (omega arith) h)
 writable (Error request_id error) h =
     let small = code-small error in
     let short = name-short error in
@@ -135,15 +146,32 @@ writable (ProducerSuccess request_id producer_name) h =
     let short : length producer_name ≤ 65535 = h.1 in
     two _ _ (a_number 1 request_id (omega arith) (omega arith) h.0) (a_content 2 producer_name (omega arith) (omega arith) (omega arith))
 writable Pong h = none
+writable (AckResponse consumer_id None request_id) h =
+    two _ _ (a_number 1 consumer_id (omega arith) (omega arith) h.0) (a_number 6 request_id (omega arith) (omega arith) h.1)
+writable (AckResponse consumer_id (Some error) request_id) h =
+    let small = code-small error in
+    let short = name-short error in
+    All-cons IsWritable (number 1 consumer_id) (number 4 (error_code error) ∷ content 5 (error_name error) ∷ number 6 request_id ∷ []) (a_number 1 consumer_id (omega arith) (omega arith) h.0)
+    (three _ _ _ (a_number 4 (error_code error) (omega arith) (omega arith) (omega arith)) (a_content 5 (error_name error) (omega arith) (omega arith) (omega arith))
+    (a_number 6 request_id (omega arith) (omega arith) h.1))
 
 bounded : (reply : Reply) → IsBuilt reply → size_bound (fields_in reply) ≤ 65600
 unfolding fields_in
 bounded Connected h = omega arith
 bounded (SendReceipt producer_id sequence_id id) h = let short = id-short id h.2 h.3 in omega arith
 bounded (SendError producer_id sequence_id error) h = let short = name-short error in omega arith
+bounded (Message consumer_id id redelivery_count) h =
+    let short = id-short id h.1 h.2 in
+    elim (nat_eq redelivery_count 0) as (λ b. size_bound (number 1 consumer_id ∷ content 2 (message_spelling (id_fields id)) ∷ cond b [] (number 3 redelivery_count ∷ [])) ≤ 65600) [
+      | true ↦ omega arith
+      | false ↦ omega arith
+    ]
+bounded (Success request_id) h = omega arith
 bounded (Error request_id error) h = let short = name-short error in omega arith
 bounded (ProducerSuccess request_id producer_name) h = let short : length producer_name ≤ 65535 = h.1 in omega arith
 bounded Pong h = omega arith
+bounded (AckResponse consumer_id None request_id) h = omega arith
+bounded (AckResponse consumer_id (Some error) request_id) h = let short = name-short error in omega arith
 
 pub short-fields : (reply : Reply) → IsBuilt reply → length (reply_fields reply) ≤ 65600
 short-fields reply h =
@@ -201,14 +229,28 @@ error_in k =
     else if k == 19 then ConsumerAssignError
     else NotAllowedError
 
+-- the number of the first field
+abbrev first_number : List Field → ℕ
+first_number [] = 0
+first_number (field ∷ fields) = field.number
+
+-- an acknowledgement's answer: refused where field 4 comes next
+abbrev answer_in : List Field → Reply
+answer_in fields =
+    if first_number (behind fields) == 4 then AckResponse (number_in (first fields)) (Some (error_in (number_in (first (behind fields))))) (number_in (first (behind (behind (behind fields)))))
+    else AckResponse (number_in (first fields)) None (number_in (first (behind fields)))
+
 -- the reply of a type and its fields
 abbrev reply_in : ℕ → List Field → Reply
 reply_in k fields =
     if k == 3 then Connected
     else if k == 7 then SendReceipt (number_in (first fields)) (number_in (first (behind fields))) (id_in (fields_of (bytes_in (first (behind (behind fields))))))
     else if k == 8 then SendError (number_in (first fields)) (number_in (first (behind fields))) (error_in (number_in (first (behind (behind fields)))))
+    else if k == 9 then Message (number_in (first fields)) (id_in (fields_of (bytes_in (first (behind fields))))) (number_in (first (behind (behind fields))))
+    else if k == 13 then Success (number_in (first fields))
     else if k == 14 then Error (number_in (first fields)) (error_in (number_in (first (behind fields))))
     else if k == 17 then ProducerSuccess (number_in (first fields)) (bytes_in (first (behind fields)))
+    else if k == 38 then answer_in fields
     else Pong
 
 error-is : (error : ServerError) → error_in (error_code error) ≡ error
@@ -226,14 +268,28 @@ id-is : (id : MessageId) → id.ledger_id < 2 ^ 64 → id.entry_id < 2 ^ 64 → 
 unfolding number_in
 id-is id h k = ap id_in ((reads_whole (message_spelling (id_fields id)) (id_fields id)).1 (messages (id_fields id) (id-writable id h k)))
 
+-- a count of 0 isn't written
+count-is : (count : ℕ) → number_in (first (count_fields count)) ≡ count
+unfolding number_in
+count-is count =
+    elim (nat_eq count 0) as (λ b. nat_eq count 0 ≡ b → number_in (first (cond b [] (number 3 count ∷ []))) ≡ count) [
+      | true ↦ λ e. sym (eqb-true count 0 e)
+      | false ↦ λ e. refl
+    ] refl
+
 reply-is : (reply : Reply) → IsBuilt reply → reply_in (reply_type reply) (fields_in reply) ≡ reply
 unfolding fields_in number_in bytes_in
 reply-is Connected h = refl
 reply-is (SendReceipt producer_id sequence_id id) h = ap (λ i. SendReceipt producer_id sequence_id i) (id-is id h.2 h.3)
 reply-is (SendError producer_id sequence_id error) h = ap (λ e. SendError producer_id sequence_id e) (error-is error)
+reply-is (Message consumer_id id redelivery_count) h =
+    ap (λ i. Message consumer_id i (number_in (first (count_fields redelivery_count)))) (id-is id h.1 h.2) ∙ ap (λ n. Message consumer_id id n) (count-is redelivery_count)
+reply-is (Success request_id) h = refl
 reply-is (Error request_id error) h = ap (λ e. Error request_id e) (error-is error)
 reply-is (ProducerSuccess request_id producer_name) h = refl
 reply-is Pong h = refl
+reply-is (AckResponse consumer_id None request_id) h = refl
+reply-is (AckResponse consumer_id (Some error) request_id) h = ap (λ e. AckResponse consumer_id (Some e) request_id) (error-is error)
 
 pub tells_replies : TellsReplies
 unfolding number_in bytes_in

@@ -1,5 +1,5 @@
 -- A search over the fields of a message: each field of the number changes what was found.
-use Rattle.std.proofs.Common.{◌≡◌, ◌≢◌, ℕ, List, [], ◌∷◌, ◌++◌, Ok, Err, Result, Option, Some, None, unwrap_or, true, false, nat_eq, is_ok, is_some, length, ◌<◌, refl, ap, ◌∙◌, sym, arith, append_assoc, append-nil}
+use Rattle.std.proofs.Common.{◌≡◌, ◌≢◌, ℕ, List, [], ◌∷◌, ◌++◌, Ok, Err, Result, Option, Some, None, unwrap_or, Bool, true, false, cond, ◌||◌, nat_eq, is_ok, is_some, length, ◌<◌, refl, ap, ◌∙◌, sym, arith, append_assoc, append-nil}
 use Rattle.std.specs.List.{fold, flat_map}
 use Rattle.std.specs.Result.{result_unwrap_or}
 use Rattle.std.proofs.lemmas.Bool.Decides.{nat_tests}
@@ -14,7 +14,7 @@ use Rattle.proto_fields.specs.Reading.{◌>>=◌ as ◌>=>◌}
 use Rattle.commands.specs.declared.fault.CommandFault.{CommandFault}
 use Rattle.commands.specs.declared.fault.CommandFault.TheVariants.{Unreadable}
 use Rattle.commands.specs.Reading.{◌>>=◌, readable}
-use Rattle.commands.specs.Message.{message_fields, known_fields, in_message, occurrences, last, last_field, joined, varint_of, content_of, message_field}
+use Rattle.commands.specs.Message.{message_fields, known_fields, in_message, occurrences, last, last_field, joined, varint_of, content_of, message_field, has_field}
 
 -- the first field in front of the others
 abbrev pub with_first : Field → Result (List Field) CommandFault → Result (List Field) CommandFault
@@ -174,6 +174,74 @@ joined-in number (Err e) = refl
 pub search-joined : (number : ℕ) (bytes : List ℕ) →
     found_in content_of number longer None (message_fields bytes) ≡ in_message (message_field number) bytes
 search-joined number bytes = joined-in number (message_fields bytes)
+
+-- one more part behind the others
+abbrev pub with_part : List (List ℕ) → List ℕ → List (List ℕ)
+with_part found part = found ++ part ∷ []
+
+fold-with_part : (done parts : List (List ℕ)) → fold with_part done parts ≡ done ++ parts
+fold-with_part done [] = sym (append-nil done)
+fold-with_part done (part ∷ parts) = fold-with_part (done ++ part ∷ []) parts ∙ append_assoc done (part ∷ []) parts
+
+parts-found : (r : Result (List (List ℕ)) CommandFault) → (r >>= λ xs. Ok (fold with_part [] xs)) ≡ r
+parts-found (Ok xs) = ap (λ x. Ok x) (fold-with_part [] xs)
+parts-found (Err e) = refl
+
+parts-in : (number : ℕ) (r : Result (List Field) CommandFault) → found_in content_of number with_part [] r ≡ (r >>= occurrences content_of number)
+parts-in number (Ok fields) = parts-found (occurrences content_of number fields)
+parts-in number (Err e) = refl
+
+-- the search for the parts of a repeated field
+pub search-parts : (number : ℕ) (bytes : List ℕ) →
+    found_in content_of number with_part [] (message_fields bytes) ≡ in_message (occurrences content_of number) bytes
+search-parts number bytes = parts-in number (message_fields bytes)
+
+-- a value of whatever wire type
+abbrev pub any_of : Value → Result (Unit {0}) CommandFault
+any_of value = Ok tt
+
+-- one is there
+abbrev pub seen : Bool → Unit {0} → Bool
+seen found x = true
+
+fold-seen : (xs : List (Unit {0})) → fold seen true xs ≡ true
+fold-seen [] = refl
+fold-seen (x ∷ xs) = fold-seen xs
+
+one-seen : (r : Result (List (Unit {0})) CommandFault) (found : Bool) → is_ok r ≡ true →
+    ((r >>= λ others. Ok (tt ∷ others)) >>= λ xs. Ok (fold seen found xs)) ≡ Ok true
+one-seen (Ok xs) found h = ap (λ b. Ok b) (fold-seen xs)
+one-seen (Err e) found h = cc
+
+any-read : (number : ℕ) (fields : List Field) → is_ok (occurrences any_of number fields) ≡ true
+unfolding occurrences
+any-read number [] = refl
+any-read number (field ∷ fields) =
+    let others = any-read number fields in
+    elim (nat_eq field.number number) as (λ b. is_ok (cond b (occurrences any_of number fields >>= λ others. Ok (tt ∷ others)) (occurrences any_of number fields)) ≡ true) [
+      | true ↦ elim (occurrences any_of number fields) as (λ r. is_ok r ≡ true → is_ok (r >>= λ others. Ok (tt ∷ others)) ≡ true) [ Ok xs ↦ λ h. refl | Err e ↦ λ h. h ] others
+      | false ↦ others
+    ]
+
+has-found : (number : ℕ) (fields : List Field) → (occurrences any_of number fields >>= λ xs. Ok (fold seen false xs)) ≡ Ok (has_field number fields)
+unfolding occurrences
+has-found number [] = refl
+has-found number (field ∷ fields) =
+    let read = any-read number fields in
+    let others = has-found number fields in
+    elim (nat_eq field.number number) as (λ b. (cond b (occurrences any_of number fields >>= λ others. Ok (tt ∷ others)) (occurrences any_of number fields) >>= λ xs. Ok (fold seen false xs)) ≡ Ok (b || has_field number fields)) [
+      | true ↦ one-seen (occurrences any_of number fields) false read
+      | false ↦ others
+    ]
+
+has-in : (number : ℕ) (r : Result (List Field) CommandFault) → found_in any_of number seen false r ≡ (r >>= λ fields. Ok (has_field number fields))
+has-in number (Ok fields) = has-found number fields
+has-in number (Err e) = refl
+
+-- the search for a field of whatever wire type
+pub search-has : (number : ℕ) (bytes : List ℕ) →
+    found_in any_of number seen false (message_fields bytes) ≡ in_message (λ fields. Ok (has_field number fields)) bytes
+search-has number bytes = has-in number (message_fields bytes)
 
 -- the bytes are a message exactly where the rest is one
 pub record Read (bytes rest : List ℕ) : Type 0 where

@@ -5,19 +5,23 @@ use Rattle.commands.specs.declared.fault.CommandFault.{CommandFault}
 use Rattle.commands.specs.declared.command.Command.{Command}
 use Rattle.commands.specs.declared.command.Command.TheVariants as command
 use Rattle.commands.specs.declared.command.CommandType.{CommandType}
-use Rattle.commands.specs.declared.command.CommandType.TheVariants.{Connect, Producer, Send, Ping, Pong}
+use Rattle.commands.specs.declared.command.CommandType.TheVariants.{Connect, Subscribe, Producer, Send, Ack, Flow, Ping, Pong}
 use Rattle.commands.specs.Reading.{◌>>=◌, required, present}
 use Rattle.commands.specs.Message.{message_fields, u64_field, message_field}
 use Rattle.commands.specs.Connection.{connect_of, empty_of}
 use Rattle.commands.specs.Producing.{producer_of, send_of}
+use Rattle.commands.specs.Consuming.{subscribe_of, ack_of, flow_of}
 pub use Rattle.commands.specs.Metadata.{size_at, entry_of}
 
 -- the client commands by their numbers
 abbrev pub command_type : ℕ → Option CommandType
 command_type k =
     if k == 2 then Some Connect
+    else if k == 4 then Some Subscribe
     else if k == 5 then Some Producer
     else if k == 6 then Some Send
+    else if k == 10 then Some Ack
+    else if k == 11 then Some Flow
     else if k == 18 then Some Ping
     else if k == 19 then Some Pong
     else None
@@ -25,8 +29,11 @@ command_type k =
 -- the command of this type, by its field's bytes
 unfoldable pub command_in : CommandType → List ℕ → Result Command CommandFault
 command_in Connect body = connect_of body >>= λ c. Ok (command.Connect c)
+command_in Subscribe body = subscribe_of body >>= λ c. Ok (command.Subscribe c)
 command_in Producer body = producer_of body >>= λ c. Ok (command.Producer c)
 command_in Send body = send_of body >>= λ c. Ok (command.Send c)
+command_in Ack body = ack_of body >>= λ c. Ok (command.Ack c)
+command_in Flow body = flow_of body >>= λ c. Ok (command.Flow c)
 command_in Ping body = empty_of body >>= λ c. Ok command.Ping
 command_in Pong body = empty_of body >>= λ c. Ok command.Pong
 

@@ -1,5 +1,5 @@
 -- What holds of commands and replies, in the words of the standard.
-use Rattle.std.specs.Prelude.{◌≡◌, ◌≢◌, ◌<◌, ◌≤◌, ◌^◌, ◌↔◌, ◌==◌, ℕ, List, [], ◌∷◌, ◌++◌, length, map, filter, Some, None, MatchOption, IsSome, Result, Ok, Err, IsOk, All, ⊤}
+use Rattle.std.specs.Prelude.{◌≡◌, ◌≢◌, ◌<◌, ◌≤◌, ◌^◌, ◌↔◌, ◌==◌, ℕ, List, [], ◌∷◌, ◌++◌, length, map, filter, Some, None, MatchOption, IsSome, Result, Ok, Err, IsOk, All, false, ⊤}
 use Rattle.std.specs.Int.{w32, from_be_bytes}
 use Rattle.std.specs.List.Sorted.{IsStrictlyIncreasing}
 use Rattle.std.specs.Result.{result_unwrap_or}
@@ -14,8 +14,10 @@ use Rattle.commands.specs.declared.command.Command.{Command}
 use Rattle.commands.specs.declared.command.Command.TheVariants.{Other}
 use Rattle.commands.specs.declared.metadata.MessageMeta.{MessageMeta}
 use Rattle.commands.specs.declared.reply.Reply.{Reply}
-use Rattle.commands.specs.declared.reply.Reply.TheVariants.{Connected, SendReceipt, SendError, Error, ProducerSuccess, Pong}
-use Rattle.commands.specs.Message.{varint_of, content_of, u64_field, bytes_field, message_field}
+use Rattle.commands.specs.declared.reply.Reply.TheVariants.{Connected, SendReceipt, SendError, Message, Success, Error, ProducerSuccess, Pong, AckResponse}
+use Rattle.commands.specs.Message.{varint_of, content_of, u64_field, bytes_field, message_field, repeated_field, has_field}
+use Rattle.commands.specs.MessageIds.{message_id_of}
+use Rattle.commands.specs.KeyShared.{int_range_of}
 use Rattle.commands.specs.Metadata.{meta_of, entry_of}
 use Rattle.commands.specs.Commands.{command_type, command_in, command_of}
 use Rattle.commands.specs.Replies.{number, content, message_spelling, reply_type, fields_in, reply_fields, spelling}
@@ -48,9 +50,12 @@ abbrev pub IsBuilt : Reply → Type 0
 IsBuilt Connected = ⊤
 IsBuilt (SendReceipt producer_id sequence_id id) = (producer_id < 2 ^ 64) × (sequence_id < 2 ^ 64) × (id.ledger_id < 2 ^ 64) × (id.entry_id < 2 ^ 64)
 IsBuilt (SendError producer_id sequence_id error) = (producer_id < 2 ^ 64) × (sequence_id < 2 ^ 64)
+IsBuilt (Message consumer_id id redelivery_count) = (consumer_id < 2 ^ 64) × (id.ledger_id < 2 ^ 64) × (id.entry_id < 2 ^ 64) × (redelivery_count < 2 ^ 32)
+IsBuilt (Success request_id) = request_id < 2 ^ 64
 IsBuilt (Error request_id error) = request_id < 2 ^ 64
 IsBuilt (ProducerSuccess request_id producer_name) = (request_id < 2 ^ 64) × (length producer_name ≤ 65535)
 IsBuilt Pong = ⊤
+IsBuilt (AckResponse consumer_id error request_id) = (consumer_id < 2 ^ 64) × (request_id < 2 ^ 64)
 
 -- the bytes of a reply tell which reply it is
 abbrev pub TellsReplies : Type 0
@@ -85,7 +90,17 @@ pub record IsJoined (k : ℕ) (fields : List Field) (body : List ℕ) : Type 0 w
   pub kinds : All (λ field. field.number ≡ k → IsOk (content_of field.value)) fields
   pub body_is : body ≡ flat_map content_in (of_number k fields)
 
--- of a scalar the last occurrence counts, of an embedded message all of them
+-- the contents of the fields of this number, in order; each of them has the wire type
+pub record IsListed (k : ℕ) (fields : List Field) (parts : List (List ℕ)) : Type 0 where
+  pub kinds : All (λ field. field.number ≡ k → IsOk (content_of field.value)) fields
+  pub parts_are : parts ≡ map content_in (of_number k fields)
+
+-- a repeated field has the values of its contents, each by itself, in order
+abbrev pub ReadsEach : {A : Type 0} → (List ℕ → Result A CommandFault) → Type 0
+ReadsEach {A} read = (k : ℕ) (values : List A) (fields : List Field) →
+    (repeated_field read k fields ≡ Ok values) ↔ ((parts : List (List ℕ)) × IsListed k fields parts × (map read parts ≡ map (λ value. Ok value) values))
+
+-- of a scalar the last occurrence counts, of an embedded message all of them as one, of a repeated one each by itself
 pub record ReadsOccurrences : Type 0 where
   pub numbers : (k n : ℕ) (fields : List Field) → (u64_field k fields ≡ Ok (Some n)) ↔ IsLast varint_of k fields n
   pub contents : (k : ℕ) (bytes : List ℕ) (fields : List Field) → (bytes_field k fields ≡ Ok (Some bytes)) ↔ IsLast content_of k fields bytes
@@ -93,6 +108,9 @@ pub record ReadsOccurrences : Type 0 where
   pub no_number : (k : ℕ) (fields : List Field) → (u64_field k fields ≡ Ok None) ↔ IsAbsent k fields
   pub no_content : (k : ℕ) (fields : List Field) → (bytes_field k fields ≡ Ok None) ↔ IsAbsent k fields
   pub no_message : (k : ℕ) (fields : List Field) → (message_field k fields ≡ Ok None) ↔ IsAbsent k fields
+  pub message_ids : ReadsEach message_id_of
+  pub ranges : ReadsEach int_range_of
+  pub not_there : (k : ℕ) (fields : List Field) → (has_field k fields ≡ false) ↔ IsAbsent k fields
 
 -- the bytes are these fields, and their last type is k
 pub record IsOfType (k : ℕ) (bytes : List ℕ) (fields : List Field) : Type 0 where

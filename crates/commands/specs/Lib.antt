@@ -3,6 +3,9 @@ pub mod Content
 pub mod Message
 pub mod Connection
 pub mod Producing
+pub mod MessageIds
+pub mod KeyShared
+pub mod Consuming
 pub mod Metadata
 pub mod Commands
 pub mod Replies

@@ -1,7 +1,7 @@
 -- The values of a message's fields, by number and kind.
-use Rattle.std.specs.Prelude.{◌^◌, ◌-◌, ℕ, List, [], ◌∷◌, Option, Some, None, unwrap_or, Result, Ok, Err, nat_lt, nat_le, ◌==◌, ◌||◌, if◌then◌else◌, ℤ}
+use Rattle.std.specs.Prelude.{◌^◌, ◌-◌, ℕ, List, [], ◌∷◌, Option, Some, None, unwrap_or, Result, Ok, Err, Bool, true, false, nat_lt, nat_le, ◌==◌, ◌||◌, if◌then◌else◌, ℤ}
 use Rattle.std.specs.Result.{result_unwrap_or}
-use Rattle.std.specs.List.{flat_map}
+use Rattle.std.specs.List.{flat_map, list_any}
 use Rattle.std.specs.Int.{w64, cast_signed}
 use Rattle.std.specs.Str.{is_utf8}
 use Rattle.proto_fields.specs.declared.value.Field.{Field}
@@ -75,6 +75,31 @@ abbrev pub kept : {A B : Type 0} → (A → Result B CommandFault) → Option A 
 kept read None = Ok None
 kept read (Some x) = read x >>= λ value. Ok (Some value)
 
+-- the value of an embedded message, if there is one
+unfoldable pub message_value_field : {A : Type 0} → (List ℕ → Result A CommandFault) → ℕ → List Field → Result (Option A) CommandFault
+message_value_field read number fields = message_field number fields >>= kept read
+
+-- each of them read, in order
+abbrev pub each : {A : Type 0} → (List ℕ → Result A CommandFault) → List (List ℕ) → Result (List A) CommandFault
+each read [] = Ok []
+each read (part ∷ parts) = read part >>= λ first. each read parts >>= λ others. Ok (first ∷ others)
+
+-- the values of a repeated field of embedded messages, each occurrence read by itself
+unfoldable pub repeated_field : {A : Type 0} → (List ℕ → Result A CommandFault) → ℕ → List Field → Result (List A) CommandFault
+repeated_field read number fields = occurrences content_of number fields >>= each read
+
+-- whether there is a field of this number, of whatever wire type
+abbrev pub has_field : ℕ → List Field → Bool
+has_field number fields = list_any (λ field. field.number == number) fields
+
+-- 32 bits
+abbrev pub as_u32 : ℕ → Result ℕ CommandFault
+as_u32 n = if nat_lt n (2 ^ 32) then Ok n else Err Unreadable
+
+-- 0 or 1
+abbrev pub as_bool : ℕ → Result Bool CommandFault
+as_bool n = if n == 0 then Ok false else if n == 1 then Ok true else Err Unreadable
+
 -- the 64 bits as two's complement, from -2^31 to 2^31 - 1
 abbrev pub as_i32 : ℕ → Result ℤ CommandFault
 as_i32 n = if nat_lt n (2 ^ 31) || nat_le (2 ^ 64 - 2 ^ 31) n then Ok (cast_signed w64 n) else Err Unreadable
@@ -82,6 +107,12 @@ as_i32 n = if nat_lt n (2 ^ 31) || nat_le (2 ^ 64 - 2 ^ 31) n then Ok (cast_sign
 -- text
 abbrev pub as_text : List ℕ → Result (List ℕ) CommandFault
 as_text bytes = if is_utf8 bytes then Ok bytes else Err Unreadable
+
+unfoldable pub u32_field : ℕ → List Field → Result (Option ℕ) CommandFault
+u32_field number fields = u64_field number fields >>= kept as_u32
+
+unfoldable pub bool_field : ℕ → List Field → Result (Option Bool) CommandFault
+bool_field number fields = u64_field number fields >>= kept as_bool
 
 unfoldable pub i32_field : ℕ → List Field → Result (Option ℤ) CommandFault
 i32_field number fields = u64_field number fields >>= kept as_i32

@@ -1,5 +1,5 @@
 -- The one spelling of each reply: its fields by rising number.
-use Rattle.std.specs.Prelude.{ℕ, ◌+◌, ◌*◌, List, [], ◌∷◌, ◌++◌, codes}
+use Rattle.std.specs.Prelude.{ℕ, ◌+◌, ◌*◌, List, [], ◌∷◌, ◌++◌, Option, Some, None, codes, ◌==◌, if◌then◌else◌}
 use Rattle.std.specs.List.{flat_map}
 use Rattle.std.specs.Int.{w32, w64, to_le_bytes}
 use Rattle.proto_fields.specs.declared.value.Field.{Field}
@@ -7,8 +7,8 @@ use Rattle.proto_fields.specs.declared.value.Value.{Value}
 use Rattle.proto_fields.specs.declared.value.Value.TheVariants.{Varint, Fixed64, Bytes, Fixed32}
 use Rattle.proto_fields.specs.Spelling.{varint, number_field, bytes_field}
 use Rattle.commands.specs.declared.reply.Reply.{Reply}
-use Rattle.commands.specs.declared.reply.Reply.TheVariants.{Connected, SendReceipt, SendError, Error, ProducerSuccess, Pong}
-use Rattle.commands.specs.declared.reply.MessageId.{MessageId}
+use Rattle.commands.specs.declared.reply.Reply.TheVariants.{Connected, SendReceipt, SendError, Message, Success, Error, ProducerSuccess, Pong, AckResponse}
+use Rattle.ids.specs.declared.message_id.MessageId.{MessageId}
 use Rattle.commands.specs.declared.server_error.ServerError.{ServerError}
 use Rattle.commands.specs.declared.server_error.ServerError.TheVariants.{PersistenceError, ConsumerBusy, ChecksumError, ConsumerNotFound, TooManyRequests, ProducerBusy, InvalidTopicName, ConsumerAssignError, NotAllowedError}
 
@@ -67,18 +67,33 @@ abbrev pub reply_type : Reply → ℕ
 reply_type Connected = 3
 reply_type (SendReceipt producer_id sequence_id id) = 7
 reply_type (SendError producer_id sequence_id error) = 8
+reply_type (Message consumer_id id redelivery_count) = 9
+reply_type (Success request_id) = 13
 reply_type (Error request_id error) = 14
 reply_type (ProducerSuccess request_id producer_name) = 17
 reply_type Pong = 19
+reply_type (AckResponse consumer_id error request_id) = 38
+
+-- how often a message was sent before, unless it is the first time
+abbrev pub count_fields : ℕ → List Field
+count_fields count = if count == 0 then [] else (number 3 count ∷ [])
+
+-- the error of a refused acknowledgement
+abbrev pub refusal_fields : Option ServerError → List Field
+refusal_fields None = []
+refusal_fields (Some error) = number 4 (error_code error) ∷ content 5 (error_name error) ∷ []
 
 -- the fields of a reply
 unfoldable pub fields_in : Reply → List Field
 fields_in Connected = content 1 (codes "node-1") ∷ number 2 5 ∷ number 3 1048576 ∷ []
 fields_in (SendReceipt producer_id sequence_id id) = number 1 producer_id ∷ number 2 sequence_id ∷ content 3 (message_spelling (id_fields id)) ∷ []
 fields_in (SendError producer_id sequence_id error) = number 1 producer_id ∷ number 2 sequence_id ∷ number 3 (error_code error) ∷ content 4 (error_name error) ∷ []
+fields_in (Message consumer_id id redelivery_count) = number 1 consumer_id ∷ content 2 (message_spelling (id_fields id)) ∷ count_fields redelivery_count
+fields_in (Success request_id) = number 1 request_id ∷ []
 fields_in (Error request_id error) = number 1 request_id ∷ number 2 (error_code error) ∷ content 3 (error_name error) ∷ []
 fields_in (ProducerSuccess request_id producer_name) = number 1 request_id ∷ content 2 producer_name ∷ []
 fields_in Pong = []
+fields_in (AckResponse consumer_id error request_id) = number 1 consumer_id ∷ (refusal_fields error ++ number 6 request_id ∷ [])
 
 -- the bytes of a reply's fields
 abbrev pub reply_fields : Reply → List ℕ

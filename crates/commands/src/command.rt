@@ -3,6 +3,7 @@ ghost use Rattle.commands.specs.Reading.{Reads};
 ghost use Rattle.commands.specs.Commands.{command_type, command_in, command_of};
 
 use crate::connection::{Connect, read_connect, read_empty};
+use crate::consuming::{Ack, Flow, Subscribe, read_ack, read_flow, read_subscribe};
 use crate::fault::CommandFault;
 use crate::kinds::required;
 use crate::message::Message;
@@ -13,8 +14,11 @@ use std::alloc::Global;
 #[derive(Drop)]
 pub enum Command {
     Connect(Connect),
+    Subscribe(Subscribe),
     Producer(Producer),
     Send(Send),
+    Ack(Ack),
+    Flow(Flow),
     Ping,
     Pong,
     /// A command of another type, of which nothing but the type is read.
@@ -25,8 +29,11 @@ pub enum Command {
 #[derive(Clone, Copy)]
 enum CommandType {
     Connect,
+    Subscribe,
     Producer,
     Send,
+    Ack,
+    Flow,
     Ping,
     Pong,
 }
@@ -36,8 +43,11 @@ fn command_type(number: u64) -> Option<CommandType>
 {
     match number {
         2 => Some(CommandType::Connect),
+        4 => Some(CommandType::Subscribe),
         5 => Some(CommandType::Producer),
         6 => Some(CommandType::Send),
+        10 => Some(CommandType::Ack),
+        11 => Some(CommandType::Flow),
         18 => Some(CommandType::Ping),
         19 => Some(CommandType::Pong),
         _ => None,
@@ -50,8 +60,11 @@ fn read_body(alloc: Global, kind: CommandType, body: &[u8]) -> Result<Command, C
 {
     match kind {
         CommandType::Connect => Ok(Command::Connect(read_connect(alloc, body)?)),
+        CommandType::Subscribe => Ok(Command::Subscribe(read_subscribe(alloc, body)?)),
         CommandType::Producer => Ok(Command::Producer(read_producer(alloc, body)?)),
         CommandType::Send => Ok(Command::Send(read_send(body)?)),
+        CommandType::Ack => Ok(Command::Ack(read_ack(alloc, body)?)),
+        CommandType::Flow => Ok(Command::Flow(read_flow(body)?)),
         CommandType::Ping => {
             read_empty(body)?;
             Ok(Command::Ping)

@@ -1,6 +1,6 @@
 ghost use Rattle.std.specs.Prelude.{◌≡◌};
 ghost use Rattle.commands.specs.Reading.{Reads, required};
-ghost use Rattle.commands.specs.Message.{varint_of, content_of, as_i32, as_text};
+ghost use Rattle.commands.specs.Message.{varint_of, content_of, as_u32, as_bool, as_i32, as_text};
 
 use crate::fault::CommandFault;
 use crate::text::Text;
@@ -34,6 +34,28 @@ pub fn content_of<'a>(value: &Value<'a>) -> Result<ByteSlice<'a>, CommandFault>
     match value {
         Value::Bytes(content) => Ok(ByteSlice::new(content.as_slice())),
         Value::Varint(_) | Value::Fixed64(_) | Value::Fixed32(_) => Err(CommandFault::Unreadable),
+    }
+}
+
+/// The number, where it has 32 bits.
+pub fn as_u32(value: u64) -> Result<u32, CommandFault>
+    ensures { result ≡ as_u32 value }
+{
+    if value < 1 << 32 {
+        Ok(value as u32)
+    } else {
+        Err(CommandFault::Unreadable)
+    }
+}
+
+/// The truth value, which is 0 or 1.
+pub fn as_bool(value: u64) -> Result<bool, CommandFault>
+    ensures { result ≡ as_bool value }
+{
+    match value {
+        0 => Ok(false),
+        1 => Ok(true),
+        _ => Err(CommandFault::Unreadable),
     }
 }
 

@@ -1,7 +1,8 @@
 ghost use Rattle.commands.specs.Laws.{ReadsOccurrences, ReadsCommands, ReadsEntries, SpellsFields, TellsReplies};
 
 /// Of a scalar the last occurrence counts; the occurrences of an embedded message are read as one (Protocol
-/// Buffers encoding guide, Last One Wins). Each occurrence must have the wire type.
+/// Buffers encoding guide, Last One Wins), and those of a repeated field each by itself, in order (Repeated
+/// Elements). Each occurrence must have the wire type.
 pub fn reads_occurrences()
     ensures { ReadsOccurrences }
 {}

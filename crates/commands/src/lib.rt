@@ -5,11 +5,14 @@
 
 mod command;
 mod connection;
+mod consuming;
 mod content;
 mod fault;
+mod key_shared;
 mod kinds;
 mod laws;
 mod message;
+mod message_ids;
 mod metadata;
 mod producing;
 mod reply;
@@ -21,11 +24,14 @@ mod writing;
 
 pub use command::{Command, read_command};
 pub use connection::Connect;
+pub use consuming::{Ack, AckType, Flow, InitialPosition, Subscribe, SubscriptionType};
 pub use fault::CommandFault;
+pub use ids::{MessageId, MessageIdData};
+pub use key_shared::{IntRange, KeySharedMeta, KeySharedMode};
 pub use laws::{reads_commands, reads_entries, reads_occurrences, spells_fields, tells_replies};
 pub use metadata::{MessageMeta, read_entry, read_meta, size_at};
 pub use producing::{Producer, Send};
-pub use reply::{MessageId, Reply};
+pub use reply::Reply;
 pub use reply_text::ReplyText;
 pub use sequence::Sequence;
 pub use server_error::ServerError;

@@ -1,10 +1,10 @@
-ghost use Rattle.std.specs.Prelude.{◌≡◌, ◌++◌, [], IfOk, unwrap_or};
+ghost use Rattle.std.specs.Prelude.{◌≡◌, ◌++◌, [], IfOk, Ok, unwrap_or};
 ghost use Rattle.commands.specs.Reading.{Reads};
-ghost use Rattle.commands.specs.Message.{in_message, u64_field, bytes_field, message_field};
+ghost use Rattle.commands.specs.Message.{in_message, u64_field, bytes_field, message_field, has_field, occurrences, content_of};
 
 use crate::content::Content;
 use crate::fault::CommandFault;
-use crate::kinds::{as_i32, as_text, content_of, varint_of};
+use crate::kinds::{as_bool, as_i32, as_text, as_u32, content_of, varint_of};
 use crate::sequence::Sequence;
 use crate::text::Text;
 use proto_fields::{ByteSlice, Fields};
@@ -31,9 +31,9 @@ impl<'a> Model for Message<'a> {
 }
 
 impl<'a> Message<'a> {
-    ghost use Rattle.std.specs.Prelude.{◌≡◌};
+    ghost use Rattle.std.specs.Prelude.{◌≡◌, Ok};
     ghost use Rattle.commands.specs.Reading.{Reads};
-    ghost use Rattle.commands.specs.Message.{message_fields, u64_field, i32_field, i64_field, bytes_field, text_field, message_field};
+    ghost use Rattle.commands.specs.Message.{message_fields, u64_field, u32_field, bool_field, i32_field, i64_field, bytes_field, text_field, message_field, has_field, occurrences, content_of};
 
     /// The message of these bytes.
     pub fn read(bytes: &'a [u8]) -> Result<Message<'a>, CommandFault>
@@ -49,6 +49,28 @@ impl<'a> Message<'a> {
         ensures { result ≡ u64_field number self.now }
     {
         last_varint(self.bytes, number)
+    }
+
+    /// The number of 32 bits without a sign of a field.
+    #[tactic(auto, unfolding(crate::specs::Message::u32_field))]
+    pub fn u32(&self, number: u32) -> Result<Option<u32>, CommandFault>
+        ensures { result ≡ u32_field number self.now }
+    {
+        match self.u64(number)? {
+            None => Ok(None),
+            Some(value) => Ok(Some(as_u32(value)?)),
+        }
+    }
+
+    /// The truth value of a field.
+    #[tactic(auto, unfolding(crate::specs::Message::bool_field))]
+    pub fn bool(&self, number: u32) -> Result<Option<bool>, CommandFault>
+        ensures { result ≡ bool_field number self.now }
+    {
+        match self.u64(number)? {
+            None => Ok(None),
+            Some(value) => Ok(Some(as_bool(value)?)),
+        }
     }
 
     /// The number of 32 bits of a field.
@@ -99,6 +121,20 @@ impl<'a> Message<'a> {
         ensures { Reads result (message_field number self.now) }
     {
         joined_contents(alloc, self.bytes, number)
+    }
+
+    /// The bytes of each occurrence of an embedded message, in order.
+    pub fn parts(&self, alloc: Global, number: u32) -> Result<Sequence<ByteSlice<'a>>, CommandFault>
+        ensures { Reads result (occurrences content_of number self.now) }
+    {
+        each_content(alloc, self.bytes, number)
+    }
+
+    /// Whether the field is there, of whatever wire type.
+    pub fn has(&self, number: u32) -> Result<bool, CommandFault>
+        ensures { result ≡ Ok (has_field number self.now) }
+    {
+        has_number(self.bytes, number)
     }
 }
 
@@ -159,4 +195,36 @@ fn joined<'a>(
         None => Ok(Content::new(part)),
         Some(content) => content.with(alloc, part.as_slice()),
     }
+}
+
+fn each_content(
+    alloc: Global,
+    bytes: &[u8],
+    number: u32,
+) -> Result<Sequence<ByteSlice<'_>>, CommandFault>
+    ensures { Reads result (in_message (occurrences content_of number) bytes.now) }
+{
+    let mut found = Vec::new(alloc);
+    let mut input = Fields::new(bytes);
+    'fields: while let Some(field) = input.next()? {
+        if field.number != number {
+            continue;
+        }
+        found.push(content_of(&field.value)?)?;
+    }
+    Ok(Sequence::new(found))
+}
+
+fn has_number(bytes: &[u8], number: u32) -> Result<bool, CommandFault>
+    ensures { result ≡ in_message (λ fields. Ok (has_field number fields)) bytes.now }
+{
+    let mut found = false;
+    let mut input = Fields::new(bytes);
+    'fields: while let Some(field) = input.next()? {
+        if field.number != number {
+            continue;
+        }
+        found = true;
+    }
+    Ok(found)
 }

@@ -4,13 +4,7 @@ ghost use Rattle.commands.specs.Replies.{reply_type};
 
 use crate::reply_text::ReplyText;
 use crate::server_error::ServerError;
-
-/// Where an entry stands.
-#[derive(Clone, Copy, Debug, PartialEq, Eq)]
-pub struct MessageId {
-    pub ledger_id: u64,
-    pub entry_id: u64,
-}
+use ids::MessageId;
 
 /// What the broker answers.
 #[derive(Drop)]
@@ -26,6 +20,15 @@ pub enum Reply {
         sequence_id: u64,
         error: ServerError,
     },
+    /// The entry stands behind it.
+    Message {
+        consumer_id: u64,
+        message_id: MessageId,
+        redelivery_count: u32,
+    },
+    Success {
+        request_id: u64,
+    },
     Error {
         request_id: u64,
         error: ServerError,
@@ -35,6 +38,11 @@ pub enum Reply {
         producer_name: ReplyText,
     },
     Pong,
+    AckResponse {
+        consumer_id: u64,
+        error: Option<ServerError>,
+        request_id: u64,
+    },
 }
 
 impl Reply {
@@ -47,9 +55,12 @@ impl Reply {
             Reply::Connected => 3,
             Reply::SendReceipt { .. } => 7,
             Reply::SendError { .. } => 8,
+            Reply::Message { .. } => 9,
+            Reply::Success { .. } => 13,
             Reply::Error { .. } => 14,
             Reply::ProducerSuccess { .. } => 17,
             Reply::Pong => 19,
+            Reply::AckResponse { .. } => 38,
         }
     }
 }

@@ -1,3 +1,4 @@
+mod consuming;
 mod plain;
 
 use super::*;
@@ -61,8 +62,11 @@ fn is_connect(
         Command::Connect(connect) => Ok(
             connect.client_version.as_str() == version && connect.protocol_version == protocol,
         ),
-        Command::Producer(_)
+        Command::Subscribe(_)
+        | Command::Producer(_)
         | Command::Send(_)
+        | Command::Ack(_)
+        | Command::Flow(_)
         | Command::Ping
         | Command::Pong
         | Command::Other(_) => { Ok(false) }
@@ -73,7 +77,10 @@ fn sent(alloc: Global, text: &str) -> Result<Option<(u64, u64, i32)>, CommandFau
     match command_of(alloc, text)? {
         Command::Send(send) => Ok(Some((send.producer_id, send.sequence_id, send.num_messages))),
         Command::Connect(_)
+        | Command::Subscribe(_)
         | Command::Producer(_)
+        | Command::Ack(_)
+        | Command::Flow(_)
         | Command::Ping
         | Command::Pong
         | Command::Other(_) => { Ok(None) }
@@ -86,7 +93,12 @@ fn kind(alloc: Global, text: &str) -> Result<Option<u64>, CommandFault> {
         Command::Other(number) => Ok(Some(number)),
         Command::Ping => Ok(Some(18)),
         Command::Pong => Ok(Some(19)),
-        Command::Connect(_) | Command::Producer(_) | Command::Send(_) => Ok(None),
+        Command::Connect(_)
+        | Command::Subscribe(_)
+        | Command::Producer(_)
+        | Command::Send(_)
+        | Command::Ack(_)
+        | Command::Flow(_) => { Ok(None) }
     }
 }
 
@@ -104,7 +116,10 @@ fn is_producer(
                 && producer.producer_name.as_ref().map(Text::as_str) == name,
         ),
         Command::Connect(_)
+        | Command::Subscribe(_)
         | Command::Send(_)
+        | Command::Ack(_)
+        | Command::Flow(_)
         | Command::Ping
         | Command::Pong
         | Command::Other(_) => { Ok(false) }
@@ -161,9 +176,8 @@ fn types(rt: HostRuntime) -> Result<(), Fail> {
         kind(alloc, "08 ff ff ff ff ff ff ff ff ff 01")?,
         Some(u64::MAX)
     );
-    let subscribe =
-        "08 04 22 1f 0a 12 70 65 72 73 69 73 74 65 6e 74 3a 2f 2f 61 2f 62 2f 63 12 01 73 18 00 20 02 28 08 68 01";
-    assert_eq!(rt; kind(alloc, subscribe)?, Some(4));
+    let unsubscribe = "08 0c 62 04 08 02 10 08";
+    assert_eq!(rt; kind(alloc, unsubscribe)?, Some(12));
     Ok(())
 }
 
@@ -398,6 +412,51 @@ fn writes_answers_to_sends(rt: HostRuntime) -> Result<(), Fail> {
                 error: ServerError::NotAllowedError,
             },
             "ee 08 0e 72 15 08 07 10 16 1a 0f 4e 6f 74 41 6c 6c 6f 77 65 64 45 72 72 6f 72",
+        ),
+    ];
+    for (reply, text) in &rows {
+        assert!(rt; is_written(rt.alloc(), reply, text)?, "{text}");
+    }
+    Ok(())
+}
+
+fn message(entry_id: u64, redelivery_count: u32) -> Reply {
+    Reply::Message {
+        consumer_id: 2,
+        message_id: MessageId {
+            ledger_id: 0,
+            entry_id,
+        },
+        redelivery_count,
+    }
+}
+
+fn ack_response(error: Option<ServerError>) -> Reply {
+    Reply::AckResponse {
+        consumer_id: 2,
+        error,
+        request_id: 9,
+    }
+}
+
+#[test]
+fn writes_answers_to_consumers(rt: HostRuntime) -> Result<(), Fail> {
+    let rows = [
+        (message(0, 0), "ee 08 09 4a 08 08 02 12 04 08 00 10 00"),
+        (message(1, 0), "ee 08 09 4a 08 08 02 12 04 08 00 10 01"),
+        (
+            message(0, 1),
+            "ee 08 09 4a 0a 08 02 12 04 08 00 10 00 18 01",
+        ),
+        (
+            message(0, u32::MAX),
+            "ee 08 09 4a 0e 08 02 12 04 08 00 10 00 18 ff ff ff ff 0f",
+        ),
+        (Reply::Success { request_id: 8 }, "ee 08 0d 6a 02 08 08"),
+        (ack_response(None), "ee 08 26 b2 02 04 08 02 30 09"),
+        (
+            ack_response(Some(ServerError::NotAllowedError)),
+            "ee 08 26 b2 02 17 08 02 20 16 2a 0f 4e 6f 74 41 6c 6c 6f 77 65 64 45 72 72 6f 72 30 09",
         ),
     ];
     for (reply, text) in &rows {

@@ -1,10 +1,11 @@
 ghost use Rattle.std.specs.Prelude.{◌≡◌, ◌+◌, ◌<◌, ◌≤◌, ◌^◌, ◌++◌, take, length, vec_len, OnOk, OnErr};
 ghost use Rattle.proto_fields.specs.Fields.{IsFieldNumber};
 ghost use Rattle.proto_fields.specs.Spelling.{number_field, bytes_field};
-ghost use Rattle.commands.specs.Replies.{error_code, error_name, id_fields, message_spelling, reply_fields, spelling};
+ghost use Rattle.commands.specs.Replies.{error_code, error_name, id_fields, count_fields, refusal_fields, message_spelling, reply_fields, spelling};
 
-use crate::reply::{MessageId, Reply};
+use crate::reply::Reply;
 use crate::server_error::ServerError;
+use ids::MessageId;
 use proto_fields::{put_bytes, put_number};
 use std::alloc::{AllocError, Global};
 
@@ -32,6 +33,26 @@ fn put_message_id(
     put_number(1, id.ledger_id, &mut bytes)?;
     put_number(2, id.entry_id, &mut bytes)?;
     put_bytes(number, bytes.as_slice(), out)
+}
+
+fn put_count(count: u32, out: &mut Vec<u8>) -> Result<(), AllocError>
+    ensures ok { OnOk result (out.new.items ≡ out.old.items ++ message_spelling (count_fields count)) }
+    ensures growth { OnOk result (vec_len out.new ≤ vec_len out.old + 20) }
+{
+    if count == 0 {
+        return Ok(());
+    }
+    put_number(3, u64::from(count), out)
+}
+
+fn put_refusal(error: Option<ServerError>, out: &mut Vec<u8>) -> Result<(), AllocError>
+    ensures ok { OnOk result (out.new.items ≡ out.old.items ++ message_spelling (refusal_fields error)) }
+    ensures growth { OnOk result (vec_len out.new ≤ vec_len out.old + 60) }
+{
+    match error {
+        None => Ok(()),
+        Some(error) => put_error(4, error, out),
+    }
 }
 
 #[tactic(auto, unfolding(crate::specs::Replies::fields_in))]
@@ -63,6 +84,16 @@ fn put_fields(alloc: Global, reply: &Reply, out: &mut Vec<u8>) -> Result<(), All
             put_number(2, *sequence_id, out)?;
             put_error(3, *error, out)
         }
+        Reply::Message {
+            consumer_id,
+            message_id,
+            redelivery_count,
+        } => {
+            put_number(1, *consumer_id, out)?;
+            put_message_id(alloc, 2, *message_id, out)?;
+            put_count(*redelivery_count, out)
+        }
+        Reply::Success { request_id } => put_number(1, *request_id, out),
         Reply::Error { request_id, error } => {
             put_number(1, *request_id, out)?;
             put_error(2, *error, out)
@@ -75,6 +106,15 @@ fn put_fields(alloc: Global, reply: &Reply, out: &mut Vec<u8>) -> Result<(), All
             put_bytes(2, producer_name.as_str().as_bytes(), out)
         }
         Reply::Pong => Ok(()),
+        Reply::AckResponse {
+            consumer_id,
+            error,
+            request_id,
+        } => {
+            put_number(1, *consumer_id, out)?;
+            put_refusal(*error, out)?;
+            put_number(6, *request_id, out)
+        }
     }
 }
 

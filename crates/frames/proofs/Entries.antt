@@ -5,7 +5,7 @@ use Rattle.std.proofs.lemmas.List.{take-append-drop, length-take-le}
 use Rattle.std.proofs.Math.Seq.{take-append_seam, drop-append_seam}
 use Rattle.std.specs.Int.{w32, from_be_bytes}
 use Rattle.commands.specs.declared.command.Command.{Command}
-use Rattle.commands.specs.declared.command.Command.TheVariants.{Connect, Producer, Send, Ping, Pong, Other}
+use Rattle.commands.specs.declared.command.Command.TheVariants.{Connect, Subscribe, Producer, Send, Ack, Flow, Ping, Pong, Other}
 use Rattle.commands.specs.declared.metadata.MessageMeta.{MessageMeta}
 use Rattle.commands.specs.declared.fault.CommandFault.{CommandFault}
 use Rattle.commands.specs.Metadata.{size_at, entry_of}
@@ -154,7 +154,10 @@ unfolding entry_behind
 entry-from (Send c) bytes entry h = send-from bytes entry h
 entry-from (Other k) bytes entry h = sym (same_entry Nothing entry h)
 entry-from (Connect c) bytes entry h = nothing-from bytes entry h
+entry-from (Subscribe c) bytes entry h = nothing-from bytes entry h
 entry-from (Producer c) bytes entry h = nothing-from bytes entry h
+entry-from (Ack c) bytes entry h = nothing-from bytes entry h
+entry-from (Flow c) bytes entry h = nothing-from bytes entry h
 entry-from Ping bytes entry h = nothing-from bytes entry h
 entry-from Pong bytes entry h = nothing-from bytes entry h
 
@@ -164,7 +167,10 @@ unfolding entry_behind
 entry-to (Send c) bytes entry h = send-to bytes entry h
 entry-to (Other k) bytes entry h = ap (λ e. Ok e) (sym h)
 entry-to (Connect c) bytes entry h = nothing-to bytes entry h
+entry-to (Subscribe c) bytes entry h = nothing-to bytes entry h
 entry-to (Producer c) bytes entry h = nothing-to bytes entry h
+entry-to (Ack c) bytes entry h = nothing-to bytes entry h
+entry-to (Flow c) bytes entry h = nothing-to bytes entry h
 entry-to Ping bytes entry h = nothing-to bytes entry h
 entry-to Pong bytes entry h = nothing-to bytes entry h
 
@@ -174,6 +180,9 @@ unfolding entry_behind
 entry-fault (Send c) bytes fault h = send-fault bytes fault h
 entry-fault (Other k) bytes fault h = cc
 entry-fault (Connect c) bytes fault h = nothing-fault bytes fault h
+entry-fault (Subscribe c) bytes fault h = nothing-fault bytes fault h
 entry-fault (Producer c) bytes fault h = nothing-fault bytes fault h
+entry-fault (Ack c) bytes fault h = nothing-fault bytes fault h
+entry-fault (Flow c) bytes fault h = nothing-fault bytes fault h
 entry-fault Ping bytes fault h = nothing-fault bytes fault h
 entry-fault Pong bytes fault h = nothing-fault bytes fault h

@@ -2,7 +2,7 @@
 use Rattle.std.specs.Prelude.{◌≡◌, ◌≢◌, ◌≤◌, ℕ, ◌+◌, List, length, take, drop, Result, Ok, Err, Bool, nat_lt, ◌==◌, ◌&&◌, slice_index, if◌then◌else◌}
 use Rattle.std.specs.Bool.{MatchBool}
 use Rattle.commands.specs.declared.command.Command.{Command}
-use Rattle.commands.specs.declared.command.Command.TheVariants.{Connect, Producer, Send, Ping, Pong, Other}
+use Rattle.commands.specs.declared.command.Command.TheVariants.{Connect, Subscribe, Producer, Send, Ack, Flow, Ping, Pong, Other}
 use Rattle.commands.specs.declared.fault.CommandFault.{CommandFault}
 use Rattle.commands.specs.declared.fault.CommandFault.TheVariants as command
 use Rattle.commands.specs.Commands.{command_of}
@@ -64,7 +64,10 @@ unfoldable pub entry_behind : Command → List ℕ → Result FrameEntry Fault
 entry_behind (Send c) behind = send_entry_of behind
 entry_behind (Other k) behind = Ok Nothing
 entry_behind (Connect c) behind = nothing_of behind
+entry_behind (Subscribe c) behind = nothing_of behind
 entry_behind (Producer c) behind = nothing_of behind
+entry_behind (Ack c) behind = nothing_of behind
+entry_behind (Flow c) behind = nothing_of behind
 entry_behind Ping behind = nothing_of behind
 entry_behind Pong behind = nothing_of behind
 

@@ -100,9 +100,13 @@ fn entry_behind(
     match command {
         Command::Send(_) => send_entry(alloc, frame, start),
         Command::Other(_) => Ok(FrameEntry::Nothing),
-        Command::Connect(_) | Command::Producer(_) | Command::Ping | Command::Pong => nothing(
-            &frame[start..],
-        ),
+        Command::Connect(_)
+        | Command::Subscribe(_)
+        | Command::Producer(_)
+        | Command::Ack(_)
+        | Command::Flow(_)
+        | Command::Ping
+        | Command::Pong => nothing(&frame[start..]),
     }
 }
 

@@ -21,6 +21,10 @@ const SEND: &[u8; 30] =
 const CHECKSUMMED_SEND: &[u8; 33] =
     b"\x00\x00\x00\x1d\x00\x00\x00\x08\x08\x06\x32\x04\x08\x01\x10\x00\x0e\x01\x00\x00\x00\x00\x00\x00\x00\x07\x0a\x01\x70\x10\x00\x18\x01";
 
+/// SUBSCRIBE, FLOW and ACK of consumer 2.
+const CONSUMER: &[u8; 83] =
+    b"\x00\x00\x00\x27\x00\x00\x00\x23\x08\x04\x22\x1f\x0a\x12\x70\x65\x72\x73\x69\x73\x74\x65\x6e\x74\x3a\x2f\x2f\x61\x2f\x62\x2f\x63\x12\x01\x73\x18\x00\x20\x02\x28\x08\x68\x01\x00\x00\x00\x0c\x00\x00\x00\x08\x08\x0b\x5a\x04\x08\x02\x10\x01\x00\x00\x00\x14\x00\x00\x00\x10\x08\x0a\x52\x0c\x08\x02\x10\x00\x1a\x04\x08\x00\x10\x00\x40\x09";
+
 /// Feeds the stream in pieces of this size. Only want of memory is an error.
 fn fed(
     parser: &mut Parser,
@@ -67,8 +71,11 @@ fn is_connect(frame: &Frame) -> bool {
         Command::Connect(connect) => {
             connect.client_version.as_str() == "c" && connect.protocol_version == 5
         }
-        Command::Producer(_)
+        Command::Subscribe(_)
+        | Command::Producer(_)
         | Command::Send(_)
+        | Command::Ack(_)
+        | Command::Flow(_)
         | Command::Ping
         | Command::Pong
         | Command::Other(_) => false,
@@ -97,7 +104,10 @@ fn plain_frame(stream: &[u8]) -> Option<(u8, &[u8], &[u8])> {
 fn is_plain(frame: &Frame, kind: u8, behind: &[u8]) -> bool {
     let same_kind = match &frame.command {
         Command::Connect(_) => kind == 2,
+        Command::Subscribe(_) => kind == 4,
         Command::Send(_) => kind == 6,
+        Command::Ack(_) => kind == 10,
+        Command::Flow(_) => kind == 11,
         Command::Ping => kind == 18,
         Command::Other(other) => *other == u64::from(kind),
         Command::Producer(_) | Command::Pong => false,
@@ -215,6 +225,14 @@ fn connect_and_producer(rt: HostRuntime) -> Result<(), Fail> {
 }
 
 #[test]
+fn subscribe_flow_and_ack(rt: HostRuntime) -> Result<(), Fail> {
+    let (frames, read) = read_both_ways(&rt, rt.alloc(), CONSUMER)?;
+    assert_eq!(rt; read, Ok(()));
+    assert_eq!(rt; frames.len(), 3);
+    are_plain(&rt, frames.as_slice(), CONSUMER, &[])
+}
+
+#[test]
 fn entry_as_it_stands(rt: HostRuntime) -> Result<(), Fail> {
     let (frames, read) = read_both_ways(&rt, rt.alloc(), SEND)?;
     assert_eq!(rt; read, Ok(()));
@@ -325,6 +343,30 @@ fn parts_behind_commands(rt: HostRuntime) -> Result<(), Fail> {
         &rt,
         alloc,
         b"\x00\x00\x00\x10\x00\x00\x00\x08\x08\x06\x32\x04\x08\x01\x10\x00\x00\x00\x00\x01",
+        fault,
+    )
+}
+
+#[test]
+fn parts_behind_the_commands_of_a_consumer(rt: HostRuntime) -> Result<(), Fail> {
+    let alloc = rt.alloc();
+    let fault = Err(Fault::BadPayload);
+    ends(
+        &rt,
+        alloc,
+        b"\x00\x00\x00\x15\x00\x00\x00\x10\x08\x04\x22\x0c\x0a\x01\x74\x12\x01\x73\x18\x00\x20\x02\x28\x08\x00",
+        fault,
+    )?;
+    ends(
+        &rt,
+        alloc,
+        b"\x00\x00\x00\x0d\x00\x00\x00\x08\x08\x0a\x52\x04\x08\x02\x10\x00\x00",
+        fault,
+    )?;
+    ends(
+        &rt,
+        alloc,
+        b"\x00\x00\x00\x0d\x00\x00\x00\x08\x08\x0b\x5a\x04\x08\x02\x10\x01\x00",
         fault,
     )
 }
@@ -495,9 +537,40 @@ fn refusal_of_a_checksum(rt: HostRuntime) -> Result<(), Fail> {
 }
 
 #[test]
-fn reply_with_an_entry(rt: HostRuntime) -> Result<(), Fail> {
+fn success(rt: HostRuntime) -> Result<(), Fail> {
+    let frame = b"\x00\x00\x00\x0a\x00\x00\x00\x06\x08\x0d\x6a\x02\x08\x08";
+    writes(
+        &rt,
+        rt.alloc(),
+        &Reply::Success { request_id: 8 },
+        None,
+        frame,
+    )
+}
+
+#[test]
+fn answer_to_an_ack(rt: HostRuntime) -> Result<(), Fail> {
+    let reply = Reply::AckResponse {
+        consumer_id: 2,
+        error: None,
+        request_id: 9,
+    };
+    let frame = b"\x00\x00\x00\x0d\x00\x00\x00\x09\x08\x26\xb2\x02\x04\x08\x02\x30\x09";
+    writes(&rt, rt.alloc(), &reply, None, frame)
+}
+
+#[test]
+fn message_with_its_entry(rt: HostRuntime) -> Result<(), Fail> {
+    let reply = Reply::Message {
+        consumer_id: 2,
+        message_id: MessageId {
+            ledger_id: 0,
+            entry_id: 0,
+        },
+        redelivery_count: 0,
+    };
     let frame =
-        b"\x00\x00\x00\x17\x00\x00\x00\x05\x08\x13\x9a\x01\x00\x00\x00\x00\x0a\x0a\x01\x70\x10\x00\x18\x01\xc0\x3e\x05";
+        b"\x00\x00\x00\x1e\x00\x00\x00\x0c\x08\x09\x4a\x08\x08\x02\x12\x04\x08\x00\x10\x00\x00\x00\x00\x0a\x0a\x01\x70\x10\x00\x18\x01\xc0\x3e\x05";
     let (_, entry) = SEND.split_at(16);
-    writes(&rt, rt.alloc(), &Reply::Pong, Some(entry), frame)
+    writes(&rt, rt.alloc(), &reply, Some(entry), frame)
 }

@@ -4,23 +4,31 @@ use Rattle.std.proofs.lemmas.Bool.{eqb-true}
 use Rattle.commands.specs.declared.reply.Reply.{Reply}
 use Rattle.commands.specs.declared.reply.Reply.TheVariants.{SendReceipt}
 use Rattle.topic_core.specs.declared.command.Answer.{Answer}
-use Rattle.topic_core.specs.declared.command.Answer.TheVariants.{Now, Later, NoMemory}
+use Rattle.topic_core.specs.declared.command.Answer.TheVariants.{Now, Later, Nothing, NoMemory}
 use Rattle.topic_core.specs.declared.command.Send.{Send}
 use Rattle.topic_core.specs.declared.command.TopicCommand.{TopicCommand}
 use Rattle.topic_core.specs.declared.command.TopicCommand.TheVariants as asked
 use Rattle.topic_core.specs.declared.refusal.Refusal.{Refusal}
 use Rattle.topic_core.specs.declared.refusal.Refusal.TheVariants as refusal
 use Rattle.topic_core.specs.Core.{Core, Topic, next_position}
-use Rattle.topic_core.specs.Replies.{SessionReplies, is_for, is_receipt, message_id_at, due_to, queued, with_pending, collected_from, without_first, make_all_due}
+use Rattle.ids.specs.Ids.{message_id_at}
+use Rattle.topic_core.specs.Replies.{SessionReplies, is_for, is_receipt, due_to, queued, with_pending, collected_from, without_first, make_all_due}
 use Rattle.topic_core.specs.Steps.{CoreStep, TopicStep, bytes_of, accepted, receipt, with_producer, collected, left}
 use Rattle.topic_core.specs.Flush.{FlushIn, FlushEnds, flushed}
-use Rattle.node.specs.Moves.{Handed, Move, Command, Tell, Lose, Leave, Flush, MoveStep, Moves, Takes, told_on, told_by}
+use Rattle.node.specs.Moves.{Handed, Move, Command, Tell, Lose, Grant, Deliver, Miss, Leave, Flush, MoveStep, Moves, Takes, Sends, told_on, told_by}
 use Rattle.node.specs.Finding.{Sent, sent_at, sent_by, sends_on, sends_by, IsFound, Finds, FindsEach, IsQuiet}
 use Rattle.node.proofs.Carrying.{Respected, respects}
-use Rattle.node.proofs.Commands.{producer_core, refused_core, accepted_core}
+use Rattle.node.proofs.Commands.{Awaits, producer_core, refused_core, silent_core, accepted_core, subscribe_core, ack_core, granted_core, sent_core}
 
 abbrev pub handed : ℕ → Reply → Handed
-handed who reply = record { session = who; reply = reply }
+handed who reply = record { session = who; reply = reply; entry = [] }
+
+-- what has no entry behind it
+pub same_handed : (h : Handed) → h.entry ≡ [] → handed h.session h.reply ≡ h
+same_handed h plain = ap (λ (e : List ℕ). let x : Handed = record { session = h.session; reply = h.reply; entry = e } in x) (sym plain)
+
+not_receipt : (r : Reply) → is_receipt r ≡ false → is_receipt r ≡ true → ⊥
+not_receipt r isnt is = cc
 
 module _ {A : Type 0} where
   none_some : (x : A) → None ≡ Some x → ⊥
@@ -59,26 +67,26 @@ abbrev pub AllOwed : (Handed → Type 0) → (Handed → Type 0) → List Sessio
 AllOwed P Q [] = Unit {0}
 AllOwed P Q (q ∷ qs) = Owed P Q q × AllOwed P Q qs
 
-both : (P : Handed → Type 0) (who : ℕ) (xs ys : List Reply) → AllOf P who xs → AllOf P who ys → AllOf P who (xs ++ ys)
+pub both : (P : Handed → Type 0) (who : ℕ) (xs ys : List Reply) → AllOf P who xs → AllOf P who ys → AllOf P who (xs ++ ys)
 both P who [] ys a b = b
 both P who (x ∷ xs) ys a b = (a.0, both P who xs ys a.1 b)
 
-each : (P P' : Handed → Type 0) → ((h : Handed) → P h → P' h) → (who : ℕ) (xs : List Reply) → AllOf P who xs → AllOf P' who xs
+pub each : (P P' : Handed → Type 0) → ((h : Handed) → P h → P' h) → (who : ℕ) (xs : List Reply) → AllOf P who xs → AllOf P' who xs
 each P P' f who [] all = tt
 each P P' f who (x ∷ xs) all = (f (handed who x) all.0, each P P' f who xs all.1)
 
-each_owed : (P Q P' Q' : Handed → Type 0) → ((h : Handed) → P h → P' h) → ((h : Handed) → Q h → Q' h) → (qs : List SessionReplies) → AllOwed P Q qs → AllOwed P' Q' qs
+pub each_owed : (P Q P' Q' : Handed → Type 0) → ((h : Handed) → P h → P' h) → ((h : Handed) → Q h → Q' h) → (qs : List SessionReplies) → AllOwed P Q qs → AllOwed P' Q' qs
 each_owed P Q P' Q' f g [] all = tt
 each_owed P Q P' Q' f g (q ∷ qs) all = (record { due = each P P' f q.session q.due all.0.due; pending = each Q Q' g q.session q.pending all.0.pending }, each_owed P Q P' Q' f g qs all.1)
 
 no_reply : (r : Reply) (rs : List Reply) → [] ≡ r ∷ rs → ⊥
 no_reply r rs is = cc
 
-first_of_all : (P : Handed → Type 0) (who : ℕ) (xs : List Reply) (r : Reply) (rs : List Reply) → AllOf P who xs → xs ≡ r ∷ rs → P (handed who r)
+pub first_of_all : (P : Handed → Type 0) (who : ℕ) (xs : List Reply) (r : Reply) (rs : List Reply) → AllOf P who xs → xs ≡ r ∷ rs → P (handed who r)
 first_of_all P who [] r rs all is = absurd (no_reply r rs is)
 first_of_all P who (x ∷ xs) r rs all is = let e : x ≡ r = cc in subst (λ (y : Reply). P (handed who y)) e all.0
 
-without_one : (P : Handed → Type 0) (who : ℕ) (xs : List Reply) → AllOf P who xs → AllOf P who (drop 1 xs)
+pub without_one : (P : Handed → Type 0) (who : ℕ) (xs : List Reply) → AllOf P who xs → AllOf P who (drop 1 xs)
 without_one P who [] all = tt
 without_one P who (x ∷ xs) all = all.1
 
@@ -94,7 +102,7 @@ module _ (P Q : Handed → Type 0) where
   )
   queued_at false who r q qs rest same one first all others = (first, others)
 
-  queued_owed : (who : ℕ) (r : Reply) (qs : List SessionReplies) → Q (handed who r) → AllOwed P Q qs → AllOwed P Q (queued who r qs)
+  pub queued_owed : (who : ℕ) (r : Reply) (qs : List SessionReplies) → Q (handed who r) → AllOwed P Q qs → AllOwed P Q (queued who r qs)
   queued_owed who r [] one all = (record { due = tt; pending = (one, tt) }, tt)
   queued_owed who r (q ∷ qs) one all = queued_at (is_for who q) who r q qs (queued who r qs) (eqb-true q.session who) one all.0 all.1 (queued_owed who r qs one all.1)
 
@@ -103,11 +111,11 @@ module _ (P Q : Handed → Type 0) where
   due_at true who q others r rs same first rest is = subst (λ (s : ℕ). P (handed s r)) (same refl) (first_of_all P q.session q.due r rs first.due is)
   due_at false who q others r rs same first rest is = rest is
 
-  due_owed : (who : ℕ) (qs : List SessionReplies) (r : Reply) (rs : List Reply) → AllOwed P Q qs → due_to who qs ≡ r ∷ rs → P (handed who r)
+  pub due_owed : (who : ℕ) (qs : List SessionReplies) (r : Reply) (rs : List Reply) → AllOwed P Q qs → due_to who qs ≡ r ∷ rs → P (handed who r)
   due_owed who [] r rs all is = absurd (no_reply r rs is)
   due_owed who (q ∷ qs) r rs all is = due_at (is_for who q) who q (due_to who qs) r rs (eqb-true q.session who) all.0 (due_owed who qs r rs all.1) is
 
-  collected_owed : (who : ℕ) (qs : List SessionReplies) → AllOwed P Q qs → AllOwed P Q (collected_from who qs)
+  pub collected_owed : (who : ℕ) (qs : List SessionReplies) → AllOwed P Q qs → AllOwed P Q (collected_from who qs)
   collected_owed who [] all = tt
   collected_owed who (q ∷ qs) all =
       elim (is_for who q) as (λ b. AllOwed P Q (cond b (without_first q ∷ qs) (q ∷ collected_from who qs))) [
@@ -115,7 +123,7 @@ module _ (P Q : Handed → Type 0) where
         | false ↦ (all.0, collected_owed who qs all.1)
       ]
 
-  filter_owed : (keep : SessionReplies → Bool) (qs : List SessionReplies) → AllOwed P Q qs → AllOwed P Q (filter keep qs)
+  pub filter_owed : (keep : SessionReplies → Bool) (qs : List SessionReplies) → AllOwed P Q qs → AllOwed P Q (filter keep qs)
   filter_owed keep [] all = tt
   filter_owed keep (q ∷ qs) all =
       elim (keep q) as (λ b. AllOwed P Q (cond b (q ∷ filter keep qs) (filter keep qs))) [
@@ -123,7 +131,7 @@ module _ (P Q : Handed → Type 0) where
         | false ↦ filter_owed keep qs all.1
       ]
 
-all_due_owed : (P Q P' : Handed → Type 0) → ((h : Handed) → P h → P' h) → ((h : Handed) → Q h → P' h) → (Q' : Handed → Type 0) (qs : List SessionReplies) → AllOwed P Q qs → AllOwed P' Q' (map (λ q. make_all_due q) qs)
+pub all_due_owed : (P Q P' : Handed → Type 0) → ((h : Handed) → P h → P' h) → ((h : Handed) → Q h → P' h) → (Q' : Handed → Type 0) (qs : List SessionReplies) → AllOwed P Q qs → AllOwed P' Q' (map (λ q. make_all_due q) qs)
 all_due_owed P Q P' f g Q' [] all = tt
 all_due_owed P Q P' f g Q' (q ∷ qs) all =
     (record { due = both P' q.session q.due q.pending (each P P' f q.session q.due all.0.due) (each Q P' g q.session q.pending all.0.pending); pending = tt }, all_due_owed P Q P' f g Q' qs all.1)
@@ -185,6 +193,23 @@ module _ (n next : ℕ) (before : List Sent) where
         found = λ h f. subst (λ (l : List (List ℕ)). Finds after l h) (sym ledger) (kept h f);
       }
 
+  -- one more reply at most is owed, which is no receipt
+  awaits : (t u : Topic) (who : ℕ) → Awaits who t.core u.core → u.ledger ≡ t.ledger → Owes n next before t.core t.ledger → Keeps n (next + 0) before (before ++ []) t u
+  awaits t u who a ledger o =
+      let P = Finds before t.ledger in
+      let Q = Finds before (t.ledger ++ t.core.waiting) in
+      still t u u.core (record {
+        per_ledger = a.per_ledger ∙ o.per_ledger;
+        position = omega (arith, a.committed, ap length a.waiting, o.position);
+        counted = o.counted ∙ sym a.committed;
+        queues = subst (λ (w : List (List ℕ)). AllOwed P (Finds before (t.ledger ++ w)) u.core.queues) (sym a.waiting)
+            (⊎_elim
+            (λ same. subst (λ (qs : List SessionReplies). AllOwed P Q qs) (sym same) o.queues)
+            (λ more. subst (λ (qs : List SessionReplies). AllOwed P Q qs) (sym more.2)
+            (queued_owed P Q who more.0 t.core.queues (λ is. absurd (not_receipt more.0 more.1.no_receipt is)) o.queues))
+            a.queues);
+      }) refl ledger
+
   commanded : (t : Topic) (who : ℕ) (c : TopicCommand) (a : Answer) (u : Topic) → CoreStep t.core who c a u.core → u.ledger ≡ t.ledger → Owes n next before t.core t.ledger
       → Keeps n (next + length (sent_by n next who c a)) before (before ++ sent_by n next who c a) t u
   commanded t who (asked.Producer id request name) a u s ledger o = ⊎_elim
@@ -193,7 +218,10 @@ module _ (n next : ℕ) (before : List Sent) where
       (producer_core a t.core who id request name u.core s)
   commanded t who (asked.Send send) (Now r) u s ledger o = still t u t.core o (refused_core t.core who send r u.core s) ledger
   commanded t who (asked.Send send) Later u s ledger o = accepts t u who send o (accepted_core t.core who send u.core s) ledger
+  commanded t who (asked.Send send) Nothing u s ledger o = still t u t.core o (silent_core t.core who send u.core s) ledger
   commanded t who (asked.Send send) NoMemory u s ledger o = still t u t.core o s ledger
+  commanded t who (asked.Subscribe subscribe) a u s ledger o = awaits t u who (subscribe_core a t.core who subscribe u.core s) ledger o
+  commanded t who (asked.Ack ack) a u s ledger o = awaits t u who (ack_core a t.core who ack u.core s) ledger o
 
   takes_reply : (t u : Topic) (h : Handed) → Takes t h u → Owes n next before t.core t.ledger → Keeps n (next + 0) before (before ++ []) t u
   takes_reply t u h takes o = still t u (collected t.core h.session h.reply)
@@ -238,6 +266,10 @@ module _ (n next : ℕ) (before : List Sent) where
   moved t (Command who c a) u s o = commanded t who c a u s.core s.ledger o
   moved t (Tell h) u s o = takes_reply t u h s o
   moved t (Lose h) u s o = takes_reply t u h s o
+  moved t (Grant who id permits result) u s o = awaits t u who
+      (subst (λ (x : Core). Awaits who t.core x) (sym (ap (λ (x : Topic). x.core) s.rest)) (granted_core result t.core who id permits s.core s.step)) (ap (λ (x : Topic). x.ledger) s.rest) o
+  moved t (Deliver id h) u s o = awaits t u h.session (sent_core h.session t.core _ s.core.0 u.core s.core.1.sent) s.ledger o
+  moved t (Miss id h) u s o = awaits t u h.session (sent_core h.session t.core _ s.core.0 u.core s.core.1.sent) s.ledger o
   moved t (Leave who) u s o = still t u (left t.core who)
       (record { per_ledger = o.per_ledger; position = o.position; counted = o.counted; queues = filter_owed (Finds before t.ledger) (Finds before (t.ledger ++ t.core.waiting)) (λ q. not (is_for who q)) t.core.queues o.queues })
       (ap (λ (x : Topic). x.core) s) (ap (λ (x : Topic). x.ledger) s)
@@ -246,8 +278,15 @@ module _ (n next : ℕ) (before : List Sent) where
   -- what goes out on a move is found before it
   told_found : (t : Topic) (m : Move) (u : Topic) → MoveStep t m u → Owes n next before t.core t.ledger → FindsEach before t.ledger (told_on m)
   told_found t (Command who c a) u s o = tt
-  told_found t (Tell h) u s o = (due_owed (Finds before t.ledger) (Finds before (t.ledger ++ t.core.waiting)) h.session t.core.queues h.reply (due_to h.session u.core.queues) o.queues s.first, tt)
+  told_found t (Tell h) u s o = (
+    subst (Finds before t.ledger) (same_handed h s.plain)
+        (due_owed (Finds before t.ledger) (Finds before (t.ledger ++ t.core.waiting)) h.session t.core.queues h.reply (due_to h.session u.core.queues) o.queues s.first),
+    tt,
+  )
   told_found t (Lose h) u s o = tt
+  told_found t (Grant who id permits result) u s o = tt
+  told_found t (Deliver id h) u s o = (λ is. absurd (not_receipt h.reply (ap (λ (r : Reply). is_receipt r) s.core.1.reply) is), tt)
+  told_found t (Miss id h) u s o = tt
   told_found t (Leave who) u s o = tt
   told_found t (Flush result) u s o = tt
 

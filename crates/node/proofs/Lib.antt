@@ -5,7 +5,9 @@ pub mod Saying
 pub mod Unfolding
 pub mod Carrying
 pub mod Sound
+pub mod Holding
 pub mod Commands
 pub mod Publishing
 pub mod Finding
+pub mod Delivering
 pub mod Accounts

@@ -1,22 +1,24 @@
 -- Entries come from accepted SENDs, and are counted.
 use Rattle.std.proofs.Common.{◌≡◌, ◌⊎◌, inl, inr, ⊎_elim, ◌∙◌, ℕ, ◌+◌, ◌≤◌, Bool, true, false, Result, Ok, Err, is_some, List, [], ◌∷◌, ◌++◌, length, refl, sym, ap, subst, arith, append_assoc, append-nil}
+use Rattle.commands.specs.declared.reply.Reply.{Reply}
 use Rattle.topic_core.specs.declared.command.Answer.{Answer}
-use Rattle.topic_core.specs.declared.command.Answer.TheVariants.{Now, Later, NoMemory}
+use Rattle.topic_core.specs.declared.command.Answer.TheVariants.{Now, Later, Nothing, NoMemory}
 use Rattle.topic_core.specs.declared.command.TopicCommand.{TopicCommand}
 use Rattle.topic_core.specs.declared.command.TopicCommand.TheVariants as asked
 use Rattle.topic_core.specs.declared.refusal.Refusal.{Refusal}
 use Rattle.topic_core.specs.declared.refusal.Refusal.TheVariants as refusal
 use Rattle.topic_core.specs.Core.{Core, Topic, receipts_due}
 use Rattle.topic_core.specs.Steps.{CoreStep, TopicStep, collected, receipts_of}
+use Rattle.topic_core.specs.Dispatch.{IsSent}
 use Rattle.topic_core.specs.Soundness.{IsSoundTopic}
 use Rattle.topic_core.specs.Flush.{FlushIn, FlushEnds}
 use Rattle.topic_core.proofs.Steps.{step-publishes}
 use Rattle.session.specs.Broker.{with_core}
-use Rattle.node.specs.Moves.{Handed, Move, Command, Tell, Lose, Leave, Flush, MoveStep, Moves, Takes, told_on, told_by, entries_on, entries_by}
+use Rattle.node.specs.Moves.{Handed, Move, Command, Tell, Lose, Grant, Deliver, Miss, Leave, Flush, MoveStep, Moves, Takes, Grants, Sends, told_on, told_by, entries_on, entries_by}
 use Rattle.node.specs.Telling.{receipts_told}
 use Rattle.node.specs.Laws.{IsPublished}
 use Rattle.node.proofs.Carrying.{Respected, respects}
-use Rattle.node.proofs.Commands.{producer_core, refused_core, accepted_core}
+use Rattle.node.proofs.Commands.{producer_core, refused_core, silent_core, accepted_core, subscribe_core, ack_core, granted_core}
 use Rattle.node.proofs.Sound.{moves_sound}
 
 -- of one move that adds these entries
@@ -57,6 +59,9 @@ move_adds : (t : Topic) (m : Move) (u : Topic) → MoveStep t m u → Adds t (en
 move_adds t (Command who command answer) u step = waits t u (entries_on (Command who command answer)) step.ledger (step-publishes t.core who command answer u.core step.core).waiting
 move_adds t (Tell h) u step = unchanged t u (ap (λ (x : Topic). x.ledger) step.taken) (ap (λ (x : Topic). x.core.waiting) step.taken)
 move_adds t (Lose h) u step = unchanged t u (ap (λ (x : Topic). x.ledger) step.taken) (ap (λ (x : Topic). x.core.waiting) step.taken)
+move_adds t (Grant who id permits result) u step = unchanged t u (ap (λ (x : Topic). x.ledger) step.rest) (ap (λ (x : Topic). x.core.waiting) step.rest ∙ (granted_core result t.core who id permits step.core step.step).waiting)
+move_adds t (Deliver id h) u step = unchanged t u step.ledger (ap (λ (x : Core). x.waiting) step.core.1.sent)
+move_adds t (Miss id h) u step = unchanged t u step.ledger (ap (λ (x : Core). x.waiting) step.core.1.sent)
 move_adds t (Leave who) u step = unchanged t u (ap (λ (x : Topic). x.ledger) step) (ap (λ (x : Topic). x.core.waiting) step)
 move_adds t (Flush result) u step = flush_adds t.core.failed (is_some t.core.doubt) t result u step
 
@@ -94,7 +99,10 @@ command_counts t who (asked.Producer id request name) a u step = ⊎_elim
     (producer_core a t who id request name u step)
 command_counts t who (asked.Send send) (Now r) u step = handed_same t u (refused_core t who send r u step)
 command_counts t who (asked.Send send) Later u step = subst (λ (x : Core). 0 + t.handed ≤ x.handed) (sym (accepted_core t who send u step)) (omega arith)
+command_counts t who (asked.Send send) Nothing u step = handed_same t u (silent_core t who send u step)
 command_counts t who (asked.Send send) NoMemory u step = handed_same t u step
+command_counts t who (asked.Subscribe subscribe) a u step = omega (arith, (subscribe_core a t who subscribe u step).handed)
+command_counts t who (asked.Ack ack) a u step = omega (arith, (ack_core a t who ack u step).handed)
 
 takes_counts : (t u : Topic) (h : Handed) → Takes t h u → u.core.handed ≡ t.core.handed + receipts_of h.reply
 takes_counts t u h takes = ap (λ (x : Topic). x.core.handed) takes.taken
@@ -110,10 +118,17 @@ flush_counts true false t result u s = ap (λ (x : Topic). x.core.handed) s.1
 flush_counts false true t result u s = ap (λ (x : Topic). x.core.handed) s.1
 flush_counts false false t result u s = flush_ends_counts t result u s
 
+-- a message is no receipt
+message_counts : (t : Topic) (id : ℕ) (h : Handed) (u : Topic) → Sends t id h u → receipts_of h.reply ≡ 0
+message_counts t id h u step = ap (λ (r : Reply). receipts_of r) step.core.1.reply
+
 move_counts : (t : Topic) (m : Move) (u : Topic) → MoveStep t m u → receipts_told (told_on m) + t.core.handed ≤ u.core.handed
 move_counts t (Command who command answer) u step = command_counts t.core who command answer u.core step.core
 move_counts t (Tell h) u step = omega (arith, takes_counts t u h step)
 move_counts t (Lose h) u step = omega (arith, takes_counts t u h step)
+move_counts t (Grant who id permits result) u step = omega (arith, ap (λ (x : Topic). x.core.handed) step.rest, (granted_core result t.core who id permits step.core step.step).handed)
+move_counts t (Deliver id h) u step = omega (arith, message_counts t id h u step, ap (λ (x : Core). x.handed) step.core.1.sent)
+move_counts t (Miss id h) u step = omega (arith, ap (λ (x : Core). x.handed) step.core.1.sent)
 move_counts t (Leave who) u step = let e : u.core.handed ≡ t.core.handed = ap (λ (x : Topic). x.core.handed) step in omega arith
 move_counts t (Flush result) u step = omega (arith, flush_counts t.core.failed (is_some t.core.doubt) t result u step)
 

@@ -3,12 +3,12 @@ use Rattle.std.proofs.Common.{◌≡◌, ◌⊎◌, ⊎_elim, ◌∙◌, ℕ, �
 use Rattle.std.proofs.lemmas.Bool.Decides.{eqb_tells}
 use Rattle.std.proofs.lemmas.Grind.{flat_map-append}
 use Rattle.commands.specs.declared.reply.Reply.{Reply}
+use Rattle.topic_core.specs.declared.dispatch.Outgoing.{Outgoing}
 use Rattle.topic_core.specs.Core.{Topic}
-use Rattle.topic_core.specs.Replies.{is_receipt}
 use Rattle.session.specs.Broker.{Broker, topic_at, with_topic, fresh}
-use Rattle.session.specs.Client.{reply_frame, reply_frames}
-use Rattle.node.specs.Moves.{Handed, Move, Tell, MoveStep, Moves, Takes, told_on, told_by}
-use Rattle.node.specs.Telling.{Said, AtOnce, From, reply_of, replies_of, from_topic, ReceiptsAreLate, Course, Unfolds}
+use Rattle.session.specs.Client.{plain, frame_of, frames_of}
+use Rattle.node.specs.Moves.{Handed, Move, MoveStep, Moves, told_on, told_by}
+use Rattle.node.specs.Telling.{Said, AtOnce, From, outgoing_of, all_outgoing, from_topic, IsAtOnce, AnswersAreAtOnce, Course, Unfolds}
 
 -- moves, and then others
 pub Moves-append : (t : Topic) (first : List Move) (u : Topic) (then : List Move) (v : Topic) → Moves t first u → Moves u then v → Moves t (first ++ then) v
@@ -32,29 +32,29 @@ then_course t u v first then a b = record {
   tells = ap (λ (l : List Handed). l ++ then) a.tells ∙ ap (λ (l : List Handed). told_by a.moves ++ l) b.tells ∙ sym (told_by-append a.moves b.moves);
 }
 
--- the topic of a number tells a reply
-pub told_at : (topics : List Topic) (at number : ℕ) (t other : Topic) (handed : Handed) → at < length topics → Takes (get_or topics at other) handed t
+-- the topic of a number tells one thing
+pub told_at : (topics : List Topic) (at number : ℕ) (t other : Topic) (handed : Handed) → at < length topics → Course (get_or topics at other) (handed ∷ []) t
     → Course (get_or topics number other) (cond (nat_eq at number) (handed ∷ []) []) (get_or (set topics at t) number other)
-told_at topics at number t other handed within takes =
+told_at topics at number t other handed within course =
     let P : Bool → Type 0 = λ b. Course (get_or topics number other) (cond b (handed ∷ []) []) (get_or (set topics at t) number other) in
     ⊎_elim
     (λ same.
     let Q : ℕ → Type 0 = λ n. Course (get_or topics n other) (handed ∷ []) (get_or (set topics at t) n other) in
     let R : Topic → Type 0 = λ u. Course (get_or topics at other) (handed ∷ []) u in
-    subst P (sym same.0) (subst Q same.1 (subst R (sym (get_or-set_same topics at t other within)) (one_move (get_or topics at other) (Tell handed) t takes))))
+    subst P (sym same.0) (subst Q same.1 (subst R (sym (get_or-set_same topics at t other within)) course)))
     (λ differs.
     let R : Topic → Type 0 = λ u. Course (get_or topics number other) [] u in
     subst P (sym differs.0) (subst R (sym (get_or-set_other topics at number t other (λ is. differs.1 (sym is)))) (still_course (get_or topics number other))))
     (eqb_tells at number)
 
-pub replies_of-append : (xs ys : List Said) → replies_of (xs ++ ys) ≡ replies_of xs ++ replies_of ys
-replies_of-append [] ys = refl
-replies_of-append (x ∷ xs) ys = ap (λ (l : List Reply). reply_of x ∷ l) (replies_of-append xs ys)
+pub all_outgoing-append : (xs ys : List Said) → all_outgoing (xs ++ ys) ≡ all_outgoing xs ++ all_outgoing ys
+all_outgoing-append [] ys = refl
+all_outgoing-append (x ∷ xs) ys = ap (λ (l : List Outgoing). outgoing_of x ∷ l) (all_outgoing-append xs ys)
 
-pub late-append : (xs ys : List Said) → ReceiptsAreLate xs → ReceiptsAreLate ys → ReceiptsAreLate (xs ++ ys)
-late-append [] ys a b = b
-late-append (AtOnce reply ∷ xs) ys a b = (a.0, late-append xs ys a.1 b)
-late-append (From number handed ∷ xs) ys a b = late-append xs ys a b
+pub at_once-append : (xs ys : List Said) → AnswersAreAtOnce xs → AnswersAreAtOnce ys → AnswersAreAtOnce (xs ++ ys)
+at_once-append [] ys a b = b
+at_once-append (AtOnce reply ∷ xs) ys a b = (a.0, at_once-append xs ys a.1 b)
+at_once-append (From number handed ∷ xs) ys a b = at_once-append xs ys a b
 
 cond-append : (b : Bool) (h : Handed) (xs ys : List Handed) → cond b (h ∷ (xs ++ ys)) (xs ++ ys) ≡ cond b (h ∷ xs) xs ++ ys
 cond-append true h xs ys = refl
@@ -69,7 +69,7 @@ from_topic-append number (From other handed ∷ xs) ys =
 
 -- nothing goes out
 pub silently : (b c : Broker) → ((number : ℕ) → Course (topic_at b number) [] (topic_at c number)) → Unfolds b [] c
-silently b c each = record { said = []; written = refl; late = tt; each = each }
+silently b c each = record { said = []; written = refl; at_once = tt; each = each }
 
 pub silent : (b : Broker) → Unfolds b [] b
 silent b = silently b b (λ number. still_course (topic_at b number))
@@ -81,21 +81,21 @@ becomes b c c' x y s bytes is = subst (λ (l : List ℕ). Unfolds b l c') (sym b
 pub alike : (b c : Broker) (bytes : List ℕ) → bytes ≡ [] → c ≡ b → Unfolds b bytes c
 alike b c bytes none is = becomes b b c [] bytes (silent b) none is
 
-pub one_frame : (reply : Reply) → reply_frame reply ≡ reply_frames (reply ∷ [])
-one_frame reply = sym (append-nil (reply_frame reply))
+pub one_frame : (outgoing : Outgoing) → frame_of outgoing ≡ frames_of (outgoing ∷ [])
+one_frame outgoing = sym (append-nil (frame_of outgoing))
 
--- a reply that is no receipt goes out
-pub at_once : (b c : Broker) (reply : Reply) → is_receipt reply ≡ false → c ≡ b → Unfolds b (reply_frame reply) c
-at_once b c reply plain is = becomes b b c (reply_frame reply) (reply_frame reply)
-    (record { said = AtOnce reply ∷ []; written = one_frame reply; late = (plain, tt); each = λ number. still_course (topic_at b number) }) refl is
+-- a reply that is neither a receipt nor a message goes out
+pub at_once : (b c : Broker) (reply : Reply) → IsAtOnce reply → c ≡ b → Unfolds b (frame_of (plain reply)) c
+at_once b c reply may is = becomes b b c (frame_of (plain reply)) (frame_of (plain reply))
+    (record { said = AtOnce reply ∷ []; written = one_frame (plain reply); at_once = (may, tt); each = λ number. still_course (topic_at b number) }) refl is
 
 pub then : (a b c : Broker) (x y : List ℕ) → Unfolds a x b → Unfolds b y c → Unfolds a (x ++ y) c
 then a b c x y p q = record {
   said = p.said ++ q.said;
   written =
-      ap (λ (l : List ℕ). l ++ y) p.written ∙ ap (λ (l : List ℕ). reply_frames (replies_of p.said) ++ l) q.written
-      ∙ sym (flat_map-append (λ reply. reply_frame reply) (replies_of p.said) (replies_of q.said)) ∙ ap (λ (l : List Reply). reply_frames l) (sym (replies_of-append p.said q.said));
-  late = late-append p.said q.said p.late q.late;
+      ap (λ (l : List ℕ). l ++ y) p.written ∙ ap (λ (l : List ℕ). frames_of (all_outgoing p.said) ++ l) q.written
+      ∙ sym (flat_map-append (λ one. frame_of one) (all_outgoing p.said) (all_outgoing q.said)) ∙ ap (λ (l : List Outgoing). frames_of l) (sym (all_outgoing-append p.said q.said));
+  at_once = at_once-append p.said q.said p.at_once q.at_once;
   each = λ number.
       subst (λ (l : List Handed). Course (topic_at a number) l (topic_at c number)) (sym (from_topic-append number p.said q.said))
       (then_course (topic_at a number) (topic_at b number) (topic_at c number) (from_topic number p.said) (from_topic number q.said) (p.each number) (q.each number));

@@ -1,15 +1,17 @@
 -- Moves keep a topic sound.
-use Rattle.std.proofs.Common.{◌≡◌, ◌∙◌, ℕ, ◌<◌, ◌+◌, ◌≤◌, zero, suc, Some, List, [], ◌∷◌, ◌++◌, length, get_or, refl, sym, ap, subst, arith}
+use Rattle.std.proofs.Common.{◌≡◌, ◌∙◌, ℕ, ◌<◌, ◌+◌, ◌≤◌, zero, suc, Some, Ok, List, [], ◌∷◌, ◌++◌, length, get_or, refl, sym, ap, subst, arith}
+use Rattle.std.specs.Ordering.{nat_cmp}
+use Rattle.std.specs.Cmp.Lexicographic.{slice_cmp}
+use Rattle.std.specs.FinMap as map
 use Rattle.topic_core.specs.Core.{Core, Topic, opened, receipts_due}
 use Rattle.topic_core.specs.Replies.{due_to}
 use Rattle.topic_core.specs.Steps.{Collects, collected, left, receipts_of}
 use Rattle.topic_core.specs.Soundness.{IsSoundTopic}
-use Rattle.topic_core.proofs.Keeps.{command-sound, flush-sound, collect-sound}
-use Rattle.topic_core.proofs.Collects.{sound-left, receipts-left}
+use Rattle.topic_core.proofs.Keeps.{command-sound, grant-sound, dispatch-sound, flush-sound, collected-sound, leave-sound}
 use Rattle.topic_core.proofs.Openings.{sound-opened, receipts-opened}
 use Rattle.session.specs.Broker.{Broker, fresh, topic_at, with_core, left_topic}
 use Rattle.node.specs.State.{fresh_broker}
-use Rattle.node.specs.Moves.{Handed, Move, Command, Tell, Lose, Leave, Flush, MoveStep, Moves, Takes, told_by}
+use Rattle.node.specs.Moves.{Handed, outgoing, Move, Command, Tell, Lose, Grant, Deliver, Miss, Leave, Flush, MoveStep, Moves, Takes, told_by}
 use Rattle.node.specs.Telling.{Unfolds, receipts_told}
 use Rattle.node.specs.Laws.{IsSoundBroker}
 use Rattle.node.proofs.Carrying.{Respected, respects}
@@ -21,15 +23,16 @@ takes_sound : (t u : Topic) (h : Handed) → Takes t h u → IsSoundTopic t → 
 takes_sound t u h takes s =
     let c = collected t.core h.session h.reply in
     let step : Collects t.core h.session (Some h.reply) c = (takes.first ∙ ap (λ (x : Topic). h.reply ∷ due_to h.session x.core.queues) takes.taken, refl) in
-    let both = collect-sound t.core h.session (Some h.reply) c step s.core s.receipts in
-    subst (λ (x : Topic). IsSoundTopic x) (sym takes.taken) (record { core = both.0; receipts = both.1; counted = s.counted })
+    subst (λ (x : Topic). IsSoundTopic x) (sym takes.taken) (collected-sound t h.session (Some h.reply) c step s)
 
 move_sound : (t : Topic) (m : Move) (u : Topic) → MoveStep t m u → IsSoundTopic t → IsSoundTopic u
 move_sound t (Command who command answer) u step s = command-sound t who command answer u step s
 move_sound t (Tell h) u step s = takes_sound t u h step s
 move_sound t (Lose h) u step s = takes_sound t u h step s
-move_sound t (Leave who) u step s =
-    subst (λ (x : Topic). IsSoundTopic x) (sym step) (record { core = sound-left t.core who s.core; receipts = receipts-left t.core who s.core s.receipts; counted = s.counted })
+move_sound t (Grant who id permits result) u step s = subst (λ (x : Topic). IsSoundTopic x) (sym step.rest) (grant-sound t who id permits result step.core step.step s)
+move_sound t (Deliver id h) u step s = dispatch-sound t h.session id (Ok (Some (outgoing h))) u step s
+move_sound t (Miss id h) u step s = dispatch-sound t h.session id (Ok (Some (outgoing h))) u step s
+move_sound t (Leave who) u step s = subst (λ (x : Topic). IsSoundTopic x) (sym step) (leave-sound t who s)
 move_sound t (Flush result) u step s = flush-sound t result u step s
 
 keeps_sound : Respected KeepsSound
@@ -41,8 +44,8 @@ keeps_sound = record {
 pub moves_sound : (t : Topic) (moves : List Move) (u : Topic) → Moves t moves u → IsSoundTopic t → IsSoundTopic u
 moves_sound t moves u steps = respects KeepsSound keeps_sound t moves u steps
 
-fresh_sound : (n : ℕ) → 0 < n → IsSoundTopic (fresh n)
-fresh_sound n some = record { core = sound-opened n 0 some (omega arith); receipts = receipts-opened n 0; counted = refl }
+pub fresh_sound : (n : ℕ) → 0 < n → IsSoundTopic (fresh n)
+fresh_sound n some = record { core = sound-opened n 0 some (omega arith); receipts = receipts-opened n 0; counted = refl; kept = λ name. map.get-empty (slice_cmp nat_cmp) name }
 
 pub fresh_broker_sound : (n : ℕ) → 0 < n → IsSoundBroker (fresh_broker n)
 fresh_broker_sound n some = λ number. elim number as (λ k. IsSoundTopic (topic_at (fresh_broker n) k)) [ zero ↦ fresh_sound n some | suc k ↦ fresh_sound n some ]

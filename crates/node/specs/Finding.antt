@@ -2,14 +2,15 @@
 use Rattle.std.specs.Prelude.{◌≡◌, ℕ, ◌+◌, true, Some, List, [], ◌∷◌, ◌++◌, length, slice_get}
 use Rattle.commands.specs.declared.reply.Reply.TheVariants.{SendReceipt}
 use Rattle.topic_core.specs.declared.command.Answer.{Answer}
-use Rattle.topic_core.specs.declared.command.Answer.TheVariants.{Now, Later, NoMemory}
+use Rattle.topic_core.specs.declared.command.Answer.TheVariants.{Now, Later, Nothing, NoMemory}
 use Rattle.topic_core.specs.declared.command.Send.{Send}
 use Rattle.topic_core.specs.declared.command.TopicCommand.{TopicCommand}
 use Rattle.topic_core.specs.declared.command.TopicCommand.TheVariants as asked
 use Rattle.topic_core.specs.Core.{Topic}
-use Rattle.topic_core.specs.Replies.{is_receipt, message_id_at}
+use Rattle.ids.specs.Ids.{message_id_at}
+use Rattle.topic_core.specs.Replies.{is_receipt}
 use Rattle.topic_core.specs.Steps.{bytes_of}
-use Rattle.node.specs.Moves.{Handed, Move, Command, Tell, Lose, Leave, Flush}
+use Rattle.node.specs.Moves.{Handed, Move, Command, Tell, Lose, Grant, Deliver, Miss, Leave, Flush}
 
 -- an accepted SEND: where its entry will stand, and the receipt that its session is promised
 pub record Sent : Type 0 where
@@ -22,7 +23,7 @@ abbrev pub sent_at : ℕ → ℕ → ℕ → Send → Sent
 sent_at per_ledger position who send = record {
   position = position;
   entry = bytes_of send.entry;
-  receipt = record { session = who; reply = SendReceipt send.producer_id send.sequence_id (message_id_at per_ledger position) };
+  receipt = record { session = who; reply = SendReceipt send.producer_id send.sequence_id (message_id_at per_ledger position); entry = [] };
 }
 
 -- the SEND that is accepted by this answer
@@ -30,12 +31,18 @@ abbrev pub sent_by : ℕ → ℕ → ℕ → TopicCommand → Answer → List Se
 sent_by per_ledger position who (asked.Producer id request name) answer = []
 sent_by per_ledger position who (asked.Send send) (Now reply) = []
 sent_by per_ledger position who (asked.Send send) Later = sent_at per_ledger position who send ∷ []
+sent_by per_ledger position who (asked.Send send) Nothing = []
 sent_by per_ledger position who (asked.Send send) NoMemory = []
+sent_by per_ledger position who (asked.Subscribe subscribe) answer = []
+sent_by per_ledger position who (asked.Ack ack) answer = []
 
 abbrev pub sends_on : ℕ → ℕ → Move → List Sent
 sends_on per_ledger position (Command who command answer) = sent_by per_ledger position who command answer
 sends_on per_ledger position (Tell handed) = []
 sends_on per_ledger position (Lose handed) = []
+sends_on per_ledger position (Grant who id permits result) = []
+sends_on per_ledger position (Deliver id handed) = []
+sends_on per_ledger position (Miss id handed) = []
 sends_on per_ledger position (Leave who) = []
 sends_on per_ledger position (Flush result) = []
 

@@ -3,13 +3,14 @@ use Rattle.std.specs.Prelude.{◌≡◌, ◌<◌, ◌≤◌, ℕ, ◌+◌, List,
 use Rattle.topic_core.specs.Core.{Topic, next_position, receipts_due}
 use Rattle.topic_core.specs.Soundness.{IsSoundTopic}
 use Rattle.session.specs.Broker.{Broker, topic_at}
-use Rattle.session.specs.Client.{reply_frames}
+use Rattle.session.specs.Client.{frames_of}
 use Rattle.node.specs.State.{State, fresh_broker, fresh_state}
 use Rattle.node.specs.Steps.{BrokerStep}
 use Rattle.node.specs.Runs.{Run}
 use Rattle.node.specs.Moves.{Handed, Move, Moves, told_by, entries_by}
-use Rattle.node.specs.Telling.{Said, replies_of, from_topic, ReceiptsAreLate, receipts_told, Unfolds, bytes_of}
+use Rattle.node.specs.Telling.{Said, all_outgoing, from_topic, AnswersAreAtOnce, receipts_told, Unfolds, bytes_of}
 use Rattle.node.specs.Finding.{sends_by, FindsEach, IsQuiet}
+use Rattle.node.specs.Delivering.{DeliversEach}
 use Rattle.node.specs.declared.event.Event.{Event}
 use Rattle.node.specs.declared.event.Output.{Output}
 
@@ -49,7 +50,13 @@ abbrev pub ReceiptsAreFound : Type 0
 ReceiptsAreFound = (old : Topic) (moves : List Move) (new : Topic) → Moves old moves new → IsQuiet old
     → FindsEach (sends_by old.core.per_ledger (next_position old.core) moves) new.ledger (told_by moves)
 
--- what a topic did from its start on: the entries are those of accepted SENDs, and the receipts among what it told are found
+-- each message that was told on moves from a quiet topic was open and admitted where it went out, and is the entry that
+-- stands in the ledger at its position
+abbrev pub MessagesAreAdmitted : Type 0
+MessagesAreAdmitted = (old : Topic) (moves : List Move) (new : Topic) → Moves old moves new → IsQuiet old → DeliversEach old moves new.ledger (told_by moves)
+
+-- what a topic did from its start on: the entries are those of accepted SENDs, the receipts among what it told are found,
+-- and the messages were admitted
 pub record Account (old : Topic) (told : List Handed) (new : Topic) : Type 0 where
   pub moves : List Move
   pub steps : Moves old moves new
@@ -58,12 +65,13 @@ pub record Account (old : Topic) (told : List Handed) (new : Topic) : Type 0 whe
   pub published : IsPublished old moves new
   pub covered : receipts_told told + receipts_due new.core.queues ≤ length new.ledger
   pub found : FindsEach (sends_by old.core.per_ledger (next_position old.core) moves) new.ledger told
+  pub delivered : DeliversEach old moves new.ledger told
 
--- the bytes that a run of a new node writes are the frames of replies, each whole; receipts come from topics alone, and each topic can account for them
+-- the bytes that a run of a new node writes are frames, each whole; receipts and messages come from topics alone, and each topic can account for them
 pub record Accounts (old : Broker) (bytes : List ℕ) (new : Broker) : Type 0 where
   pub said : List Said
-  pub written : bytes ≡ reply_frames (replies_of said)
-  pub late : ReceiptsAreLate said
+  pub written : bytes ≡ frames_of (all_outgoing said)
+  pub at_once : AnswersAreAtOnce said
   pub each : (number : ℕ) → Account (topic_at old number) (from_topic number said) (topic_at new number)
 
 abbrev pub NewNodesAccount : Type 0

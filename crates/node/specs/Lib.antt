@@ -1,3 +1,4 @@
+pub mod Holding
 pub mod Topics
 pub mod State
 pub mod Steps
@@ -5,4 +6,5 @@ pub mod Runs
 pub mod Moves
 pub mod Telling
 pub mod Finding
+pub mod Delivering
 pub mod Laws

@@ -1,37 +1,61 @@
 -- The moves of a topic, and what it hands to sessions on them.
-use Rattle.std.specs.Prelude.{◌≡◌, ℕ, ◌+◌, Result, List, [], ◌∷◌, ◌++◌, length}
+use Rattle.std.specs.Prelude.{◌≡◌, ℕ, Result, Ok, Some, List, [], ◌∷◌, ◌++◌}
 use Rattle.commands.specs.declared.reply.Reply.{Reply}
 use Rattle.topic_core.specs.declared.command.Answer.{Answer}
 use Rattle.topic_core.specs.declared.command.TopicCommand.{TopicCommand}
+use Rattle.topic_core.specs.declared.dispatch.Outgoing.{Outgoing}
 use Rattle.topic_core.specs.declared.refusal.Refusal.{Refusal}
-use Rattle.topic_core.specs.Core.{Topic}
+use Rattle.subscriptions.specs.declared.consumer.TooManyPermits.{TooManyPermits}
+use Rattle.topic_core.specs.Core.{Core, Topic}
 use Rattle.topic_core.specs.Replies.{due_to}
-use Rattle.topic_core.specs.Steps.{TopicStep, collected}
+use Rattle.topic_core.specs.Steps.{TopicStep, GrantStep, collected}
+use Rattle.topic_core.specs.Dispatch.{DispatchStep}
 use Rattle.topic_core.specs.Flush.{FlushStep}
 use Rattle.topic_core.specs.Laws.{entries_added}
 use Rattle.session.specs.Broker.{with_core, left_topic}
 
--- a reply that a session takes from a topic
+-- what a session takes from a topic: a reply, and behind a MESSAGE its entry
 pub record Handed : Type 0 where
   pub session : ℕ
   pub reply : Reply
+  pub entry : List ℕ
+
+abbrev pub outgoing : Handed → Outgoing
+outgoing handed = record { reply = handed.reply; entry = handed.entry }
 
 pub data Move : Type 0 where
   Command : ℕ → TopicCommand → Answer → Move  -- a session's command, and its answer
   Tell : Handed → Move  -- a session takes its first due reply, which goes out
   Lose : Handed → Move  -- it takes it, and there is no memory to write it
+  Grant : ℕ → ℕ → ℕ → Result (Unit {0}) TooManyPermits → Move  -- a session grants its consumer so many permits
+  Deliver : ℕ → Handed → Move  -- a session's consumer gets a message, which goes out
+  Miss : ℕ → Handed → Move  -- it gets it, and there is no memory to write it
   Leave : ℕ → Move
   Flush : Result ℕ Refusal → Move
 
--- a session takes its first due reply
+-- a session takes its first due reply, behind which nothing stands
 pub record Takes (old : Topic) (handed : Handed) (new : Topic) : Type 0 where
+  pub plain : handed.entry ≡ []
   pub first : due_to handed.session old.core.queues ≡ handed.reply ∷ due_to handed.session new.core.queues
   pub taken : new ≡ with_core old (collected old.core handed.session handed.reply)
+
+-- the topic counts the permits of a session's consumer
+pub record Grants (old : Topic) (who id permits : ℕ) (result : Result (Unit {0}) TooManyPermits) (new : Topic) : Type 0 where
+  pub core : Core
+  pub step : GrantStep old.core who id permits result core
+  pub rest : new ≡ with_core old core
+
+-- a session's consumer gets a message
+abbrev pub Sends : Topic → ℕ → Handed → Topic → Type 0
+Sends old id handed new = DispatchStep old handed.session id (Ok (Some (outgoing handed))) new
 
 abbrev pub MoveStep : Topic → Move → Topic → Type 0
 MoveStep old (Command who command answer) new = TopicStep old who command answer new
 MoveStep old (Tell handed) new = Takes old handed new
 MoveStep old (Lose handed) new = Takes old handed new
+MoveStep old (Grant who id permits result) new = Grants old who id permits result new
+MoveStep old (Deliver id handed) new = Sends old id handed new
+MoveStep old (Miss id handed) new = Sends old id handed new
 MoveStep old (Leave who) new = new ≡ left_topic old who
 MoveStep old (Flush result) new = FlushStep old result new
 
@@ -40,11 +64,14 @@ abbrev pub Moves : Topic → List Move → Topic → Type 0
 Moves old [] new = new ≡ old
 Moves old (move ∷ moves) new = (between : Topic) × MoveStep old move between × Moves between moves new
 
--- the replies that go out on a move
+-- what goes out on a move
 abbrev pub told_on : Move → List Handed
 told_on (Command who command answer) = []
 told_on (Tell handed) = handed ∷ []
 told_on (Lose handed) = []
+told_on (Grant who id permits result) = []
+told_on (Deliver id handed) = handed ∷ []
+told_on (Miss id handed) = []
 told_on (Leave who) = []
 told_on (Flush result) = []
 
@@ -57,6 +84,9 @@ abbrev pub entries_on : Move → List (List ℕ)
 entries_on (Command who command answer) = entries_added command answer
 entries_on (Tell handed) = []
 entries_on (Lose handed) = []
+entries_on (Grant who id permits result) = []
+entries_on (Deliver id handed) = []
+entries_on (Miss id handed) = []
 entries_on (Leave who) = []
 entries_on (Flush result) = []
 

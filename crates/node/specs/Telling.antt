@@ -1,26 +1,28 @@
 -- What a run tells its clients, and the moves on which it does.
-use Rattle.std.specs.Prelude.{◌≡◌, ℕ, ◌+◌, cond, nat_eq, false, List, [], ◌∷◌, ◌++◌}
+use Rattle.std.specs.Prelude.{◌≡◌, ℕ, ◌+◌, cond, nat_eq, Bool, true, false, List, [], ◌∷◌, ◌++◌}
 use Rattle.commands.specs.declared.reply.Reply.{Reply}
+use Rattle.commands.specs.declared.reply.Reply.TheVariants.{Connected, ProducerSuccess, SendReceipt, SendError, Message, Success, Error, AckResponse, Pong}
+use Rattle.topic_core.specs.declared.dispatch.Outgoing.{Outgoing}
 use Rattle.topic_core.specs.Core.{Topic}
 use Rattle.topic_core.specs.Replies.{is_receipt}
 use Rattle.topic_core.specs.Steps.{receipts_of}
 use Rattle.session.specs.Broker.{Broker, topic_at}
-use Rattle.session.specs.Client.{reply_frames}
-use Rattle.node.specs.Moves.{Handed, Move, Moves, told_by}
+use Rattle.session.specs.Client.{plain, frames_of}
+use Rattle.node.specs.Moves.{Handed, outgoing, Move, Moves, told_by}
 use Rattle.node.specs.declared.event.Output.{Output}
 
--- a reply that goes out
+-- what goes out
 pub data Said : Type 0 where
   AtOnce : Reply → Said  -- it answers a command at once
-  From : ℕ → Handed → Said  -- the topic of this number had it due to the session
+  From : ℕ → Handed → Said  -- the topic of this number had it due to the session, or sent it to its consumer
 
-abbrev pub reply_of : Said → Reply
-reply_of (AtOnce reply) = reply
-reply_of (From number handed) = handed.reply
+abbrev pub outgoing_of : Said → Outgoing
+outgoing_of (AtOnce reply) = plain reply
+outgoing_of (From number handed) = outgoing handed
 
-abbrev pub replies_of : List Said → List Reply
-replies_of [] = []
-replies_of (said ∷ more) = reply_of said ∷ replies_of more
+abbrev pub all_outgoing : List Said → List Outgoing
+all_outgoing [] = []
+all_outgoing (said ∷ more) = outgoing_of said ∷ all_outgoing more
 
 -- those that come from a topic
 abbrev pub from_topic : ℕ → List Said → List Handed
@@ -28,11 +30,26 @@ from_topic number [] = []
 from_topic number (AtOnce reply ∷ more) = from_topic number more
 from_topic number (From other handed ∷ more) = cond (nat_eq other number) (handed ∷ from_topic number more) (from_topic number more)
 
--- no receipt answers a command at once
-abbrev pub ReceiptsAreLate : List Said → Type 0
-ReceiptsAreLate [] = Unit {0}
-ReceiptsAreLate (AtOnce reply ∷ more) = (is_receipt reply ≡ false) × ReceiptsAreLate more
-ReceiptsAreLate (From number handed ∷ more) = ReceiptsAreLate more
+abbrev pub is_message : Reply → Bool
+is_message Connected = false
+is_message (ProducerSuccess request_id name) = false
+is_message (SendReceipt producer_id sequence_id id) = false
+is_message (SendError producer_id sequence_id error) = false
+is_message (Message consumer_id id redelivery_count) = true
+is_message (Success request_id) = false
+is_message (Error request_id error) = false
+is_message (AckResponse consumer_id error request_id) = false
+is_message Pong = false
+
+-- neither a receipt nor a message answers a command at once
+pub record IsAtOnce (reply : Reply) : Type 0 where
+  pub no_receipt : is_receipt reply ≡ false
+  pub no_message : is_message reply ≡ false
+
+abbrev pub AnswersAreAtOnce : List Said → Type 0
+AnswersAreAtOnce [] = Unit {0}
+AnswersAreAtOnce (AtOnce reply ∷ more) = IsAtOnce reply × AnswersAreAtOnce more
+AnswersAreAtOnce (From number handed ∷ more) = AnswersAreAtOnce more
 
 -- how many receipts are among them
 abbrev pub receipts_told : List Handed → ℕ
@@ -45,11 +62,11 @@ pub record Course (old : Topic) (told : List Handed) (new : Topic) : Type 0 wher
   pub steps : Moves old moves new
   pub tells : told ≡ told_by moves
 
--- bytes go out, which are the frames of replies, each whole; and each topic makes moves, on which it tells just its own ones
+-- bytes go out, which are frames, each whole; and each topic makes moves, on which it tells just its own ones
 pub record Unfolds (old : Broker) (bytes : List ℕ) (new : Broker) : Type 0 where
   pub said : List Said
-  pub written : bytes ≡ reply_frames (replies_of said)
-  pub late : ReceiptsAreLate said
+  pub written : bytes ≡ frames_of (all_outgoing said)
+  pub at_once : AnswersAreAtOnce said
   pub each : (number : ℕ) → Course (topic_at old number) (from_topic number said) (topic_at new number)
 
 -- the bytes of outputs, one after another

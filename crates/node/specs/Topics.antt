@@ -1,8 +1,9 @@
 -- The topics of a node, and what a call does to one.
 use Rattle.std.specs.Prelude.{◌≡◌, ◌<◌, ℕ, Option, Some, None, Result, Ok, Err, List, length, nat_lt, cond}
 use Rattle.commands.specs.declared.reply.Reply.{Reply}
+use Rattle.subscriptions.specs.declared.consumer.TooManyPermits.{TooManyPermits}
 use Rattle.topic_core.specs.Core.{Topic}
-use Rattle.topic_core.specs.Steps.{Collects}
+use Rattle.topic_core.specs.Steps.{Collects, GrantStep}
 use Rattle.topic_core.specs.Flush.{FlushStep}
 use Rattle.topic_core.specs.declared.refusal.Refusal.{Refusal}
 use Rattle.topic_core.specs.declared.refusal.Refusal.TheVariants as refusal
@@ -21,6 +22,11 @@ place_in topics number = cond (nat_lt number (length topics)) (Some number) None
 -- a session takes the first reply that is due to it; the ledger stays
 pub record CollectsFrom (old : Topic) (who : ℕ) (reply : Option Reply) (new : Topic) : Type 0 where
   pub core : Collects old.core who reply new.core
+  pub rest : new ≡ with_core old new.core
+
+-- a session grants permits to its consumer; the ledger stays
+pub record GrantsFrom (old : Topic) (who id permits : ℕ) (result : Result (Unit {0}) TooManyPermits) (new : Topic) : Type 0 where
+  pub core : GrantStep old.core who id permits result new.core
   pub rest : new ≡ with_core old new.core
 
 -- how a flush's end is told; there is no device that fails

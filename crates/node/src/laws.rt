@@ -1,6 +1,6 @@
-ghost use Rattle.node.specs.Laws.{StepsUnfold, RunsUnfold, StaysSound, MovesPublish, ReceiptsAreCovered, ReceiptsAreFound, NewNodesAccount};
+ghost use Rattle.node.specs.Laws.{StepsUnfold, RunsUnfold, StaysSound, MovesPublish, ReceiptsAreCovered, ReceiptsAreFound, MessagesAreAdmitted, NewNodesAccount};
 
-/// The bytes of a step are the frames of replies, each whole, and the step moves each topic by allowed moves, on which it
+/// The bytes of a step are frames, each whole, and the step moves each topic by allowed moves, on which it
 /// hands out just those replies that don't answer a command at once.
 pub fn steps_unfold()
     ensures { StepsUnfold }
@@ -30,6 +30,12 @@ pub fn receipts_are_covered()
 /// run, also of the one that ends with the receipt, a receipt comes after the flush that committed its entry.
 pub fn receipts_are_found()
     ensures { ReceiptsAreFound }
+{}
+
+/// A message goes out only where its position is open on the consumer's subscription and admitted to it by mode and
+/// permits, and it is the entry that stands in the ledger there: one that was published.
+pub fn messages_are_admitted()
+    ensures { MessagesAreAdmitted }
 {}
 
 /// All of this, of every run of a new node, from its bytes out.

@@ -1,5 +1,5 @@
 //! A broker of one node in memory: each event moves an abstract broker by one allowed step, and its output is the whole
-//! frames of the replies of that step. A run works the events in order, one output each; where memory is refused, the
+//! frames of what that step says. A run works the events in order, one output each; where memory is refused, the
 //! events from there on weren't worked. Receipts follow the flush that committed their entries, which stay where they are.
 #![tactic(auto)]
 
@@ -13,8 +13,8 @@ mod topics;
 
 pub use event::{Event, Output, Verdict};
 pub use laws::{
-    moves_publish, new_nodes_account, receipts_are_covered, receipts_are_found, runs_unfold,
-    stays_sound, steps_unfold,
+    messages_are_admitted, moves_publish, new_nodes_account, receipts_are_covered,
+    receipts_are_found, runs_unfold, stays_sound, steps_unfold,
 };
 pub use node::Node;
 pub use octets::Octets;

@@ -33,13 +33,14 @@ impl Model for Node {
     ghost use Rattle.std.specs.Coded.{codes, coded_ℕ, coded_list};
     ghost use Rattle.std.specs.Ordering.{nat_cmp};
     ghost use Rattle.std.specs.Cmp.Lexicographic.{slice_cmp};
-    ghost use Rattle.std.specs.FinSet as set;
     ghost use Rattle.std.specs.FinMap as map;
+    ghost use Rattle.cursor.specs.Positions.{positions_code};
+    ghost use Rattle.holds.specs.Deliveries.{deliveries_code};
     ghost use Rattle.node.specs.State.{State};
 
     ghost Value = { State };
 
-    ghost coded = { Prim.hlevel (codes, set.code {R = nat_cmp} coded_ℕ, map.code {R = nat_cmp} coded_ℕ coded_ℕ, map.code {R = slice_cmp nat_cmp} (coded_list coded_ℕ) (set.code {R = nat_cmp} coded_ℕ)) };
+    ghost coded = { Prim.hlevel (codes, positions_code, deliveries_code, map.code {R = slice_cmp nat_cmp} (coded_list coded_ℕ) positions_code) };
 
     ghost use Rattle.node.specs.Topics.{broker_of};
 
@@ -86,7 +87,7 @@ fn settle(sessions: &mut Vec<Session>, place: usize, fault: Option<Fault>)
 impl Node {
     /// A node with the topic `persistent://a/b/c`, number 0, in which nothing happened yet. A ledger id has `per_ledger`
     /// entry ids.
-    pub fn new(alloc: Global, per_ledger: u64) -> Result<Node, AllocError>
+    pub fn new(alloc: Global, per_ledger: u32) -> Result<Node, AllocError>
         requires numbered { 1 ≤ per_ledger }
         requires most { per_ledger ≤ 50000 }
         ensures { IfOk result (λ node. node ≡ fresh_state per_ledger) }

@@ -8,7 +8,7 @@ use crate::topics::Topics;
 use commands::{Reply, Text};
 use session::{Found, Port};
 use std::alloc::{AllocError, Global};
-use topic_core::{Answer, TopicCommand};
+use topic_core::{Answer, Outgoing, Refusal, TooManyPermits, TopicCommand};
 
 /// The most topics of a node. Our own rule.
 const MOST_TOPICS: usize = 64;
@@ -23,7 +23,7 @@ fn place_of_name(names: &[Text], name: &str) -> Option<usize>
 
 impl Topics {
     /// No topic.
-    pub(crate) fn new(alloc: Global, per_ledger: u64) -> Topics
+    pub(crate) fn new(alloc: Global, per_ledger: u32) -> Topics
         requires { 0 < per_ledger }
         ensures { broker_of result ≡ record { per_ledger = per_ledger; names = []; topics = [] } }
     {
@@ -79,6 +79,11 @@ impl Port for Topics {
         held.has_producer(who, producer_id)
     }
 
+    fn has_consumer(&self, topic: u64, who: u64, consumer_id: u64) -> bool {
+        let held = &self.held[topic as usize];
+        held.has_consumer(who, consumer_id)
+    }
+
     fn find(&mut self, name: &str) -> Found {
         if let Some(place) = place_of_name(self.names.as_slice(), name) {
             return Found::Topic(place as u64);
@@ -96,6 +101,27 @@ impl Port for Topics {
     fn command(&mut self, topic: u64, who: u64, command: TopicCommand) -> Answer {
         let held = &mut self.held[topic as usize];
         held.command(who, command)
+    }
+
+    fn grant(
+        &mut self,
+        topic: u64,
+        who: u64,
+        consumer_id: u64,
+        permits: u32,
+    ) -> Result<(), TooManyPermits> {
+        let held = &mut self.held[topic as usize];
+        held.grant(who, consumer_id, permits)
+    }
+
+    fn dispatch(
+        &mut self,
+        topic: u64,
+        who: u64,
+        consumer_id: u64,
+    ) -> Result<Option<Outgoing>, Refusal> {
+        let held = &mut self.held[topic as usize];
+        held.dispatch(who, consumer_id)
     }
 
     fn collect(&mut self, topic: u64, who: u64) -> Option<Reply> {

@@ -35,6 +35,24 @@ const PING: [u8; 13] = [0, 0, 0, 9, 0, 0, 0, 5, 8, 0x12, 0x92, 1, 0];
 
 const PONG: [u8; 13] = [0, 0, 0, 9, 0, 0, 0, 5, 8, 0x13, 0x9a, 1, 0];
 
+/// Of consumer 2 on `persistent://a/b/c`, with request 8, to the subscription `s` from the first entry on.
+const SUBSCRIBE: [u8; 43] = [
+    0, 0, 0, 0x27, 0, 0, 0, 0x23, 8, 4, 0x22, 0x1f, 0x0a, 0x12, 0x70, 0x65, 0x72, 0x73, 0x69, 0x73,
+    0x74, 0x65, 0x6e, 0x74, 0x3a, 0x2f, 0x2f, 0x61, 0x2f, 0x62, 0x2f, 0x63, 0x12, 1, 0x73, 0x18, 0,
+    0x20, 2, 0x28, 8, 0x68, 1,
+];
+
+/// One permit for consumer 2.
+const FLOW: [u8; 16] = [0, 0, 0, 0x0c, 0, 0, 0, 8, 8, 0x0b, 0x5a, 4, 8, 2, 0x10, 1];
+
+/// RECEIPT, SUCCESS of request 8, and MESSAGE for consumer 2 with the entry of SEND.
+const RECEIPT_SUCCESS_MESSAGE: [u8; 70] = [
+    0, 0, 0, 0x12, 0, 0, 0, 0x0e, 8, 7, 0x3a, 0x0a, 8, 1, 0x10, 0, 0x1a, 4, 8, 0, 0x10, 0, // RECEIPT
+    0, 0, 0, 0x0a, 0, 0, 0, 6, 8, 0x0d, 0x6a, 2, 8, 8, // SUCCESS
+    0, 0, 0, 0x1e, 0, 0, 0, 0x0c, 8, 9, 0x4a, 8, 8, 2, 0x12, 4, 8, 0, 0x10, 0, 0, 0, 0, 0x0a, 0x0a,
+    1, 0x70, 0x10, 0, 0x18, 1, 0xc0, 0x3e, 5,
+];
+
 fn octets(alloc: Global, bytes: &[u8]) -> Result<Octets, AllocError> {
     Ok(Octets::from(bytes.to_vec(alloc)?))
 }
@@ -78,6 +96,24 @@ fn a_send_is_receipted_after_the_flush(rt: HostRuntime) -> Result<(), Fail> {
     let pumped = step(&mut node, Event::Pump(0))?;
     assert_eq!(rt; pumped.bytes.as_slice(), RECEIPT.as_slice());
     assert_eq!(rt; pumped.result, Verdict::Done);
+    let again = step(&mut node, Event::Pump(0))?;
+    assert!(rt; again.bytes.as_slice().is_empty());
+    Ok(())
+}
+
+#[test]
+fn a_consumer_gets_a_message(rt: HostRuntime) -> Result<(), Fail> {
+    let alloc = rt.alloc();
+    let mut node = Node::new(alloc, 1_000)?;
+    step(&mut node, Event::Open)?;
+    step(&mut node, Event::Bytes(0, octets(alloc, &CONNECT)?))?;
+    step(&mut node, Event::Bytes(0, octets(alloc, &PRODUCER)?))?;
+    step(&mut node, Event::Bytes(0, octets(alloc, &SEND)?))?;
+    step(&mut node, Event::Bytes(0, octets(alloc, &SUBSCRIBE)?))?;
+    step(&mut node, Event::Bytes(0, octets(alloc, &FLOW)?))?;
+    step(&mut node, Event::Flush(0))?;
+    let pumped = step(&mut node, Event::Pump(0))?;
+    assert_eq!(rt; pumped.bytes.as_slice(), RECEIPT_SUCCESS_MESSAGE.as_slice());
     let again = step(&mut node, Event::Pump(0))?;
     assert!(rt; again.bytes.as_slice().is_empty());
     Ok(())
@@ -164,5 +200,6 @@ fn laws_cost_nothing() {
     moves_publish();
     receipts_are_covered();
     receipts_are_found();
+    messages_are_admitted();
     new_nodes_account();
 }

@@ -8,7 +8,7 @@ use std::alloc::Global;
 #[derive(Drop)]
 pub(crate) struct Topics {
     pub(crate) alloc: Global,
-    pub(crate) per_ledger: u64,
+    pub(crate) per_ledger: u32,
     pub(crate) names: Vec<Text>,
     pub(crate) held: Vec<Held>,
     pub ghost numbered: { 0 < per_ledger },

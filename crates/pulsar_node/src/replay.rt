@@ -53,7 +53,7 @@ fn replay_script<W: Write>(alloc: Global, bytes: &[u8], writer: &mut W) -> Resul
     ensures { Replays bytes.now (W.contents writer.old) (W.contents writer.new) result }
 {
     let Script { per_ledger, lines } = read_script(alloc, bytes)?;
-    let mut node = Node::new(alloc, per_ledger)?;
+    let mut node = Node::new(alloc, per_ledger as u32)?;
     write_output(alloc, 1, &[], Outcome::Done, writer)?;
     work_lines(alloc, &mut node, lines.into_vec(), writer)?;
     match writer.flush() {

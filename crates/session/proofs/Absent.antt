@@ -1,19 +1,25 @@
 -- A topic that isn't there has no producers and nothing due.
-use Rattle.std.proofs.Common.{◌≡◌, ℕ, ◌≤◌, List, [], length, set, get_or, refl, ap, sym, ◌∙◌, subst, false}
+use Rattle.std.proofs.Common.{◌≡◌, ℕ, ◌≤◌, List, [], length, set, get_or, refl, ap, sym, ◌∙◌, subst, false, Option, Some, None, Ok}
 use Rattle.std.proofs.lemmas.List.{get_or_past, set-get_or}
-use Rattle.commands.specs.declared.reply.Reply.TheVariants.{SendError}
-use Rattle.commands.specs.declared.server_error.ServerError.TheVariants.{NotAllowedError}
+use Rattle.commands.specs.declared.reply.Reply.TheVariants.{SendError, AckResponse}
+use Rattle.commands.specs.declared.server_error.ServerError.TheVariants.{NotAllowedError, ConsumerNotFound}
 use Rattle.topic_core.specs.Core.{Core, Topic}
 use Rattle.topic_core.specs.Replies.{due_to}
 use Rattle.topic_core.specs.declared.command.Send.{Send}
 use Rattle.topic_core.specs.declared.command.TopicCommand.{TopicCommand}
 use Rattle.topic_core.specs.declared.command.TopicCommand.TheVariants as command
 use Rattle.topic_core.specs.declared.command.Answer.{Answer}
-use Rattle.topic_core.specs.declared.command.Answer.TheVariants.{Now}
-use Rattle.topic_core.specs.Steps.{TopicStep}
-use Rattle.session.specs.Broker.{Broker, fresh, topic_at, with_topic, due_at, CommandStep}
+use Rattle.topic_core.specs.declared.command.Answer.TheVariants.{Now, Nothing}
+use Rattle.commands.specs.declared.consuming.Ack.{Ack as Asked}
+use Rattle.commands.specs.declared.consuming.AckType.{AckType}
+use Rattle.ids.specs.declared.message_id.MessageIdData.{MessageIdData}
+use Rattle.holds.specs.declared.consumer.ConsumerKey.{ConsumerKey}
+use Rattle.topic_core.specs.Steps.{TopicStep, GrantStep, ack_refused}
+use Rattle.topic_core.specs.Dispatch.{Admits}
+use Rattle.session.specs.Broker.{Broker, fresh, topic_at, with_topic, with_core, due_at, CommandStep, GrantAt}
 use Rattle.session.specs.Client.{Play, SaysAlone}
 use Rattle.session.specs.Producing.{Asks}
+use Rattle.session.specs.Consuming.{RefusesAck, ack_command}
 
 pub topic_at-absent : (b : Broker) (number : ℕ) → length b.topics ≤ number → topic_at b number ≡ fresh b.per_ledger
 topic_at-absent b number h = get_or_past b.topics number (fresh b.per_ledger) h
@@ -46,3 +52,52 @@ asks-absent old number send new h s = record {
       subst P (sym s.1) (absent-refuses old.broker number old.client.number send h);
   answered = s.0;
 }
+
+-- a fresh topic refuses an ACK
+pub fresh-acks : (n who id : ℕ) (kind : AckType) (ids : List MessageIdData) (request : Option ℕ) →
+    TopicStep (fresh n) who (command.Ack (record { consumer_id = id; ack_type = kind; ids = ids; request_id = request })) (ack_refused id request ConsumerNotFound) (fresh n)
+fresh-acks n who id kind ids None = record { core = (refl, refl); ledger = refl; kept = refl }
+fresh-acks n who id kind ids (Some request) = record { core = (refl, refl); ledger = refl; kept = refl }
+
+-- so does one that isn't there
+pub absent-acks : (b : Broker) (number who : ℕ) (asked : Asked) → length b.topics ≤ number → CommandStep b number who (ack_command asked) (ack_refused asked.consumer_id asked.request_id ConsumerNotFound) b
+absent-acks b number who asked h = record {
+  step = let P : Topic → Type 0 = λ t. TopicStep t who (ack_command asked) (ack_refused asked.consumer_id asked.request_id ConsumerNotFound) t in
+      subst P (sym (topic_at-absent b number h)) (fresh-acks b.per_ledger who asked.consumer_id asked.ack_type asked.message_ids asked.request_id);
+  others = sym (with_topic-same b number);
+}
+
+acks-answer : (request : Option ℕ) (old : Play) (number : ℕ) (asked : Asked) (new : Play) →
+    CommandStep old.broker number old.client.number (ack_command asked) (ack_refused asked.consumer_id request ConsumerNotFound) old.broker →
+    RefusesAck request old asked.consumer_id new → Asks old number (ack_command asked) new
+acks-answer None old number asked new step h = record {
+  answer = Nothing;
+  step = let P : Broker → Type 0 = λ b. CommandStep old.broker number old.client.number (ack_command asked) Nothing b in
+      subst P (sym (ap (λ (p : Play). p.broker) h)) step;
+  answered = (ap (λ (p : Play). p.client) h, ap (λ (p : Play). p.out) h);
+}
+acks-answer (Some request) old number asked new step h = record {
+  answer = Now (AckResponse asked.consumer_id (Some ConsumerNotFound) request);
+  step = let P : Broker → Type 0 = λ b. CommandStep old.broker number old.client.number (ack_command asked) (Now (AckResponse asked.consumer_id (Some ConsumerNotFound) request)) b in
+      subst P (sym h.1) step;
+  answered = h.0;
+}
+
+-- the session may refuse it by itself
+pub acks-absent : (old : Play) (number : ℕ) (asked : Asked) (new : Play) → length old.broker.topics ≤ number →
+    RefusesAck asked.request_id old asked.consumer_id new → Asks old number (ack_command asked) new
+acks-absent old number asked new h r = acks-answer asked.request_id old number asked new (absent-acks old.broker number old.client.number asked h) r
+
+-- a topic that isn't there grants nothing
+pub grants-absent : (b : Broker) (number who id permits : ℕ) → length b.topics ≤ number → GrantAt b number who id permits (Ok tt) b
+grants-absent b number who id permits h = record {
+  step = let P : Topic → Type 0 = λ t. GrantStep t.core who id permits (Ok tt) t.core in
+      subst P (sym (topic_at-absent b number h)) (refl, refl);
+  others = sym (with_topic-same b number);
+}
+
+-- and admits nothing
+pub admits-absent : (b : Broker) (number : ℕ) (key : ConsumerKey) (i : ℕ) → length b.topics ≤ number → Admits (topic_at b number).core key i → ⊥
+admits-absent b number key i h a =
+    let P : Topic → Type 0 = λ t. Admits t.core key i in
+    (subst P (topic_at-absent b number h) a).admitted

@@ -1,5 +1,5 @@
 -- How feeds and pumps end: with nothing due, or with a session that has left.
-use Rattle.std.proofs.Common.{◌≡◌, ◌≢◌, ◌≤◌, ◌<◌, ℕ, zero, suc, List, [], ◌∷◌, Bool, true, false, not, ◌&&◌, nat_eq, cond, ⊎_elim, map, filter, get_or, refl, sym, ap, ◌∙◌, subst, Option, Some, None, Result, Ok, Err, arith, rules}
+use Rattle.std.proofs.Common.{◌≡◌, ◌≢◌, ◌≤◌, ◌<◌, ℕ, zero, suc, List, [], ◌∷◌, Bool, true, false, not, nat_lt, ◌&&◌, ◌||◌, nat_eq, cond, ⊎_elim, map, filter, get_or, refl, sym, ap, ◌∙◌, subst, Option, Some, None, Result, Ok, Err, arith, rules}
 use Rattle.std.proofs.Math.ListN.{get_or-map}
 use Rattle.std.proofs.lemmas.Bool.{cases_eq}
 use Rattle.std.proofs.lemmas.Map.Views.{any-filter_same}
@@ -8,7 +8,11 @@ use Rattle.commands.specs.declared.reply.Reply.{Reply}
 use Rattle.topic_core.specs.declared.producer.Producer.{Producer}
 use Rattle.topic_core.specs.Core.{Core, Topic}
 use Rattle.topic_core.specs.Replies.{SessionReplies, is_for, due_to, pending_to}
-use Rattle.topic_core.specs.Steps.{has_producer, is_producer, left}
+use Rattle.holds.specs.declared.consumer.ConsumerKey.{ConsumerKey}
+use Rattle.subscriptions.specs.declared.consumer.Consumer.{Consumer}
+use Rattle.subscriptions.specs.State.{Subscription}
+use Rattle.subscriptions.specs.Steps.{is_on, is_consumer, left_on}
+use Rattle.topic_core.specs.Steps.{has_producer, is_producer, has_consumer, key_of, left}
 use Rattle.session.specs.declared.fault.Fault.{Fault}
 use Rattle.session.specs.declared.pumping.More.{More}
 use Rattle.session.specs.declared.pumping.More.TheVariants.{Yes, No}
@@ -18,6 +22,7 @@ use Rattle.session.specs.Broker.{Broker, fresh, topic_at, due_at, left_topic, le
 use Rattle.session.specs.Client.{Client, Play, left_if, left_if_ended}
 use Rattle.session.specs.Working.{FeedIn, FeedStep, feed_result}
 use Rattle.session.specs.Pumping.{HasNothingDue, Pumps, PumpIn, PumpStep, pump_result}
+use Rattle.session.proofs.Plays.{serves_if-fault, serves_if-due}
 use Rattle.session.specs.Laws.{HasLeft, PumpsFinish, EndedFeedsLeave, EndedPumpsLeave}
 
 -- both tests hold, so the first does
@@ -28,6 +33,18 @@ and-left false b h = h
 -- no producer of the session is left
 pub left-producers : (who id : ℕ) (t : Core) → has_producer (left t who) who id ≡ false
 left-producers who id t = any-filter_same (is_producer who id) (λ p. not (nat_eq p.session who)) false (λ p h. ap not (and-left (nat_eq p.session who) (nat_eq p.id id) h)) t.producers
+
+-- no consumer of the session is left on a subscription
+left-consumers-on : (who id : ℕ) (s : Subscription) → is_on (key_of who id) (left_on who s) ≡ false
+left-consumers-on who id s = any-filter_same (is_consumer (key_of who id)) (λ c. not (nat_eq c.key.session who)) false (λ c h. ap not (and-left (nat_eq c.key.session who) (nat_eq c.key.id id) h)) s.consumers
+
+left-consumers-in : (who id : ℕ) (subs : List Subscription) → list_any (is_on (key_of who id)) (map (λ s. left_on who s) subs) ≡ false
+left-consumers-in who id [] = refl
+left-consumers-in who id (s ∷ subs) = ap (λ b. b || list_any (is_on (key_of who id)) (map (λ x. left_on who x) subs)) (left-consumers-on who id s) ∙ left-consumers-in who id subs
+
+-- nor on any
+pub left-consumers : (who id : ℕ) (t : Core) → has_consumer (left t who) who id ≡ false
+left-consumers who id t = left-consumers-in who id t.subs.subs
 
 -- no reply for it is due
 left-due-cons : (who : ℕ) (q : SessionReplies) (rest : List SessionReplies) (b : Bool) → is_for who q ≡ b → due_to who rest ≡ [] → due_to who (cond (not b) (q ∷ rest) rest) ≡ []
@@ -58,6 +75,7 @@ has_left p b h =
     let at : (number : ℕ) → topic_at p.broker number ≡ left_topic (topic_at b number) who = λ number. ap (λ (x : Broker). topic_at x number) h ∙ topic_at-left_all b who number in
     record {
       producers = λ topic id. ap (λ (t : Topic). has_producer t.core who id) (at topic) ∙ left-producers who id (topic_at b topic).core;
+      consumers = λ topic id. ap (λ (t : Topic). has_consumer t.core who id) (at topic) ∙ left-consumers who id (topic_at b topic).core;
       due = λ topic. ap (λ (t : Topic). due_to who t.core.queues) (at topic) ∙ left-due who (topic_at b topic).core.queues;
       pending = λ topic. ap (λ (t : Topic). pending_to who t.core.queues) (at topic) ∙ left-pending who (topic_at b topic).core.queues;
     }
@@ -79,29 +97,30 @@ ended_feeds_leave old bytes why new none h =
     let s = subst P none h in
     ended_leaves _ new why s.0.ends (fault_of-feed new.client.fault why s.1)
 
-pub fault_of-pump : (f : Option Fault) (count : ℕ) (why : PumpFault) → Err why ≡ pump_result f count → (x : Fault) × (f ≡ Some x)
-fault_of-pump None count why h = absurd (let no : ⊥ = cc in no)
-fault_of-pump (Some x) count why h = (x, refl)
+pub fault_of-pump : (f : Option Fault) (replies messages : ℕ) (why : PumpFault) → Err why ≡ pump_result f replies messages → (x : Fault) × (f ≡ Some x)
+fault_of-pump None replies messages why h = absurd (let no : ⊥ = cc in no)
+fault_of-pump (Some x) replies messages why h = (x, refl)
 
 pub ended_pumps_leave : EndedPumpsLeave
 ended_pumps_leave old why new none h =
     let P : Option Fault → Type 0 = λ f. PumpIn f old (Err why) new in
     let s = subst P none h in
-    let f = fault_of-pump s.collected.client.fault s.count why s.result_is in
-    ended_leaves s.collected new f.0 s.ends (ap (λ (p : Play). p.client.fault) s.ends ∙ f.1)
+    let f = fault_of-pump s.served.client.fault s.replies s.messages why s.result_is in
+    ended_leaves s.served new f.0 s.ends (ap (λ (p : Play). p.client.fault) s.ends ∙ f.1)
 
 -- a pump that answers that no more is due has met no fault and not its bound
-pub stops_by_itself : (f : Option Fault) (count : ℕ) → count ≤ 65536 → Ok No ≡ pump_result f count → (f ≡ None) × (count < 65536)
-stops_by_itself None count h e =
-    let P : ℕ → Type 0 = λ n. Ok No ≡ pump_result None n in
-    (refl, ⊎_elim (λ same. let bound = subst P same e in absurd (let no : ⊥ = cc in no)) (λ other. omega arith) (cases_eq count 65536))
-stops_by_itself (Some why) count h e = absurd (let no : ⊥ = cc in no)
+pub stops_by_itself : (f : Option Fault) (replies messages : ℕ) → replies ≤ 65536 → Ok No ≡ pump_result f replies messages → (f ≡ None) × (replies < 65536)
+stops_by_itself None replies messages h e =
+    let P : ℕ → Type 0 = λ n. Ok No ≡ pump_result None n messages in
+    (refl, ⊎_elim (λ same. let bound = subst P same e in absurd (let no : ⊥ = cc in no)) (λ other. omega arith) (cases_eq replies 65536))
+stops_by_itself (Some why) replies messages h e = absurd (let no : ⊥ = cc in no)
 
 finishes : (f : Option Fault) (old new : Play) → PumpIn f old (Ok No) new → HasNothingDue new
 finishes None old new h =
-    let stop = stops_by_itself h.collected.client.fault h.count h.most h.result_is in
-    let same : new ≡ h.collected = h.ends ∙ ap (λ (f : Option Fault). let p : Play = record h.collected { broker = left_if f h.collected.broker h.collected.client.number } in p) stop.0 in
-    subst HasNothingDue (sym same) (h.all stop.0 stop.1)
+    let stop = stops_by_itself h.served.client.fault h.replies h.messages h.most h.result_is in
+    let same : new ≡ h.served = h.ends ∙ ap (λ (f : Option Fault). let p : Play = record h.served { broker = left_if f h.served.broker h.served.client.number } in p) stop.0 in
+    let before = serves_if-fault (nat_lt h.replies 65536) h.messages h.collected h.served h.serves stop.0 in
+    subst HasNothingDue (sym same) (serves_if-due (nat_lt h.replies 65536) h.messages h.collected h.served h.serves (h.all before stop.1))
 finishes (Some why) old new h = absurd (let no : ⊥ = cc in no)
 
 pub pumps_finish : PumpsFinish

@@ -2,6 +2,9 @@ pub mod Absent
 pub mod Ends
 pub mod Leaving
 pub mod Names
+pub mod Places
 pub mod Plays
+pub mod Rising
+pub mod Serving
 pub mod Speaking
 pub mod WholeFrames

@@ -1,16 +1,18 @@
 -- Steps, one after another.
-use Rattle.std.proofs.Common.{◌≡◌, ◌≢◌, ◌≤◌, ◌<◌, List, [], ◌∷◌, ◌++◌, length, set, get_or, refl, sym, subst, ap, ◌∙◌, ℕ, zero, suc, ◌+◌, add-one, add-zero, add-suc, Option, Some, None, Result, inl, inr, ⊎_elim}
+use Rattle.std.proofs.Common.{◌≡◌, ◌≢◌, ◌≤◌, ◌<◌, List, [], ◌∷◌, ◌++◌, length, set, get_or, refl, sym, subst, ap, ◌∙◌, ℕ, zero, suc, ◌+◌, ◌-◌, ◌⊎◌, Bool, true, false, Ok, arith, add-one, add-zero, add-suc, Option, Some, None, Result, inl, inr, ⊎_elim}
 use Rattle.std.proofs.lemmas.List.{length-set, get_or-set_other}
 use Rattle.frames.specs.declared.fault.Fault.{Fault as FrameFault}
 use Rattle.frames.specs.declared.frame.Frame.{Frame}
 use Rattle.frames.specs.Streams.{Progress, FeedsOn}
-use Rattle.topic_core.specs.Core.{Topic}
+use Rattle.topic_core.specs.declared.dispatch.Outgoing.{Outgoing}
+use Rattle.topic_core.specs.Core.{Core, Topic}
 use Rattle.topic_core.specs.Replies.{due_to}
 use Rattle.session.specs.declared.fault.Fault.{Fault}
-use Rattle.session.specs.Broker.{Broker, fresh, topic_at, with_topic, due_at}
-use Rattle.session.specs.Client.{Client, Play, play, left_if, left_if_ended}
+use Rattle.session.specs.Broker.{Broker, fresh, topic_at, with_topic, due_at, DispatchAt}
+use Rattle.session.specs.Client.{Client, Play, play, Says, left_if, left_if_ended}
 use Rattle.session.specs.Working.{FrameStep, FramesStep, first_fault, ended_if, feed_result, FeedIn, FeedStep}
-use Rattle.session.specs.Pumping.{CollectsFrom, CollectsAt, Collects}
+use Rattle.session.specs.Pumping.{CollectsFrom, CollectsAt, Collects, HasNothingDue, SendsOne, Sends, FindsNoMemory, Serves, ServesEach, ServesIf}
+use Rattle.session.specs.declared.consumer_entry.ConsumerEntry.{ConsumerEntry}
 
 -- one frame more
 pub frames_step-push : (a : Play) (frames : List Frame) (m : Play) (frame : Frame) (b : Play) → FramesStep a frames m → FrameStep m frame b → FramesStep a (frames ++ frame ∷ []) b
@@ -60,3 +62,75 @@ collects-length zero a b h = ap (λ (p : Play). length p.broker.topics) h
 collects-length (suc n) a b h =
     let w = collects_from-broker h.2 h.0 b h.3 in
     ap (λ (x : Broker). length x.topics) w.1 ∙ length-set h.0.broker.topics h.2 w.0 ∙ collects-length n a h.0 h.1
+
+-- what is due stays where another topic with the same is set
+set-due : (topics : List Topic) (at : ℕ) (t : Topic) (number who n : ℕ) → due_to who t.core.queues ≡ due_to who (get_or topics at (fresh n)).core.queues →
+    due_to who (get_or (set topics at t) number (fresh n)).core.queues ≡ due_to who (get_or topics number (fresh n)).core.queues
+set-due [] at t number who n same = refl
+set-due (x ∷ xs) zero t zero who n same = same
+set-due (x ∷ xs) zero t (suc number) who n same = refl
+set-due (x ∷ xs) (suc at) t zero who n same = refl
+set-due (x ∷ xs) (suc at) t (suc number) who n same = set-due xs at t number who n same
+
+-- what is said changes no more than the fault
+says-number : (c : Client) (out : List ℕ) (o : Outgoing) (d : Client) (out' : List ℕ) → Says c out o d out' → d.number ≡ c.number
+says-number c out o d out' (inl went) = ap (λ (x : Client). x.number) went.0
+says-number c out o d out' (inr lost) = ap (λ (x : Client). x.number) lost.0
+
+-- a session that hasn't ended hadn't before
+pub sends-fault : (consumer : ConsumerEntry) (n : ℕ) (a b : Play) → Sends consumer n a b → b.client.fault ≡ None → a.client.fault ≡ None
+sends-fault consumer zero a b h none = sym (ap (λ (p : Play). p.client.fault) h) ∙ none
+sends-fault consumer (suc n) a b h none = sends-fault consumer n a h.0 h.1 h.2.goes_on
+
+stops-fault : (consumer : ConsumerEntry) (a b : Play) → (b ≡ a) ⊎ FindsNoMemory a b → b.client.fault ≡ None → a.client.fault ≡ None
+stops-fault consumer a b (inl same) none = sym (ap (λ (p : Play). p.client.fault) same) ∙ none
+stops-fault consumer a b (inr stops) none = stops.goes_on
+
+pub serves-fault : (consumer : ConsumerEntry) (most n : ℕ) (a b : Play) → Serves consumer most n a b → b.client.fault ≡ None → a.client.fault ≡ None
+serves-fault consumer most n a b h none = sends-fault consumer n a h.sent h.sends (stops-fault consumer h.sent b h.stops none)
+
+serves_each-fault : (consumers : List ConsumerEntry) (most n : ℕ) (a b : Play) → ServesEach consumers most n a b → b.client.fault ≡ None → a.client.fault ≡ None
+serves_each-fault [] most n a b h none = sym (ap (λ (p : Play). p.client.fault) h.1) ∙ none
+serves_each-fault (c ∷ cs) most n a b h none = serves-fault c most h.0 a h.2 h.3 (serves_each-fault cs (most - h.0) h.1 h.2 b h.4 none)
+
+pub serves_if-fault : (goes_on : Bool) (n : ℕ) (a b : Play) → ServesIf goes_on n a b → b.client.fault ≡ None → a.client.fault ≡ None
+serves_if-fault true n a b h none = serves_each-fault a.client.consumers 64 n a b h none
+serves_if-fault false n a b h none = sym (ap (λ (p : Play). p.client.fault) h.1) ∙ none
+
+-- a message leaves what is due
+dispatch-due : (b c : Broker) (number who id : ℕ) (message : Outgoing) → DispatchAt b number who id (Ok (Some message)) c → (topic other : ℕ) → due_at c topic other ≡ due_at b topic other
+dispatch-due b c number who id message h topic other =
+    ap (λ (x : Broker). due_at x topic other) h.others ∙ set-due b.topics number (topic_at c number) topic other b.per_ledger
+    (ap (λ (x : Core). due_to other x.queues) h.step.core.1.sent)
+
+sends_one-due : (consumer : ConsumerEntry) (a b : Play) → SendsOne consumer a b → HasNothingDue a → HasNothingDue b
+sends_one-due consumer a b h none = λ topic.
+    dispatch-due a.broker b.broker consumer.topic a.client.number consumer.consumer_id h.message h.takes topic b.client.number
+    ∙ ap (λ who. due_at a.broker topic who) (says-number a.client a.out h.message b.client b.out h.says) ∙ none topic
+
+sends-due : (consumer : ConsumerEntry) (n : ℕ) (a b : Play) → Sends consumer n a b → HasNothingDue a → HasNothingDue b
+sends-due consumer zero a b h none = subst HasNothingDue (sym h) none
+sends-due consumer (suc n) a b h none = sends_one-due consumer h.0 b h.2 (sends-due consumer n a h.0 h.1 none)
+
+stops-due : (a b : Play) → (b ≡ a) ⊎ FindsNoMemory a b → HasNothingDue a → HasNothingDue b
+stops-due a b (inl same) none = subst HasNothingDue (sym same) none
+stops-due a b (inr stops) none = subst HasNothingDue (sym stops.ends) none
+
+serves_each-due : (consumers : List ConsumerEntry) (most n : ℕ) (a b : Play) → ServesEach consumers most n a b → HasNothingDue a → HasNothingDue b
+serves_each-due [] most n a b h none = subst HasNothingDue (sym h.1) none
+serves_each-due (c ∷ cs) most n a b h none =
+    serves_each-due cs (most - h.0) h.1 h.2 b h.4 (stops-due h.3.sent h.2 h.3.stops (sends-due c h.0 a h.3.sent h.3.sends none))
+
+pub serves_if-due : (goes_on : Bool) (n : ℕ) (a b : Play) → ServesIf goes_on n a b → HasNothingDue a → HasNothingDue b
+serves_if-due true n a b h none = serves_each-due a.client.consumers 64 n a b h none
+serves_if-due false n a b h none = subst HasNothingDue (sym h.1) none
+
+-- one consumer more is served
+pub serves_each-push : (consumers : List ConsumerEntry) (most n k : ℕ) (a m b : Play) (consumer : ConsumerEntry) → ServesEach consumers most n a m → Serves consumer (most - n) k m b → ServesEach (consumers ++ consumer ∷ []) most (n + k) a b
+serves_each-push [] most n k a m b consumer h s =
+    let P : Play → Type 0 = λ p. Serves consumer (most - n) k p b in
+    let Q : ℕ → Type 0 = λ i. Serves consumer i k a b in
+    (k, 0, b, subst Q (omega (arith, h.0)) (subst P h.1 s), (refl, refl), omega (arith, h.0))
+serves_each-push (c ∷ cs) most n k a m b consumer h s =
+    let Q : ℕ → Type 0 = λ i. Serves consumer i k m b in
+    (h.0, h.1 + k, h.2, h.3, serves_each-push cs (most - h.0) h.1 k h.2 m b consumer h.4 (subst Q (omega (arith, h.5)) s), omega (arith, h.5))

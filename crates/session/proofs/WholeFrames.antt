@@ -1,10 +1,13 @@
 -- Each step of a session writes whole frames.
-use Rattle.std.proofs.Common.{◌≡◌, ◌⊎◌, inl, inr, ℕ, zero, suc, List, [], ◌∷◌, Bool, true, false, Option, Some, None, Result, Ok, Err, refl, ap, ⊎_elim}
+use Rattle.std.proofs.Common.{◌≡◌, ◌⊎◌, inl, inr, ℕ, ◌-◌, zero, suc, List, [], ◌∷◌, Bool, true, false, Option, Some, None, Result, Ok, Err, refl, ap, ⊎_elim}
 use Rattle.commands.specs.declared.command.Command.{Command}
-use Rattle.commands.specs.declared.command.Command.TheVariants.{Connect, Producer, Send, Ping, Pong, Other}
+use Rattle.commands.specs.declared.command.Command.TheVariants.{Connect, Producer, Send, Subscribe, Ack, Flow, Ping, Pong, Other}
 use Rattle.commands.specs.declared.producing.Producer.{Producer as Asked}
 use Rattle.commands.specs.declared.producing.Send.{Send as Sent}
 use Rattle.commands.specs.declared.reply.Reply.{Reply}
+use Rattle.commands.specs.declared.consuming.Subscribe.{Subscribe as Wanted}
+use Rattle.commands.specs.declared.consuming.Ack.{Ack as Acked}
+use Rattle.commands.specs.declared.consuming.Flow.{Flow as Given}
 use Rattle.commands.specs.declared.server_error.ServerError.{ServerError}
 use Rattle.frames.specs.declared.frame.Frame.{Frame}
 use Rattle.frames.specs.declared.frame.FrameEntry.{FrameEntry}
@@ -14,10 +17,13 @@ use Rattle.session.specs.declared.port.Found.{Found}
 use Rattle.session.specs.declared.port.Found.TheVariants.{Topic, TooMany, NoMemory}
 use Rattle.session.specs.declared.pumping.More.{More}
 use Rattle.session.specs.declared.pumping.PumpFault.{PumpFault}
-use Rattle.session.specs.Client.{Play, Ends, SaysAlone, Writes}
+use Rattle.session.specs.declared.consumer_entry.ConsumerEntry.{ConsumerEntry}
+use Rattle.session.specs.Client.{Play, plain, Ends, SaysAlone, Writes}
 use Rattle.session.specs.Producing.{FoundStep, ProducerIn, SendIn}
+use Rattle.session.specs.Consuming as consuming
+use Rattle.session.specs.Consuming.{SubscribeIn, FlowIn, RefusesAck, AckIn}
 use Rattle.session.specs.Working.{WorksCommand, Connects, FrameIn, FramesStep, FeedIn}
-use Rattle.session.specs.Pumping.{Collects, PumpIn}
+use Rattle.session.specs.Pumping.{Collects, Sends, Serves, ServesEach, ServesIf, PumpIn}
 use Rattle.session.specs.Laws.{FeedsWriteFrames, PumpsWriteFrames}
 use Rattle.session.proofs.Speaking.{writes_nothing, writes_both, speaks_says, speaks_answered}
 
@@ -29,7 +35,7 @@ pub ends_writes : (old new : Play) (why : Fault) → Ends old why new → Writes
 ends_writes old new why h = writes_same old new (ap (λ (p : Play). p.out) h)
 
 pub says_writes : (old new : Play) (r : Reply) → SaysAlone old r new → Writes old.out new.out
-says_writes old new r h = (speaks_says old.client new.client old.out new.out r h.0).writes
+says_writes old new r h = (speaks_says old.client new.client old.out new.out (plain r) h.0).writes
 
 pub found_writes : (found : Found) (old : Play) (asked : Asked) (new : Play) → FoundStep old asked found new → Writes old.out new.out
 found_writes (Topic number) old asked new (inl h) = (speaks_answered _ new.client old.out new.out h.answer h.answered).writes
@@ -47,10 +53,35 @@ send_writes (Some topic) None old asked new h = ends_writes old new _ h
 send_writes None (Some entry) old asked new h = says_writes old new _ h
 send_writes (Some topic) (Some entry) old asked new h = (speaks_answered old.client new.client old.out new.out h.answer h.answered).writes
 
+pub wanted_writes : (found : Found) (old : Play) (asked : Wanted) (new : Play) → consuming.FoundStep old asked found new → Writes old.out new.out
+wanted_writes (Topic number) old asked new (inl h) = (speaks_answered _ new.client old.out new.out h.answer h.answered).writes
+wanted_writes (Topic number) old asked new (inr h) = ends_writes old new _ h
+wanted_writes TooMany old asked new h = says_writes old new _ h
+wanted_writes NoMemory old asked new h = ends_writes old new _ h
+
+pub subscribe_writes : (refusal : Option ServerError) (old : Play) (asked : Wanted) (new : Play) → SubscribeIn refusal old asked new → Writes old.out new.out
+subscribe_writes (Some error) old asked new h = says_writes old new _ h
+subscribe_writes None old asked new h = wanted_writes h.found (record old { broker = h.between }) asked new h.asks
+
+pub flow_writes : (topic : Option ℕ) (old : Play) (asked : Given) (new : Play) → FlowIn topic old asked new → Writes old.out new.out
+flow_writes None old asked new h = writes_same old new (ap (λ (p : Play). p.out) h)
+flow_writes (Some topic) old asked new h = writes_same old new h.out
+
+pub refused_ack_writes : (request : Option ℕ) (old : Play) (id : ℕ) (new : Play) → RefusesAck request old id new → Writes old.out new.out
+refused_ack_writes None old id new h = writes_same old new (ap (λ (p : Play). p.out) h)
+refused_ack_writes (Some request) old id new h = says_writes old new _ h
+
+pub ack_writes : (topic : Option ℕ) (old : Play) (asked : Acked) (new : Play) → AckIn topic old asked new → Writes old.out new.out
+ack_writes None old asked new h = refused_ack_writes asked.request_id old asked.consumer_id new h
+ack_writes (Some topic) old asked new h = (speaks_answered old.client new.client old.out new.out h.answer h.answered).writes
+
 pub command_writes : (c : Command) (old : Play) (entry : FrameEntry) (new : Play) → WorksCommand old c entry new → Writes old.out new.out
 command_writes (Connect c) old entry new h = ends_writes old new _ h
 command_writes (Producer c) old entry new h = producer_writes _ _ c new h
 command_writes (Send c) old entry new h = send_writes _ _ old c new h
+command_writes (Subscribe c) old entry new h = subscribe_writes _ _ c new h
+command_writes (Flow c) old entry new h = flow_writes _ old c new h
+command_writes (Ack c) old entry new h = ack_writes _ old c new h
 command_writes Ping old entry new h = says_writes old new _ h
 command_writes Pong old entry new h = writes_same old new (ap (λ (p : Play). p.out) h)
 command_writes (Other k) old entry new h = ends_writes old new _ h
@@ -59,6 +90,9 @@ pub connects_writes : (c : Command) (old new : Play) → Connects old c new → 
 connects_writes (Connect c) old new h = says_writes _ new _ h
 connects_writes (Producer c) old new h = ends_writes old new _ h
 connects_writes (Send c) old new h = ends_writes old new _ h
+connects_writes (Subscribe c) old new h = ends_writes old new _ h
+connects_writes (Flow c) old new h = ends_writes old new _ h
+connects_writes (Ack c) old new h = ends_writes old new _ h
 connects_writes Ping old new h = ends_writes old new _ h
 connects_writes Pong old new h = ends_writes old new _ h
 connects_writes (Other k) old new h = ends_writes old new _ h
@@ -83,11 +117,31 @@ feeds_write_frames old bytes result new h = feed_writes old.client.fault old byt
 pub collects_writes : (count : ℕ) (old new : Play) → Collects count old new → Writes old.out new.out
 collects_writes zero old new h = writes_same old new (ap (λ (p : Play). p.out) h)
 collects_writes (suc count) old new h =
-    writes_both old.out h.0.out new.out (collects_writes count old h.0 h.1) ((speaks_says h.0.client new.client h.0.out new.out h.3.reply h.3.says).writes)
+    writes_both old.out h.0.out new.out (collects_writes count old h.0 h.1) ((speaks_says h.0.client new.client h.0.out new.out (plain h.3.reply) h.3.says).writes)
+
+pub sends_write : (consumer : ConsumerEntry) (count : ℕ) (old new : Play) → Sends consumer count old new → Writes old.out new.out
+sends_write consumer zero old new h = writes_same old new (ap (λ (p : Play). p.out) h)
+sends_write consumer (suc count) old new h =
+    writes_both old.out h.0.out new.out (sends_write consumer count old h.0 h.1) ((speaks_says h.0.client new.client h.0.out new.out h.2.message h.2.says).writes)
+
+pub serves_writes : (consumer : ConsumerEntry) (most count : ℕ) (old new : Play) → Serves consumer most count old new → Writes old.out new.out
+serves_writes consumer most count old new h =
+    writes_both old.out h.sent.out new.out (sends_write consumer count old h.sent h.sends)
+    (⊎_elim (λ same. writes_same h.sent new (ap (λ (p : Play). p.out) same)) (λ stops. ends_writes h.sent new _ stops.ends) h.stops)
+
+pub serves_each_writes : (consumers : List ConsumerEntry) (most count : ℕ) (old new : Play) → ServesEach consumers most count old new → Writes old.out new.out
+serves_each_writes [] most count old new h = writes_same old new (ap (λ (p : Play). p.out) h.1)
+serves_each_writes (consumer ∷ consumers) most count old new h =
+    writes_both old.out h.2.out new.out (serves_writes consumer most h.0 old h.2 h.3) (serves_each_writes consumers (most - h.0) h.1 h.2 new h.4)
+
+pub serves_if_writes : (goes_on : Bool) (count : ℕ) (old new : Play) → ServesIf goes_on count old new → Writes old.out new.out
+serves_if_writes true count old new h = serves_each_writes old.client.consumers 64 count old new h
+serves_if_writes false count old new h = writes_same old new (ap (λ (p : Play). p.out) h.1)
 
 pub pump_writes : (fault : Option Fault) (old : Play) (result : Result More PumpFault) (new : Play) → PumpIn fault old result new → Writes old.out new.out
 pump_writes None old result new h =
-    writes_both old.out h.collected.out new.out (collects_writes h.count old h.collected h.collects) (writes_same h.collected new (ap (λ (p : Play). p.out) h.ends))
+    writes_both old.out h.collected.out new.out (collects_writes h.replies old h.collected h.collects)
+    (writes_both h.collected.out h.served.out new.out (serves_if_writes _ h.messages h.collected h.served h.serves) (writes_same h.served new (ap (λ (p : Play). p.out) h.ends)))
 pump_writes (Some why) old result new h = writes_same old new (ap (λ (p : Play). p.out) h.1)
 
 pub pumps_write_frames : PumpsWriteFrames

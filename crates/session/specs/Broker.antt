@@ -1,12 +1,19 @@
 -- The abstract broker as its sessions see it: topics by their numbers.
-use Rattle.std.specs.Prelude.{◌≡◌, ◌<◌, ◌≤◌, ℕ, Option, Some, None, List, [], ◌∷◌, ◌++◌, length, map, position, slice_index_or, slice_set}
+use Rattle.std.specs.Prelude.{◌≡◌, ◌<◌, ◌≤◌, ℕ, Option, Some, None, List, [], ◌∷◌, ◌++◌, length, map, position, slice_index_or, slice_set, Result, Ok, Err}
 use Rattle.std.specs.Str.{bytes_eq}
+use Rattle.std.specs.FinMap as each
 use Rattle.commands.specs.declared.reply.Reply.{Reply}
+use Rattle.commands.specs.declared.reply.Reply.TheVariants as reply
 use Rattle.topic_core.specs.declared.command.TopicCommand.{TopicCommand}
 use Rattle.topic_core.specs.declared.command.Answer.{Answer}
+use Rattle.topic_core.specs.declared.dispatch.Outgoing.{Outgoing}
+use Rattle.topic_core.specs.declared.refusal.Refusal.{Refusal}
+use Rattle.topic_core.specs.declared.refusal.Refusal.TheVariants as refusal
+use Rattle.subscriptions.specs.declared.consumer.TooManyPermits.{TooManyPermits}
 use Rattle.topic_core.specs.Core.{Core, Topic, opened, topic_of}
 use Rattle.topic_core.specs.Replies.{due_to}
-use Rattle.topic_core.specs.Steps.{TopicStep, collected, left}
+use Rattle.topic_core.specs.Steps.{TopicStep, GrantStep, collected, left}
+use Rattle.topic_core.specs.Dispatch.{DispatchStep}
 use Rattle.session.specs.declared.port.Found.{Found}
 use Rattle.session.specs.declared.port.Found.TheVariants as found
 
@@ -17,7 +24,7 @@ pub record Broker : Type 0 where
 
 -- a topic that nothing happened to yet
 abbrev pub fresh : ℕ → Topic
-fresh per_ledger = topic_of (opened per_ledger 0) []
+fresh per_ledger = topic_of (opened per_ledger 0) [] each.empty
 
 -- the topic of a number; one that isn't there is as a fresh one
 abbrev pub topic_at : Broker → ℕ → Topic
@@ -61,6 +68,36 @@ IfFound found.NoMemory P = Unit {0}
 pub record CommandStep (old : Broker) (number who : ℕ) (command : TopicCommand) (answer : Answer) (new : Broker) : Type 0 where
   pub step : TopicStep (topic_at old number) who command answer (topic_at new number)
   pub others : new ≡ with_topic old number (topic_at new number)
+
+-- a topic counts the permits of a session's consumer; the rest stays
+pub record GrantAt (old : Broker) (number who id permits : ℕ) (result : Result (Unit {0}) TooManyPermits) (new : Broker) : Type 0 where
+  pub step : GrantStep (topic_at old number).core who id permits result (topic_at new number).core
+  pub others : new ≡ with_topic old number (with_core (topic_at old number) (topic_at new number).core)
+
+-- a topic sends a message to a session's consumer, or doesn't; the other topics stay
+pub record DispatchAt (old : Broker) (number who id : ℕ) (result : Result (Option Outgoing) Refusal) (new : Broker) : Type 0 where
+  pub step : DispatchStep (topic_at old number) who id result (topic_at new number)
+  pub others : new ≡ with_topic old number (topic_at new number)
+
+-- it is a MESSAGE for this consumer
+abbrev pub IsMessageFor : ℕ → Reply → Type 0
+IsMessageFor consumer_id reply.Connected = ⊥
+IsMessageFor consumer_id (reply.SendReceipt producer_id sequence_id id) = ⊥
+IsMessageFor consumer_id (reply.SendError producer_id sequence_id error) = ⊥
+IsMessageFor consumer_id (reply.Error request_id error) = ⊥
+IsMessageFor consumer_id (reply.ProducerSuccess request_id name) = ⊥
+IsMessageFor consumer_id reply.Pong = ⊥
+IsMessageFor consumer_id (reply.Message other id redelivery_count) = other ≡ consumer_id
+IsMessageFor consumer_id (reply.Success request_id) = ⊥
+IsMessageFor consumer_id (reply.AckResponse other error request_id) = ⊥
+
+-- whoever else uses the broker: a message is for the consumer, and its entry is no longer than any that is accepted;
+-- there is no device that fails
+abbrev pub SendsTo : ℕ → Result (Option Outgoing) Refusal → Type 0
+SendsTo consumer_id (Ok None) = Unit {0}
+SendsTo consumer_id (Ok (Some outgoing)) = IsMessageFor consumer_id outgoing.reply × (length outgoing.entry ≤ 1048576)
+SendsTo consumer_id (Err refusal.NoMemory) = Unit {0}
+SendsTo consumer_id (Err refusal.Device) = ⊥
 
 -- the replies that a topic has due to a session
 abbrev pub due_at : Broker → ℕ → ℕ → List Reply

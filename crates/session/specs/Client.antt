@@ -6,8 +6,10 @@ use Rattle.commands.specs.Replies.{spelling}
 use Rattle.frames.specs.Frames.{frame_bytes}
 use Rattle.frames.specs.Streams.{Progress, at_start}
 use Rattle.topic_core.specs.declared.command.Answer.{Answer}
-use Rattle.topic_core.specs.declared.command.Answer.TheVariants.{Now, Later, NoMemory}
+use Rattle.topic_core.specs.declared.command.Answer.TheVariants.{Now, Later, Nothing, NoMemory}
+use Rattle.topic_core.specs.declared.dispatch.Outgoing.{Outgoing}
 use Rattle.session.specs.Broker.{Broker, left_all}
+use Rattle.session.specs.declared.consumer_entry.ConsumerEntry.{ConsumerEntry}
 use Rattle.session.specs.declared.fault.Fault.{Fault}
 use Rattle.session.specs.declared.fault.Fault.TheVariants as fault
 use Rattle.session.specs.declared.producer_entry.ProducerEntry.{ProducerEntry}
@@ -17,11 +19,12 @@ pub record Client : Type 0 where
   pub progress : Progress  -- where its stream of bytes stands
   pub connected : Bool  -- whether CONNECT came
   pub producers : List ProducerEntry  -- the topic of each producer id
+  pub consumers : List ConsumerEntry  -- the topic of each consumer id, in rising id
   pub fault : Option Fault  -- why it ended
 
 -- nothing has come
 abbrev pub new_client : ℕ → Client
-new_client number = record { number = number; progress = at_start; connected = false; producers = []; fault = None }
+new_client number = record { number = number; progress = at_start; connected = false; producers = []; consumers = []; fault = None }
 
 -- a session, the broker and the session's bytes out
 pub record Play : Type 0 where
@@ -47,33 +50,38 @@ left_if (Some why) b who = left_all b who
 abbrev pub left_if_ended : Play → Play
 left_if_ended p = record p { broker = left_if p.client.fault p.broker p.client.number }
 
--- the bytes of a reply
-abbrev pub reply_frame : Reply → List ℕ
-reply_frame reply = frame_bytes (spelling reply) []
+-- a reply without an entry
+abbrev pub plain : Reply → Outgoing
+plain reply = record { reply = reply; entry = [] }
 
-abbrev pub reply_frames : List Reply → List ℕ
-reply_frames replies = flat_map (λ reply. reply_frame reply) replies
+-- the bytes of what goes out: the reply's frame, with the entry behind it as it stands
+abbrev pub frame_of : Outgoing → List ℕ
+frame_of outgoing = frame_bytes (spelling outgoing.reply) outgoing.entry
 
--- the frames of some replies are appended, each whole
+abbrev pub frames_of : List Outgoing → List ℕ
+frames_of outgoing = flat_map (λ one. frame_of one) outgoing
+
+-- some frames are appended, each whole
 pub record Writes (old new : List ℕ) : Type 0 where
-  pub replies : List Reply
-  pub are : new ≡ old ++ reply_frames replies
+  pub outgoing : List Outgoing
+  pub are : new ≡ old ++ frames_of outgoing
 
 -- what holds of every call, whoever else uses the broker: the session's number stays, and it writes whole frames
 pub record Speaks (old : Client) (out : List ℕ) (new : Client) (out' : List ℕ) : Type 0 where
   pub number : new.number ≡ old.number
   pub writes : Writes out out'
 
--- a reply goes out; or it finds no memory, which ends the session
-abbrev pub Says : Client → List ℕ → Reply → Client → List ℕ → Type 0
-Says old out reply new out' = ((new ≡ old) × (out' ≡ out ++ reply_frame reply)) ⊎ ((new ≡ ended old fault.NoMemory) × (out' ≡ out))
+-- something goes out; or it finds no memory, which ends the session
+abbrev pub Says : Client → List ℕ → Outgoing → Client → List ℕ → Type 0
+Says old out outgoing new out' = ((new ≡ old) × (out' ≡ out ++ frame_of outgoing)) ⊎ ((new ≡ ended old fault.NoMemory) × (out' ≡ out))
 
 -- the session says this by itself
 abbrev pub SaysAlone : Play → Reply → Play → Type 0
-SaysAlone old reply new = Says old.client old.out reply new.client new.out × (new.broker ≡ old.broker)
+SaysAlone old reply new = Says old.client old.out (plain reply) new.client new.out × (new.broker ≡ old.broker)
 
 -- a topic's answer goes out
 abbrev pub Answered : Client → List ℕ → Answer → Client → List ℕ → Type 0
-Answered old out (Now reply) new out' = Says old out reply new out'
+Answered old out (Now reply) new out' = Says old out (plain reply) new out'
 Answered old out Later new out' = (new ≡ old) × (out' ≡ out)
+Answered old out Nothing new out' = (new ≡ old) × (out' ≡ out)
 Answered old out NoMemory new out' = (new ≡ ended old fault.NoMemory) × (out' ≡ out)

@@ -3,6 +3,7 @@ pub mod TopicName
 pub mod Broker
 pub mod Client
 pub mod Producing
+pub mod Consuming
 pub mod Working
 pub mod Pumping
 pub mod Laws

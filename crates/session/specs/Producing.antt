@@ -15,7 +15,7 @@ use Rattle.topic_core.specs.declared.command.TopicCommand.TheVariants as topic_c
 use Rattle.topic_core.specs.declared.command.SentEntry.{SentEntry}
 use Rattle.topic_core.specs.declared.command.SentEntry.TheVariants as sent
 use Rattle.topic_core.specs.declared.command.Answer.{Answer}
-use Rattle.topic_core.specs.declared.command.Answer.TheVariants.{Now, Later, NoMemory}
+use Rattle.topic_core.specs.declared.command.Answer.TheVariants.{Now, Later, Nothing, NoMemory}
 use Rattle.topic_core.specs.Steps.{has_producer, first_standing}
 use Rattle.session.specs.TopicName.{is_topic_name}
 use Rattle.session.specs.Broker.{Broker, topic_at, FindStep, CommandStep}
@@ -70,7 +70,11 @@ is_success (Now (reply.SendError producer_id sequence_id error)) = false
 is_success (Now (reply.Error request_id error)) = false
 is_success (Now (reply.ProducerSuccess request_id name)) = true
 is_success (Now reply.Pong) = false
+is_success (Now (reply.Message consumer_id id count)) = false
+is_success (Now (reply.Success request_id)) = false
+is_success (Now (reply.AckResponse consumer_id error request_id)) = false
 is_success Later = false
+is_success Nothing = false
 is_success NoMemory = false
 
 -- the producers, and one more where it was accepted

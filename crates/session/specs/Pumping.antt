@@ -1,9 +1,14 @@
--- What a session collects.
-use Rattle.std.specs.Prelude.{◌≡◌, ◌<◌, ◌≤◌, ℕ, zero, suc, nat_eq, Option, Some, None, List, [], Result, Ok, Err, if◌then◌else◌}
+-- What a session collects, and the messages that it gets.
+use Rattle.std.specs.Prelude.{◌≡◌, ◌⊎◌, ◌<◌, ◌≤◌, ◌-◌, ◌+◌, ◌||◌, ℕ, zero, suc, Bool, true, false, nat_eq, nat_lt, Option, Some, None, List, [], ◌∷◌, Result, Ok, Err, if◌then◌else◌}
 use Rattle.commands.specs.declared.reply.Reply.{Reply}
-use Rattle.session.specs.Broker.{Broker, due_at, CollectedAt}
-use Rattle.session.specs.Client.{Client, Play, Says, left_if_ended}
+use Rattle.topic_core.specs.declared.dispatch.Outgoing.{Outgoing}
+use Rattle.topic_core.specs.Steps.{key_of}
+use Rattle.topic_core.specs.Dispatch.{Admits}
+use Rattle.session.specs.Broker.{Broker, topic_at, due_at, CollectedAt, DispatchAt}
+use Rattle.session.specs.Client.{Client, Play, plain, Says, Ends, left_if_ended}
+use Rattle.session.specs.declared.consumer_entry.ConsumerEntry.{ConsumerEntry}
 use Rattle.session.specs.declared.fault.Fault.{Fault}
+use Rattle.session.specs.declared.fault.Fault.TheVariants as fault
 use Rattle.session.specs.declared.pumping.More.{More}
 use Rattle.session.specs.declared.pumping.More.TheVariants.{Yes, No}
 use Rattle.session.specs.declared.pumping.PumpFault.{PumpFault}
@@ -14,7 +19,7 @@ pub record CollectsFrom (topic : ℕ) (old new : Play) : Type 0 where
   pub goes_on : old.client.fault ≡ None
   pub reply : Reply
   pub takes : CollectedAt old.broker topic old.client.number (Some reply) new.broker
-  pub says : Says old.client old.out reply new.client new.out
+  pub says : Says old.client old.out (plain reply) new.client new.out
 
 -- a topic has nothing due to the session, and nothing changes
 pub record CollectsNothing (topic : ℕ) (old new : Play) : Type 0 where
@@ -35,19 +40,67 @@ Collects (suc count) old new = (between : Play) × Collects count old between ×
 abbrev pub HasNothingDue : Play → Type 0
 HasNothingDue p = (topic : ℕ) → due_at p.broker topic p.client.number ≡ []
 
-abbrev pub pump_result : Option Fault → ℕ → Result More PumpFault
-pump_result None count = Ok (if nat_eq count 65536 then Yes else No)
-pump_result (Some why) count = Err (Ended why)
+-- a message for the consumer of a session that hasn't ended goes out, or finds no memory; it then counts as sent
+pub record SendsOne (consumer : ConsumerEntry) (old new : Play) : Type 0 where
+  pub goes_on : old.client.fault ≡ None
+  pub message : Outgoing
+  pub takes : DispatchAt old.broker consumer.topic old.client.number consumer.consumer_id (Ok (Some message)) new.broker
+  pub says : Says old.client old.out message new.client new.out
 
--- a pump stops once nothing is due, at its 65,536th reply, or where the session ends, which then leaves each topic
+-- so many messages for one consumer
+abbrev pub Sends : ConsumerEntry → ℕ → Play → Play → Type 0
+Sends consumer zero old new = new ≡ old
+Sends consumer (suc count) old new = (between : Play) × Sends consumer count old between × SendsOne consumer between new
+
+-- the consumer's topic admits no position for it
+abbrev pub AdmitsNothing : ConsumerEntry → Play → Type 0
+AdmitsNothing consumer p = (i : ℕ) → Admits (topic_at p.broker consumer.topic).core (key_of p.client.number consumer.consumer_id) i → ⊥
+
+-- picking a message finds no memory, which ends a session that hasn't ended
+pub record FindsNoMemory (old new : Play) : Type 0 where
+  pub goes_on : old.client.fault ≡ None
+  pub ends : Ends old fault.NoMemory new
+
+-- there is no message for the consumer: nothing is admitted, or picking one finds no memory
+abbrev pub SendsNothing : ConsumerEntry → Play → Play → Type 0
+SendsNothing consumer old new = (AdmitsNothing consumer old × (new ≡ old)) ⊎ FindsNoMemory old new
+
+-- one consumer gets messages until nothing is admitted, up to a bound, or until the session ends
+pub record Serves (consumer : ConsumerEntry) (most count : ℕ) (old new : Play) : Type 0 where
+  pub sent : Play
+  pub sends : Sends consumer count old sent
+  pub within : count ≤ most
+  pub stops : (new ≡ sent) ⊎ FindsNoMemory sent new
+  pub all : new.client.fault ≡ None → count < most → AdmitsNothing consumer new
+
+-- one consumer after another, with so many messages together at most
+abbrev pub ServesEach : List ConsumerEntry → ℕ → ℕ → Play → Play → Type 0
+ServesEach [] most count old new = (count ≡ 0) × (new ≡ old)
+ServesEach (consumer ∷ consumers) most count old new =
+    (first : ℕ) × (rest : ℕ) × (between : Play) × Serves consumer most first old between × ServesEach consumers (most - first) rest between new × (count ≡ first + rest)
+
+-- a pump that may go on serves the session's consumers, in rising id
+abbrev pub ServesIf : Bool → ℕ → Play → Play → Type 0
+ServesIf true count old new = ServesEach old.client.consumers 64 count old new
+ServesIf false count old new = (count ≡ 0) × (new ≡ old)
+
+abbrev pub pump_result : Option Fault → ℕ → ℕ → Result More PumpFault
+pump_result None replies messages = Ok (if nat_eq replies 65536 || nat_eq messages 64 then Yes else No)
+pump_result (Some why) replies messages = Err (Ended why)
+
+-- a pump collects until nothing is due, or its 65,536th reply; in the first case it then sends messages until nothing is
+-- admitted, or its 64th message. It stops where the session ends, which then leaves each topic
 pub record Pumps (old : Play) (result : Result More PumpFault) (new : Play) : Type 0 where
-  pub count : ℕ
+  pub replies : ℕ
   pub collected : Play
-  pub collects : Collects count old collected
-  pub most : count ≤ 65536
-  pub all : collected.client.fault ≡ None → count < 65536 → HasNothingDue collected
-  pub ends : new ≡ left_if_ended collected
-  pub result_is : result ≡ pump_result collected.client.fault count
+  pub collects : Collects replies old collected
+  pub most : replies ≤ 65536
+  pub all : collected.client.fault ≡ None → replies < 65536 → HasNothingDue collected
+  pub messages : ℕ
+  pub served : Play
+  pub serves : ServesIf (nat_lt replies 65536) messages collected served
+  pub ends : new ≡ left_if_ended served
+  pub result_is : result ≡ pump_result served.client.fault replies messages
 
 -- why a pump ended the session, or found it ended
 abbrev pub pumped_fault : Result More PumpFault → Option Fault

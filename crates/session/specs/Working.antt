@@ -10,6 +10,7 @@ use Rattle.frames.specs.Streams.{Progress, FeedsOn}
 use Rattle.session.specs.Client.{Client, Play, Ends, ended, SaysAlone, left_if_ended}
 use Rattle.session.specs.Faults.{fault_of}
 use Rattle.session.specs.Producing.{ProducerStep, SendStep}
+use Rattle.session.specs.Consuming.{SubscribeStep, FlowStep, AckStep}
 use Rattle.session.specs.declared.fault.Fault.{Fault}
 use Rattle.session.specs.declared.fault.Fault.TheVariants as fault
 
@@ -18,6 +19,9 @@ abbrev pub WorksCommand : Play → Command → FrameEntry → Play → Type 0
 WorksCommand old (command.Connect c) entry new = Ends old fault.OutOfTurn new
 WorksCommand old (command.Producer c) entry new = ProducerStep old c new
 WorksCommand old (command.Send c) entry new = SendStep old c entry new
+WorksCommand old (command.Subscribe c) entry new = SubscribeStep old c new
+WorksCommand old (command.Flow c) entry new = FlowStep old c new
+WorksCommand old (command.Ack c) entry new = AckStep old c new
 WorksCommand old command.Ping entry new = SaysAlone old reply.Pong new
 WorksCommand old command.Pong entry new = new ≡ old
 WorksCommand old (command.Other k) entry new = Ends old fault.UnknownCommand new
@@ -30,6 +34,9 @@ abbrev pub Connects : Play → Command → Play → Type 0
 Connects old (command.Connect c) new = SaysAlone (record old { client = connected_client old.client }) reply.Connected new
 Connects old (command.Producer c) new = Ends old fault.OutOfTurn new
 Connects old (command.Send c) new = Ends old fault.OutOfTurn new
+Connects old (command.Subscribe c) new = Ends old fault.OutOfTurn new
+Connects old (command.Flow c) new = Ends old fault.OutOfTurn new
+Connects old (command.Ack c) new = Ends old fault.OutOfTurn new
 Connects old command.Ping new = Ends old fault.OutOfTurn new
 Connects old command.Pong new = Ends old fault.OutOfTurn new
 Connects old (command.Other k) new = Ends old fault.UnknownCommand new

@@ -1,6 +1,6 @@
-ghost use Rattle.session.specs.Laws.{FeedsWriteFrames, PumpsWriteFrames, PumpsFinish, EndedFeedsLeave, EndedPumpsLeave};
+ghost use Rattle.session.specs.Laws.{FeedsWriteFrames, PumpsWriteFrames, PumpsFinish, ConsumersRise, EndedFeedsLeave, EndedPumpsLeave};
 
-/// What a session appends to its bytes out are the frames of replies, each whole.
+/// What a session appends to its bytes out are frames, each whole.
 pub fn writes_whole_frames()
     ensures feeds { FeedsWriteFrames }
     ensures pumps { PumpsWriteFrames }
@@ -11,7 +11,12 @@ pub fn pumps_finish()
     ensures { PumpsFinish }
 {}
 
-/// A session that a call ended has no producer on a topic any more, and no topic owes it a reply.
+/// A session's consumers stand in rising id, in which a pump serves them.
+pub fn consumers_rise()
+    ensures { ConsumersRise }
+{}
+
+/// A session that a call ended has no producer or consumer on a topic any more, and no topic owes it a reply.
 pub fn ended_sessions_leave()
     ensures feeds { EndedFeedsLeave }
     ensures pumps { EndedPumpsLeave }

@@ -1,9 +1,11 @@
 //! A client's session works the frames of its bytes in order, over any broker behind a `Port`, and writes whole
 //! frames of the replies that an abstract broker allows. Its first fault ends it: it then leaves each topic, works
 //! and writes nothing more, and answers that fault ever after. A pump collects the replies that are due to it
-//! until none is left, or up to a bound.
+//! until none is left, and then hands out messages for its consumers until none is admitted, each up to a bound.
 #![tactic(auto)]
 
+mod consumer_entry;
+mod consuming;
 mod fault;
 mod laws;
 mod port;
@@ -14,8 +16,9 @@ mod session;
 mod topic_name;
 mod working;
 
+pub use consumer_entry::ConsumerEntry;
 pub use fault::Fault;
-pub use laws::{ended_sessions_leave, pumps_finish, writes_whole_frames};
+pub use laws::{consumers_rise, ended_sessions_leave, pumps_finish, writes_whole_frames};
 pub use port::{Found, Port};
 pub use producer_entry::ProducerEntry;
 pub use pumping::{More, PumpFault};

@@ -1,9 +1,9 @@
 ghost use Rattle.std.specs.Prelude.{◌≡◌, ◌<◌, ◌≤◌, ℕ, length};
-ghost use Rattle.topic_core.specs.Steps.{has_producer, Fits};
-ghost use Rattle.session.specs.Broker.{Broker, topic_at, FindStep, IfFound, CommandStep, CollectedAt, left_at};
+ghost use Rattle.topic_core.specs.Steps.{has_producer, has_consumer, Fits};
+ghost use Rattle.session.specs.Broker.{Broker, topic_at, FindStep, IfFound, CommandStep, GrantAt, DispatchAt, SendsTo, CollectedAt, left_at};
 
 use commands::Reply;
-use topic_core::{Answer, TopicCommand};
+use topic_core::{Answer, Outgoing, Refusal, TooManyPermits, TopicCommand};
 
 /// What looking for a topic gives.
 #[derive(Clone, Copy, Debug, PartialEq, Eq)]
@@ -39,6 +39,11 @@ pub trait Port {
         requires { topic < count self.now }
         ensures { sole self.now → result ≡ has_producer (topic_at (broker self.now) topic).core who producer_id };
 
+    /// Whether the session has this consumer on the topic.
+    fn has_consumer(&self, topic: u64, who: u64, consumer_id: u64) -> bool
+        requires { topic < count self.now }
+        ensures { sole self.now → result ≡ has_consumer (topic_at (broker self.now) topic).core who consumer_id };
+
     /// The number of the topic of this name, which is made where it isn't there.
     fn find(&mut self, name: &str) -> Found
         ensures step { sole self.old → FindStep (broker self.old) name.now result (broker self.new) }
@@ -50,6 +55,30 @@ pub trait Port {
         requires { topic < count self.old }
         ensures step { sole self.old → CommandStep (broker self.old) topic who command result (broker self.new) }
         ensures fits { Fits command result }
+        ensures passes { passes self.old self.new };
+
+    /// Grants so many messages more to a consumer of the session.
+    fn grant(
+        &mut self,
+        topic: u64,
+        who: u64,
+        consumer_id: u64,
+        permits: u32,
+    ) -> Result<(), TooManyPermits>
+        requires { topic < count self.old }
+        ensures step { sole self.old → GrantAt (broker self.old) topic who consumer_id permits result (broker self.new) }
+        ensures passes { passes self.old self.new };
+
+    /// A message for a consumer of the session, which holds it from then on.
+    fn dispatch(
+        &mut self,
+        topic: u64,
+        who: u64,
+        consumer_id: u64,
+    ) -> Result<Option<Outgoing>, Refusal>
+        requires { topic < count self.old }
+        ensures step { sole self.old → DispatchAt (broker self.old) topic who consumer_id result (broker self.new) }
+        ensures sends { SendsTo consumer_id result }
         ensures passes { passes self.old self.new };
 
     /// Takes the first reply that a topic has due to the session.

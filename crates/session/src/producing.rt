@@ -3,7 +3,7 @@ ghost use Rattle.commands.specs.declared.reply.Reply.TheVariants.{Error, SendErr
 ghost use Rattle.commands.specs.declared.server_error.ServerError.TheVariants.{NotAllowedError};
 ghost use Rattle.session.specs.declared.port.Found.TheVariants.{Topic};
 ghost use Rattle.topic_core.specs.Steps.{first_standing};
-ghost use Rattle.session.specs.Client.{Client, Play, play, Says, Answered, Speaks};
+ghost use Rattle.session.specs.Client.{Client, Play, play, plain, Says, Answered, Speaks};
 ghost use Rattle.session.specs.Producing.{is_live, has_entry, given_len, own_refusals, own_name, name_for, producer_command, is_success, with_entry, with_live_producers, Opens, FoundStep, Finds, ProducerOf, ProducerStep, topic_of, sent_entry, send_command, SendStep};
 
 use crate::fault::Fault;
@@ -60,7 +60,7 @@ impl Session {
     }
 
     fn refuse_producer(&mut self, request_id: u64, error: ServerError, out: &mut Vec<u8>)
-        ensures says { Says self.old out.old.items (Error request_id error) self.new out.new.items }
+        ensures says { Says self.old out.old.items (plain (Error request_id error)) self.new out.new.items }
         ensures speaks { Speaks self.old out.old.items self.new out.new.items }
     {
         self.say(&Reply::Error { request_id, error }, out)
@@ -122,7 +122,7 @@ impl Session {
     }
 
     fn refuse_send(&mut self, asked: Send, out: &mut Vec<u8>)
-        ensures says { Says self.old out.old.items (SendError asked.producer_id asked.sequence_id NotAllowedError) self.new out.new.items }
+        ensures says { Says self.old out.old.items (plain (SendError asked.producer_id asked.sequence_id NotAllowedError)) self.new out.new.items }
         ensures speaks { Speaks self.old out.old.items self.new out.new.items }
     {
         self.say(
@@ -266,9 +266,13 @@ fn is_success(answer: &Answer) -> bool
             | Reply::SendReceipt { .. }
             | Reply::SendError { .. }
             | Reply::Error { .. }
+            | Reply::Message { .. }
+            | Reply::Success { .. }
+            | Reply::AckResponse { .. }
             | Reply::Pong,
         )
         | Answer::Later
+        | Answer::Nothing
         | Answer::NoMemory => false,
     }
 }

@@ -1,17 +1,22 @@
 ghost use Rattle.std.specs.Prelude.{◌≡◌, ◌≢◌, ◌<◌, ◌≤◌, ℕ, true, false, None, [], IfSome};
 ghost use Rattle.session.specs.Broker.{due_at, topic_at};
 ghost use Rattle.session.specs.Client.{Client, Play, play, Speaks, Writes};
-ghost use Rattle.session.specs.Pumping.{CollectsFrom, CollectsNothing, CollectsAt, Collects, HasNothingDue, PumpStep, pumped_fault};
+ghost use Rattle.session.specs.Pumping.{CollectsFrom, CollectsNothing, CollectsAt, Collects, HasNothingDue, SendsOne, SendsNothing, Serves, ServesEach, ServesIf, PumpStep, pumped_fault};
 
+use crate::consumer_entry::ConsumerEntry;
 use crate::fault::Fault;
 use crate::port::Port;
 use crate::session::Session;
 use thiserror::Error;
+use topic_core::Refusal;
 
 /// Our own rule: a pump collects at most so many replies.
 const MOST_REPLIES: usize = 65_536;
 
-/// Whether a pump stopped at its bound, so that more may be due.
+/// Our own rule: a pump sends at most so many messages.
+const MOST_MESSAGES: usize = 64;
+
+/// Whether a pump stopped at one of its bounds, so that more may be due or admitted.
 #[derive(Clone, Copy, Debug, PartialEq, Eq)]
 pub enum More {
     Yes,
@@ -27,8 +32,9 @@ pub enum PumpFault {
 }
 
 impl Session {
-    /// Collects the replies that are due to the session and writes their frames, at most 65,536 of them. A reply that
-    /// finds no memory ends the session.
+    /// Collects the replies that are due to the session and writes their frames, at most 65,536 of them. Where none is
+    /// left, it then sends messages to the session's consumers, at most 64 of them. A reply or a message that finds no
+    /// memory ends the session.
     pub fn pump<P: Port>(&mut self, port: &mut P, out: &mut Vec<u8>) -> Result<More, PumpFault>
         ensures step { P.sole port.old → PumpStep (play self.old (P.broker port.old) out.old.items) result
             (play self.new (P.broker port.new) out.new.items) }
@@ -43,11 +49,12 @@ impl Session {
         if let Some(why) = self.fault {
             return Err(PumpFault::Ended(why));
         }
-        let count = self.collect_all(port, out);
+        let replies = self.collect_all(port, out);
+        let messages = self.serve_if(replies < MOST_REPLIES, port, out);
         if let Some(why) = self.leave_if_ended(port) {
             return Err(PumpFault::Ended(why));
         }
-        if count == MOST_REPLIES {
+        if replies == MOST_REPLIES || messages == MOST_MESSAGES {
             Ok(More::Yes)
         } else {
             Ok(More::No)
@@ -114,5 +121,93 @@ impl Session {
         };
         self.say(&reply, out);
         true
+    }
+
+    /// Serves the session's consumers where the pump may go on, and gives how many messages they got.
+    fn serve_if<P: Port>(&mut self, goes_on: bool, port: &mut P, out: &mut Vec<u8>) -> usize
+        ensures serves { P.sole port.old → ServesIf goes_on result (play self.old (P.broker port.old) out.old.items)
+            (play self.new (P.broker port.new) out.new.items) }
+        ensures speaks { Speaks self.old out.old.items self.new out.new.items }
+        ensures passes { P.passes port.old port.new }
+    {
+        if goes_on {
+            self.serve_each(port, out)
+        } else {
+            0
+        }
+    }
+
+    /// Serves the session's consumers in rising id, and gives how many messages they got.
+    fn serve_each<P: Port>(&mut self, port: &mut P, out: &mut Vec<u8>) -> usize
+        ensures serves { P.sole port.old → ServesEach self.old.consumers 64 result (play self.old (P.broker port.old) out.old.items)
+            (play self.new (P.broker port.new) out.new.items) }
+        ensures speaks { Speaks self.old out.old.items self.new out.new.items }
+        ensures passes { P.passes port.old port.new }
+    {
+        let mut count = 0;
+        for place in 0..self.consumers.len() {
+            let consumer = self.consumers[place];
+            count += self.serve(consumer, MOST_MESSAGES - count, port, out);
+        }
+        count
+    }
+
+    /// Sends messages to a consumer, at most so many, and gives how many.
+    fn serve<P: Port>(
+        &mut self,
+        consumer: ConsumerEntry,
+        room: usize,
+        port: &mut P,
+        out: &mut Vec<u8>,
+    ) -> usize
+        ensures most { result ≤ room }
+        ensures serves { P.sole port.old → Serves consumer room result (play self.old (P.broker port.old) out.old.items)
+            (play self.new (P.broker port.new) out.new.items) }
+        ensures consumers { self.new.consumers ≡ self.old.consumers }
+        ensures speaks { Speaks self.old out.old.items self.new out.new.items }
+        ensures passes { P.passes port.old port.new }
+    {
+        if consumer.topic >= port.topics() {
+            return 0;
+        }
+        let mut count = 0;
+        while count < room && !self.has_ended() {
+            if !self.serve_one(consumer, port, out) {
+                return count;
+            }
+            count += 1;
+        }
+        count
+    }
+
+    /// Sends a message to a consumer, and answers whether there was one.
+    fn serve_one<P: Port>(
+        &mut self,
+        consumer: ConsumerEntry,
+        port: &mut P,
+        out: &mut Vec<u8>,
+    ) -> bool
+        requires there { consumer.topic < P.count port.old }
+        requires goes_on { self.old.fault ≡ None }
+        ensures some { result ≡ true → P.sole port.old → SendsOne consumer (play self.old (P.broker port.old) out.old.items)
+            (play self.new (P.broker port.new) out.new.items) }
+        ensures none { result ≡ false → P.sole port.old → SendsNothing consumer (play self.old (P.broker port.old) out.old.items)
+            (play self.new (P.broker port.new) out.new.items) }
+        ensures consumers { self.new.consumers ≡ self.old.consumers }
+        ensures speaks { Speaks self.old out.old.items self.new out.new.items }
+        ensures passes { P.passes port.old port.new }
+    {
+        match port.dispatch(consumer.topic, self.number(), consumer.consumer_id) {
+            Ok(Some(message)) => {
+                self.hand_out(&message, out);
+                true
+            }
+            Ok(None) => false,
+            Err(Refusal::NoMemory) => {
+                self.end_by(Fault::NoMemory);
+                false
+            }
+            Err(Refusal::Device) => unreachable!(),
+        }
     }
 }

@@ -1,7 +1,8 @@
-ghost use Rattle.std.specs.Prelude.{◌≡◌, ◌<◌, ◌≤◌, is_some};
+ghost use Rattle.std.specs.Prelude.{◌≡◌, ◌<◌, ◌≤◌, is_some, length};
 ghost use Rattle.session.specs.Broker.{left_all};
-ghost use Rattle.session.specs.Client.{Client, new_client, ended, left_if, Says, Answered, Speaks};
+ghost use Rattle.session.specs.Client.{Client, new_client, ended, left_if, plain, Says, Answered, Speaks};
 
+use crate::consumer_entry::ConsumerEntry;
 use crate::fault::Fault;
 use crate::port::Port;
 use crate::producer_entry::ProducerEntry;
@@ -9,10 +10,10 @@ use commands::Reply;
 use frames::{Parser, write_frame};
 use std::alloc::Global;
 use std::marker::Model;
-use topic_core::Answer;
+use topic_core::{Answer, Outgoing};
 
 /// A client's session. Contracts see its number, where its stream of bytes stands, whether CONNECT came, its
-/// producers, and why it ended.
+/// producers and consumers, and why it ended.
 #[derive(Drop)]
 pub struct Session {
     pub(crate) alloc: Global,
@@ -20,6 +21,7 @@ pub struct Session {
     pub(crate) parser: Parser,
     pub(crate) connected: bool,
     pub(crate) producers: Vec<ProducerEntry>,
+    pub(crate) consumers: Vec<ConsumerEntry>,
     pub(crate) fault: Option<Fault>,
 }
 
@@ -28,7 +30,7 @@ impl Model for Session {
 
     ghost Value = { Client };
 
-    ghost view = { λ s. record { number = s.number; progress = s.parser; connected = s.connected; producers = s.producers.items; fault = s.fault } };
+    ghost view = { λ s. record { number = s.number; progress = s.parser; connected = s.connected; producers = s.producers.items; consumers = s.consumers.items; fault = s.fault } };
 }
 
 impl Session {
@@ -42,6 +44,7 @@ impl Session {
             parser: Parser::new(alloc),
             connected: false,
             producers: Vec::new(alloc),
+            consumers: Vec::new(alloc),
             fault: None,
         }
     }
@@ -93,10 +96,23 @@ impl Session {
 
     /// Writes the frame of a reply ("Pulsar binary protocol, Framing"), or ends for want of memory.
     pub(crate) fn say(&mut self, reply: &Reply, out: &mut Vec<u8>)
-        ensures says { Says self.old out.old.items reply.now self.new out.new.items }
+        ensures says { Says self.old out.old.items (plain reply.now) self.new out.new.items }
         ensures speaks { Speaks self.old out.old.items self.new out.new.items }
     {
         if write_frame(self.alloc, reply, None, out).is_err() {
+            self.fault = Some(Fault::NoMemory);
+        }
+    }
+
+    /// Writes the frame of a message with its entry behind it ("Pulsar binary protocol, Payload commands"), or ends
+    /// for want of memory.
+    pub(crate) fn hand_out(&mut self, message: &Outgoing, out: &mut Vec<u8>)
+        requires { length message.now.entry ≤ 1048576 }
+        ensures says { Says self.old out.old.items message.now self.new out.new.items }
+        ensures speaks { Speaks self.old out.old.items self.new out.new.items }
+    {
+        let entry = message.entry.as_slice();
+        if write_frame(self.alloc, &message.reply, Some(entry), out).is_err() {
             self.fault = Some(Fault::NoMemory);
         }
     }
@@ -108,7 +124,7 @@ impl Session {
     {
         match answer {
             Answer::Now(reply) => self.say(reply, out),
-            Answer::Later => {}
+            Answer::Later | Answer::Nothing => {}
             Answer::NoMemory => self.fault = Some(Fault::NoMemory),
         }
     }

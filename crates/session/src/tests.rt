@@ -1,10 +1,14 @@
 ghost use Rattle.std.specs.Prelude.{◌≤◌, [], length};
+ghost use Rattle.session.specs.Broker.{SendsTo};
 
 use super::*;
 use commands::Reply;
 use std::alloc::{AllocError, Global};
 use std::test::Fail;
-use topic_core::{Answer, MemoryLedger, TopicCommand, TopicCore};
+use topic_core::{
+    Answer, EntryStore, MemoryLedger, MemorySubscriptions, Outgoing, Refusal, TooManyPermits,
+    TopicCommand, TopicCore,
+};
 
 const CONNECT: [u8; 17] = [
     0, 0, 0, 0x0d, 0, 0, 0, 9, 8, 2, 0x12, 5, 0x0a, 1, 0x63, 0x20, 5,
@@ -63,11 +67,90 @@ const SEND_NOT_ALLOWED: [u8; 35] = [
     0x6f, 0x74, 0x41, 0x6c, 0x6c, 0x6f, 0x77, 0x65, 0x64, 0x45, 0x72, 0x72, 0x6f, 0x72,
 ];
 
-/// A topic and its store.
+/// Of consumer 2 on `persistent://a/b/c`, with request 8, to the subscription `s` from the first entry on.
+const SUBSCRIBE: [u8; 43] = [
+    0, 0, 0, 0x27, 0, 0, 0, 0x23, 8, 4, 0x22, 0x1f, 0x0a, 0x12, 0x70, 0x65, 0x72, 0x73, 0x69, 0x73,
+    0x74, 0x65, 0x6e, 0x74, 0x3a, 0x2f, 0x2f, 0x61, 0x2f, 0x62, 0x2f, 0x63, 0x12, 1, 0x73, 0x18, 0,
+    0x20, 2, 0x28, 8, 0x68, 1,
+];
+
+/// SUCCESS of request 8.
+const SUCCESS: [u8; 14] = [0, 0, 0, 0x0a, 0, 0, 0, 6, 8, 0x0d, 0x6a, 2, 8, 8];
+
+/// One permit for consumer 2.
+const FLOW: [u8; 16] = [0, 0, 0, 0x0c, 0, 0, 0, 8, 8, 0x0b, 0x5a, 4, 8, 2, 0x10, 1];
+
+/// MESSAGE for consumer 2 with the entry of SEND, the first of the topic.
+const MESSAGE: [u8; 34] = [
+    0, 0, 0, 0x1e, 0, 0, 0, 0x0c, 8, 9, 0x4a, 8, 8, 2, 0x12, 4, 8, 0, 0x10, 0, 0, 0, 0, 0x0a, 0x0a,
+    1, 0x70, 0x10, 0, 0x18, 1, 0xc0, 0x3e, 5,
+];
+
+/// Of the first entry by consumer 2, with request 9.
+const ACK: [u8; 24] = [
+    0, 0, 0, 0x14, 0, 0, 0, 0x10, 8, 0x0a, 0x52, 0x0c, 8, 2, 0x10, 0, 0x1a, 4, 8, 0, 0x10, 0, 0x40,
+    9,
+];
+
+/// The same without a request.
+const SILENT_ACK: [u8; 22] = [
+    0, 0, 0, 0x12, 0, 0, 0, 0x0e, 8, 0x0a, 0x52, 0x0a, 8, 2, 0x10, 0, 0x1a, 4, 8, 0, 0x10, 0,
+];
+
+/// ACK_RESPONSE of request 9 to consumer 2.
+const ACK_RESPONSE: [u8; 17] = [
+    0, 0, 0, 0x0d, 0, 0, 0, 9, 8, 0x26, 0xb2, 2, 4, 8, 2, 0x30, 9,
+];
+
+/// ACK_RESPONSE of request 9 to consumer 2 with ConsumerNotFound.
+const CONSUMER_NOT_FOUND: [u8; 37] = [
+    0, 0, 0, 0x21, 0, 0, 0, 0x1d, 8, 0x26, 0xb2, 2, 0x18, 8, 2, 0x20, 0x0d, 0x2a, 0x10, 0x43, 0x6f,
+    0x6e, 0x73, 0x75, 0x6d, 0x65, 0x72, 0x4e, 0x6f, 0x74, 0x46, 0x6f, 0x75, 0x6e, 0x64, 0x30, 9,
+];
+
+/// ERROR of request 8 with NotAllowedError.
+const CONSUMER_NOT_ALLOWED: [u8; 33] = [
+    0, 0, 0, 0x1d, 0, 0, 0, 0x19, 8, 0x0e, 0x72, 0x15, 8, 8, 0x10, 0x16, 0x1a, 0x0f, 0x4e, 0x6f,
+    0x74, 0x41, 0x6c, 0x6c, 0x6f, 0x77, 0x65, 0x64, 0x45, 0x72, 0x72, 0x6f, 0x72,
+];
+
+/// The longest entry that a message of this broker has.
+const LONGEST_ENTRY: usize = 1_048_576;
+
+/// A topic and its stores.
 #[derive(Drop)]
 struct Held {
     core: TopicCore,
     store: MemoryLedger,
+    subscriptions: MemorySubscriptions,
+}
+
+impl Held {
+    fn new(alloc: Global) -> Held {
+        Held {
+            core: TopicCore::new(alloc, 1_000, 0),
+            store: MemoryLedger::new(alloc),
+            subscriptions: MemorySubscriptions::new(),
+        }
+    }
+
+    fn flush(&mut self) -> Result<usize, Refusal> {
+        self.core.flush(&mut self.store, &mut self.subscriptions)
+    }
+
+    fn dispatch(&mut self, who: u64, consumer_id: u64) -> Result<Option<Outgoing>, Refusal>
+        ensures { SendsTo consumer_id result }
+    {
+        if self.store.len() != self.core.committed() {
+            return Ok(None);
+        }
+        match self.core.dispatch(&self.store, who, consumer_id) {
+            Ok(Some(message)) if message.entry.len() <= LONGEST_ENTRY => Ok(Some(message)),
+            Ok(_) => Ok(None),
+            Err(Refusal::NoMemory) => Err(Refusal::NoMemory),
+            Err(Refusal::Device) => unreachable!(),
+        }
+    }
 }
 
 /// A broker of one topic at most.
@@ -77,8 +160,10 @@ struct Topics {
     held: Vec<Held>,
     /// No topic is made.
     is_full: bool,
-    /// Each session has each producer.
+    /// Each session has each producer and consumer.
     has_all: bool,
+    /// Any permit is one too many.
+    grants_nothing: bool,
 }
 
 impl Port for Topics {
@@ -103,6 +188,13 @@ impl Port for Topics {
                 .has_producer(who, producer_id)
     }
 
+    fn has_consumer(&self, topic: u64, who: u64, consumer_id: u64) -> bool {
+        self.has_all
+            || self.held[topic as usize]
+                .core
+                .has_consumer(who, consumer_id)
+    }
+
     fn find(&mut self, _name: &str) -> Found {
         if self.is_full {
             return Found::TooMany;
@@ -110,11 +202,7 @@ impl Port for Topics {
         if !self.held.is_empty() {
             return Found::Topic(0);
         }
-        let held = Held {
-            core: TopicCore::new(self.alloc, 1_000, 0),
-            store: MemoryLedger::new(self.alloc),
-        };
-        match self.held.push(held) {
+        match self.held.push(Held::new(self.alloc)) {
             Ok(()) => Found::Topic(0),
             Err(_) => Found::NoMemory,
         }
@@ -122,6 +210,30 @@ impl Port for Topics {
 
     fn command(&mut self, topic: u64, who: u64, command: TopicCommand) -> Answer {
         self.held[topic as usize].core.command(who, command)
+    }
+
+    fn grant(
+        &mut self,
+        topic: u64,
+        who: u64,
+        consumer_id: u64,
+        permits: u32,
+    ) -> Result<(), TooManyPermits> {
+        if self.grants_nothing {
+            return Err(TooManyPermits);
+        }
+        self.held[topic as usize]
+            .core
+            .grant(who, consumer_id, permits)
+    }
+
+    fn dispatch(
+        &mut self,
+        topic: u64,
+        who: u64,
+        consumer_id: u64,
+    ) -> Result<Option<Outgoing>, Refusal> {
+        self.held[topic as usize].dispatch(who, consumer_id)
     }
 
     fn collect(&mut self, topic: u64, who: u64) -> Option<Reply> {
@@ -162,6 +274,7 @@ impl Stage {
                 held: Vec::new(alloc),
                 is_full: false,
                 has_all: false,
+                grants_nothing: false,
             },
             out: Vec::new(alloc),
         }
@@ -199,6 +312,15 @@ impl Stage {
     fn pump(&mut self) -> Result<More, PumpFault> {
         self.session.pump(&mut self.topics, &mut self.out)
     }
+
+    /// Flushes the topic, and pumps into empty bytes out.
+    fn flush_and_pump(&mut self) -> Result<More, Fail> {
+        for held in &mut self.topics.held {
+            held.flush()?;
+        }
+        self.out.clear();
+        Ok(self.pump()?)
+    }
 }
 
 #[test]
@@ -210,14 +332,88 @@ fn a_sent_entry_is_receipted(rt: HostRuntime) -> Result<(), Fail> {
     stage.feed(&SEND)?;
     assert_eq!(rt; stage.pump()?, More::No);
     assert!(rt; stage.out.is_empty());
-    for held in &mut stage.topics.held {
-        held.core.flush(&mut held.store)?;
-    }
-    assert_eq!(rt; stage.pump()?, More::No);
+    assert_eq!(rt; stage.flush_and_pump()?, More::No);
     assert_eq!(rt; stage.out.as_slice(), RECEIPT.as_slice());
     assert_eq!(rt; stage.pump()?, More::No);
     assert_eq!(rt; stage.out.len(), RECEIPT.len());
     Ok(())
+}
+
+#[test]
+fn a_message_is_sent_and_acknowledged(rt: HostRuntime) -> Result<(), Fail> {
+    let mut stage = Stage::producing(rt.alloc())?;
+    stage.feed(&SUBSCRIBE)?;
+    assert!(rt; stage.out.is_empty());
+    assert_eq!(rt; stage.flush_and_pump()?, More::No);
+    assert_eq!(rt; stage.out.as_slice(), SUCCESS.as_slice());
+    stage.feed(&SEND)?;
+    assert_eq!(rt; stage.flush_and_pump()?, More::No);
+    assert_eq!(rt; stage.out.as_slice(), RECEIPT.as_slice());
+    stage.feed(&FLOW)?;
+    assert_eq!(rt; stage.flush_and_pump()?, More::No);
+    assert_eq!(rt; stage.out.as_slice(), MESSAGE.as_slice());
+    stage.feed(&ACK)?;
+    assert_eq!(rt; stage.flush_and_pump()?, More::No);
+    assert_eq!(rt; stage.out.as_slice(), ACK_RESPONSE.as_slice());
+    assert_eq!(rt; stage.flush_and_pump()?, More::No);
+    assert!(rt; stage.out.is_empty());
+    Ok(())
+}
+
+#[test]
+fn an_unknown_consumer_is_refused(rt: HostRuntime) -> Result<(), Fail> {
+    let mut stage = Stage::connected(rt.alloc())?;
+    stage.feed(&FLOW)?;
+    stage.feed(&SILENT_ACK)?;
+    assert!(rt; stage.out.is_empty());
+    stage.feed(&ACK)?;
+    assert_eq!(rt; stage.out.as_slice(), CONSUMER_NOT_FOUND.as_slice());
+    Ok(())
+}
+
+#[test]
+fn too_many_permits_end_the_session(rt: HostRuntime) -> Result<(), Fail> {
+    let mut stage = Stage::connected(rt.alloc())?;
+    stage.feed(&SUBSCRIBE)?;
+    stage.topics.grants_nothing = true;
+    assert_eq!(rt; stage.fault_of(&FLOW)?, Some(Fault::TooManyPermits));
+    assert_eq!(rt; stage.fault_of(&PING)?, Some(Fault::TooManyPermits));
+    assert!(rt; stage.out.is_empty());
+    Ok(())
+}
+
+#[test]
+fn consumers_stand_in_rising_id(rt: HostRuntime) -> Result<(), Fail> {
+    let mut stage = with_consumers(rt.alloc(), [1, 5])?;
+    stage.feed(&SUBSCRIBE)?;
+    let entries = [1, 2, 5].map(|consumer_id| ConsumerEntry {
+        consumer_id,
+        topic: 0,
+    });
+    assert_eq!(rt; stage.session.consumers.as_slice(), entries.as_slice());
+    Ok(())
+}
+
+#[test]
+fn a_consumer_id_in_use_is_refused(rt: HostRuntime) -> Result<(), Fail> {
+    let mut stage = with_consumers(rt.alloc(), [1, 2])?;
+    stage.feed(&SUBSCRIBE)?;
+    assert_eq!(rt; stage.out.as_slice(), CONSUMER_NOT_ALLOWED.as_slice());
+    Ok(())
+}
+
+/// A session that knows two consumers of a broker that has each of them.
+fn with_consumers(alloc: Global, ids: [u64; 2]) -> Result<Stage, Fail> {
+    let mut stage = Stage::producing(alloc)?;
+    stage.topics.has_all = true;
+    for consumer_id in ids {
+        let entry = ConsumerEntry {
+            consumer_id,
+            topic: 0,
+        };
+        stage.session.consumers.push(entry)?;
+    }
+    Ok(stage)
 }
 
 #[test]
@@ -269,7 +465,7 @@ fn faults_of_the_stream_end_the_session(rt: HostRuntime) -> Result<(), Fail> {
             &[0, 0, 0, 0x0a, 0, 0, 0, 5, 8, 0x12, 0x92, 1, 0, 0],
             Fault::BadPayload,
         ),
-        (&[0, 0, 0, 6, 0, 0, 0, 2, 8, 4], Fault::UnknownCommand),
+        (&[0, 0, 0, 6, 0, 0, 0, 2, 8, 3], Fault::UnknownCommand),
     ];
     for (bytes, fault) in cases {
         let mut stage = Stage::new(rt.alloc());
@@ -464,6 +660,7 @@ fn texts_of_faults(rt: HostRuntime) -> Result<(), Fail> {
     }
     writes_whole_frames();
     pumps_finish();
+    consumers_rise();
     ended_sessions_leave();
     Ok(())
 }

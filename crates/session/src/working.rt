@@ -92,6 +92,9 @@ impl Session {
             Command::Connect(_) => self.end_by(Fault::OutOfTurn),
             Command::Producer(asked) => self.open(asked, port, out),
             Command::Send(asked) => self.send(asked, entry, port, out),
+            Command::Subscribe(asked) => self.subscribe(asked, port, out),
+            Command::Flow(asked) => self.flow(asked, port, out),
+            Command::Ack(asked) => self.ack(asked, port, out),
             Command::Ping => self.say(&Reply::Pong, out),
             Command::Pong => {}
             Command::Other(_) => self.end_by(Fault::UnknownCommand),
@@ -108,9 +111,13 @@ impl Session {
                 self.connected = true;
                 self.say(&Reply::Connected, out)
             }
-            Command::Producer(_) | Command::Send(_) | Command::Ping | Command::Pong => {
-                self.end_by(Fault::OutOfTurn)
-            }
+            Command::Producer(_)
+            | Command::Send(_)
+            | Command::Subscribe(_)
+            | Command::Flow(_)
+            | Command::Ack(_)
+            | Command::Ping
+            | Command::Pong => self.end_by(Fault::OutOfTurn),
             Command::Other(_) => self.end_by(Fault::UnknownCommand),
         }
     }

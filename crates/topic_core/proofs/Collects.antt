@@ -2,7 +2,9 @@
 use Rattle.std.proofs.Common.{◌≡◌, ℕ, Bool, not, List, ◌∷◌, length, take, drop, refl, arith}
 use Rattle.std.specs.List.{count_by}
 use Rattle.commands.specs.declared.reply.Reply.{Reply}
-use Rattle.topic_core.specs.Replies.{SessionReplies, receipts_in, is_for, due_to, message_id_at}
+use Rattle.ids.specs.Ids.{message_id_at}
+use Rattle.subscriptions.proofs.Limits.{each_sound, each_committed}
+use Rattle.topic_core.specs.Replies.{SessionReplies, receipts_in, is_for, due_to}
 use Rattle.topic_core.specs.Core.{Core, entries_of}
 use Rattle.topic_core.specs.Soundness.{IsSound, AreReceipts, HasReceipts, IsReceiptWithin, is_receipt_for}
 use Rattle.topic_core.specs.Steps.{collected, left}
@@ -29,6 +31,8 @@ module _ (t : Core) (who : ℕ) (sound : IsSound t) where
         sessions = rw (sessions-collected who t.queues) sound.sessions;
         within = all-collected _ _ who t.queues (λ q h. h) (λ q h. h) sound.within;
         sure = λ none. all-collected _ _ who t.queues (λ q h. h) (λ q h. h) (sound.sure none);
+        subs = sound.subs;
+        sent = sound.sent;
       }
 
   pub receipts-collected : (reply : Reply) → AreReceipts t → AreReceipts (collected t who reply)
@@ -66,6 +70,8 @@ module _ (t : Core) (who : ℕ) (sound : IsSound t) where
         sessions = distinct-filter others t.queues sound.sessions;
         within = all-filter _ others t.queues sound.within;
         sure = λ none. all-filter _ others t.queues (sound.sure none);
+        subs = each_sound.leave t.subs who sound.subs;
+        sent = each_committed.leave t.committed t.subs who sound.sent;
       }
 
   pub receipts-left : AreReceipts t → AreReceipts (left t who)

@@ -1,12 +1,16 @@
 -- The parts of a flush keep a topic sound.
-use Rattle.std.proofs.Common.{◌≡◌, ℕ, ◌+◌, ◌-◌, ◌≤◌, cond, List, ◌++◌, length, take, drop, refl, ap, sym, subst, arith}
-use Rattle.std.specs.List.{sum_by, count_by}
+use Rattle.std.proofs.Common.{◌≡◌, ℕ, ◌+◌, ◌-◌, ◌≤◌, cond, List, [], ◌∷◌, ◌++◌, length, take, drop, refl, ap, sym, subst, arith}
+use Rattle.std.specs.List.{AllByRecursion, sum_by, count_by}
 use Rattle.std.proofs.lemmas.List.{take_all, drop_all, take-append-drop, length-drop}
 use Rattle.std.proofs.lemmas.List.Elements.{All-drop}
 use Rattle.std.proofs.lemmas.List.Sums.{sum_by-append, sum_by-take-drop, sum_by-le-sum_by}
 use Rattle.commands.specs.declared.reply.Reply.{Reply}
-use Rattle.topic_core.specs.Replies.{SessionReplies, is_receipt, receipts_in, message_id_at, hand_on, make_due, take_back}
-use Rattle.topic_core.specs.Core.{Core, entries_of}
+use Rattle.ids.specs.Ids.{message_id_at}
+use Rattle.subscriptions.specs.State.{Subscription}
+use Rattle.subscriptions.specs.Soundness.{IsCommittedOn}
+use Rattle.subscriptions.proofs.Limits.{each_sound}
+use Rattle.topic_core.specs.Replies.{SessionReplies, is_receipt, receipts_in, hand_on, make_due, take_back}
+use Rattle.topic_core.specs.Core.{Core, entries_of, changes_of}
 use Rattle.topic_core.specs.Soundness.{IsSound, AreReceipts, HasReceipts, IsReceiptWithin, AreRising, is_receipt_for, receipts_handed_on, receipts_left}
 use Rattle.topic_core.specs.Flush.{handed_on, finished, taken_back}
 use Rattle.topic_core.proofs.Queues.{all-map, all-each, sum_by-map, sum_by-both, sum_by-none, sessions-map}
@@ -25,6 +29,11 @@ all-awaited : (n c h w : ℕ) (q : SessionReplies) → h ≤ w → HasReceipts n
 all-awaited n c h w q low x =
     let P : List Reply → Type 0 = λ rs. AreRising n c (c + w) rs in
     subst P (take-append-drop q.handed_on q.pending) (rising-append n c (c + h) (c + w) (take q.handed_on q.pending) (drop q.handed_on q.pending) (omega arith) (omega (arith, low)) x.awaited x.promised)
+
+-- what is known of no position from one on is known of none from a later one on
+committed-wider : (c c' : ℕ) (subs : List Subscription) → c ≤ c' → AllByRecursion (IsCommittedOn c) subs → AllByRecursion (IsCommittedOn c') subs
+committed-wider c c' [] low all = tt
+committed-wider c c' (s ∷ subs) low all = (λ i h. all.0 i (omega (arith, low, h)), committed-wider c c' subs low all.1)
 
 module _ (t : Core) (sound : IsSound t) where
   handed_on-few : entries_of t.doubt ≤ length t.waiting
@@ -52,6 +61,8 @@ module _ (t : Core) (sound : IsSound t) where
         sessions = rw (sessions-map hand_on t.queues (λ q. refl)) sound.sessions;
         within = all-map _ _ hand_on t.queues (λ q h. omega arith) sound.within;
         sure = λ some. cc;
+        subs = sound.subs;
+        sent = sound.sent;
       }
 
   pub receipts-handed_on : AreReceipts t → AreReceipts (handed_on t)
@@ -90,6 +101,8 @@ module _ (t : Core) (sound : IsSound t) where
         sessions = rw (sessions-map take_back t.queues (λ q. refl)) sound.sessions;
         within = all-map _ _ take_back t.queues (λ q h. omega arith) sound.within;
         sure = λ none. all-map _ _ take_back t.queues (λ q h. refl) sound.within;
+        subs = sound.subs;
+        sent = sound.sent;
       }
 
   pub receipts-taken_back : AreReceipts t → AreReceipts (taken_back t)
@@ -132,6 +145,8 @@ module _ (t : Core) (sound : IsSound t) where
         sessions = rw (sessions-map make_due t.queues (λ q. refl)) sound.sessions;
         within = all-map _ _ make_due t.queues (λ q h. omega arith) sound.within;
         sure = λ none. all-map _ _ make_due t.queues (λ q h. refl) sound.within;
+        subs = each_sound.settle t.subs (changes_of t.doubt) sound.subs;
+        sent = committed-wider t.committed (t.committed + entries_of t.doubt) t.subs.subs (omega arith) sound.sent;
       }
 
   pub receipts-finished : AreReceipts t → AreReceipts (finished t)

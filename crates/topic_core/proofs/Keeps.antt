@@ -1,5 +1,5 @@
 -- Each step keeps a topic sound; what a flush commits.
-use Rattle.std.proofs.Common.{◌≡◌, ℕ, Bool, true, false, cond, Option, Some, None, is_some, Result, Ok, Err, List, [], ◌∷◌, ◌++◌, length, map, refl, subst, sym, ap, ◌∙◌, arith, length-append}
+use Rattle.std.proofs.Common.{◌≡◌, ℕ, Bool, true, false, cond, not, ◌&&◌, Option, Some, None, is_some, Result, Ok, Err, List, [], ◌∷◌, ◌++◌, length, map, refl, subst, sym, ap, ◌∙◌, arith, length-append}
 use Rattle.commands.specs.declared.reply.Reply.{Reply}
 use Rattle.commands.specs.declared.reply.Reply.TheVariants.{ProducerSuccess, SendError, Error}
 use Rattle.topic_core.specs.declared.producer.Producer.{Producer}
@@ -8,29 +8,39 @@ use Rattle.topic_core.specs.declared.refusal.Refusal.TheVariants as refusal
 use Rattle.topic_core.specs.declared.command.TopicCommand.{TopicCommand}
 use Rattle.topic_core.specs.declared.command.TopicCommand.TheVariants as command
 use Rattle.topic_core.specs.declared.command.Answer.{Answer}
-use Rattle.topic_core.specs.declared.command.Answer.TheVariants.{Now, Later, NoMemory}
+use Rattle.topic_core.specs.declared.command.Answer.TheVariants.{Now, Later, Nothing, NoMemory}
+use Rattle.holds.specs.declared.consumer.ConsumerKey.{ConsumerKey}
+use Rattle.subscriptions.specs.Laws.{Kept, IsKept, applied}
+use Rattle.subscriptions.specs.Steps as subscriptions
+use Rattle.subscriptions.specs.declared.consumer.TooManyPermits.{TooManyPermits}
+use Rattle.subscriptions.proofs.Limits.{each_sound, each_committed, picked}
+use Rattle.subscriptions.proofs.Kept.{are_kept}
+use Rattle.topic_core.specs.declared.dispatch.Outgoing.{Outgoing}
 use Rattle.topic_core.specs.Replies.{SessionReplies, is_for, due_to, pending_to, make_all_due}
 use Rattle.topic_core.specs.Core.{Core, Topic, Doubt}
 use Rattle.topic_core.specs.Soundness.{IsSound, AreReceipts, IsSoundTopic}
-use Rattle.topic_core.specs.Steps.{CoreStep, TopicStep, Collects, outcome_of, refused_or, first_standing, producer_refusals, send_refusals, with_producer, accepted, bytes_of}
+use Rattle.topic_core.specs.Steps.{CoreStep, TopicStep, Collects, GrantStep, outcome_of, refused_or, first_standing, producer_refusals, send_refusals, with_producer, accepted, bytes_of, subscribe_refusal, subscribed, ack_refusals, ack_refused, ack_accepted, key_of, granted, grants_too_many, left}
+use Rattle.topic_core.specs.Dispatch.{Admits, Dispatches, DispatchStep, sent}
 use Rattle.topic_core.specs.Flush.{handed_on, flushed_topic, FlushStep, FlushIn, FlushEnds}
-use Rattle.topic_core.specs.Laws.{IsFlushed}
+use Rattle.topic_core.specs.Laws.{IsFlushed, IsAdmitted}
 use Rattle.topic_core.proofs.Sends.{takes_entry, sound-accepted, receipts-accepted}
-use Rattle.topic_core.proofs.Collects.{sound-collected, receipts-collected}
+use Rattle.topic_core.proofs.Collects.{sound-collected, receipts-collected, sound-left, receipts-left}
+use Rattle.topic_core.proofs.Subscribing.{sound-subs, receipts-subs, sound-subscribed, receipts-subscribed, kept-subscribed, accepts, sound-acked, receipts-acked, kept-acked, committed-acked}
 use Rattle.topic_core.proofs.Flushes.{sound-handed_on, receipts-handed_on, sound-finished, receipts-finished}
 use Rattle.topic_core.proofs.Flushing.{finished-handed_on}
 
--- a core that is sound, with as many committed entries as before
+-- a core that is sound, with as many committed entries as before, over the same durable subscriptions
 pub record Stays (old new : Core) : Type 0 where
   pub sound : IsSound new
   pub receipts : AreReceipts new
   pub committed : new.committed ≡ old.committed
+  pub kept : (kept : Kept) → IsKept kept old.subs → IsKept kept new.subs
 
 abbrev Keeps : Core → Core → Type 0
 Keeps old new = IsSound old → AreReceipts old → Stays old new
 
 still : (t : Core) → Keeps t t
-still t sound receipts = record { sound = sound; receipts = receipts; committed = refl }
+still t sound receipts = record { sound = sound; receipts = receipts; committed = refl; kept = λ kept is. is }
 
 with-producers : (t : Core) (ps : List Producer) → Keeps t (record t { producers = ps })
 with-producers t ps sound are = record {
@@ -48,24 +58,50 @@ with-producers t ps sound are = record {
     sessions = sound.sessions;
     within = sound.within;
     sure = sound.sure;
+    subs = sound.subs;
+    sent = sound.sent;
   };
   receipts = record { each = are.each; single = are.single };
   committed = refl;
+  kept = λ kept is. is;
 }
 
 outcome-keeps : (t : Core) (who : ℕ) (c : TopicCommand) → Keeps t (outcome_of t who c).core
 outcome-keeps t who (command.Producer id request name) =
-    elim (first_standing (producer_refusals t name)) as (λ o. Keeps t (refused_or o (λ error. Error request error) t (record { answer = Now (ProducerSuccess request name); core = with_producer t who id name })).core) [
+    elim (first_standing (producer_refusals t name)) as (λ o. Keeps t (refused_or o (λ error. Now (Error request error)) t (record { answer = Now (ProducerSuccess request name); core = with_producer t who id name })).core) [
       | None ↦ with-producers t _
       | Some error ↦ still t
     ]
 outcome-keeps t who (command.Send send) =
     elim (first_standing (send_refusals t who send)) as (λ o. first_standing (send_refusals t who send) ≡ o
-    → Keeps t (refused_or o (λ error. SendError send.producer_id send.sequence_id error) t (record { answer = Later; core = accepted t who send.producer_id send.sequence_id (bytes_of send.entry) })).core) [
+    → Keeps t (refused_or o (λ error. Now (SendError send.producer_id send.sequence_id error)) t (record { answer = Later; core = accepted t who send.producer_id send.sequence_id (bytes_of send.entry) })).core) [
       | None ↦ λ none sound are. let fits = takes_entry t who send none in record {
         sound = sound-accepted t who send.producer_id send.sequence_id (bytes_of send.entry) sound fits.0 fits.1;
         receipts = receipts-accepted t who send.producer_id send.sequence_id (bytes_of send.entry) sound are;
         committed = refl;
+        kept = λ kept is. is;
+      }
+      | Some error ↦ λ _. still t
+    ] refl
+outcome-keeps t who (command.Subscribe s) =
+    elim (subscribe_refusal t s) as (λ o. subscribe_refusal t s ≡ o
+    → Keeps t (refused_or o (λ error. Now (Error s.request_id error)) t (record { answer = Later; core = subscribed t who s })).core) [
+      | None ↦ λ none sound are. record {
+        sound = sound-subscribed t who s sound none;
+        receipts = receipts-subscribed t who s sound none are;
+        committed = refl;
+        kept = λ kept is. kept-subscribed t who s sound kept is;
+      }
+      | Some error ↦ λ _. still t
+    ] refl
+outcome-keeps t who (command.Ack ack) =
+    elim (first_standing (ack_refusals t who ack)) as (λ o. first_standing (ack_refusals t who ack) ≡ o
+    → Keeps t (refused_or o (ack_refused ack.consumer_id ack.request_id) t (ack_accepted t who ack ack.request_id)).core) [
+      | None ↦ λ none sound are. let fits = accepts t who ack none in record {
+        sound = sound-acked t who ack sound ack.request_id fits;
+        receipts = receipts-acked t who ack sound ack.request_id fits are;
+        committed = committed-acked t who ack sound ack.request_id;
+        kept = λ kept is. kept-acked t who ack sound ack.request_id kept is;
       }
       | Some error ↦ λ _. still t
     ] refl
@@ -77,17 +113,97 @@ step-keeps : (t : Core) (who : ℕ) (c : TopicCommand) (a : Answer) (new : Core)
 step-keeps t who c NoMemory new h = to t new t h (still t)
 step-keeps t who c (Now r) new h = to t new _ h.1 (outcome-keeps t who c)
 step-keeps t who c Later new h = to t new _ h.1 (outcome-keeps t who c)
+step-keeps t who c Nothing new h = to t new _ h.1 (outcome-keeps t who c)
+
+-- over a ledger and durable subscriptions
+pub topic-sound : (old : Topic) (new : Core) → Stays old.core new → IsSoundTopic old → IsSoundTopic (record old { core = new })
+topic-sound old new stays sound = record {
+  core = stays.sound;
+  receipts = stays.receipts;
+  counted = sound.counted ∙ sym stays.committed;
+  kept = stays.kept old.kept sound.kept;
+}
 
 pub command-sound : (old : Topic) (who : ℕ) (c : TopicCommand) (answer : Answer) (new : Topic) → TopicStep old who c answer new → IsSoundTopic old → IsSoundTopic new
 command-sound old who c answer new step sound =
     let stays = step-keeps old.core who c answer new.core step.core sound.core sound.receipts in
-    record { core = stays.sound; receipts = stays.receipts; counted = ap (λ (l : List (List ℕ)). length l) step.ledger ∙ sound.counted ∙ sym stays.committed }
+    record {
+      core = stays.sound;
+      receipts = stays.receipts;
+      counted = ap (λ (l : List (List ℕ)). length l) step.ledger ∙ sound.counted ∙ sym stays.committed;
+      kept = let P : Kept → Type 0 = λ k. IsKept k new.core.subs in subst P (sym step.kept) (stays.kept old.kept sound.kept);
+    }
+
+-- a FLOW
+with-subs : (t : Core) (permits : ℕ) (key : ConsumerKey) → subscriptions.grants_too_many t.subs key permits ≡ false → Keeps t (record t { subs = subscriptions.granted t.subs key permits })
+with-subs t permits key few sound are = record {
+  sound = sound-subs t (subscriptions.granted t.subs key permits) sound (each_sound.grant t.subs key permits few sound.subs) (each_committed.grant t.committed t.subs key permits sound.sent) (omega arith);
+  receipts = receipts-subs t (subscriptions.granted t.subs key permits) are;
+  committed = refl;
+  kept = λ kept is. are_kept.grant kept t.subs key permits is;
+}
+
+granted-keeps : (t : Core) (who id permits : ℕ) → grants_too_many t who id permits ≡ false → Keeps t (granted t who id permits)
+granted-keeps t who id permits =
+    elim t.failed as (λ b. (not b && subscriptions.grants_too_many t.subs (key_of who id) permits) ≡ false
+    → Keeps t (cond b t (record t { subs = subscriptions.granted t.subs (key_of who id) permits }))) [
+      | true ↦ λ _. still t
+      | false ↦ λ few. with-subs t permits (key_of who id) few
+    ]
+
+grant-keeps : (t : Core) (who id permits : ℕ) (result : Result (Unit {0}) TooManyPermits) (new : Core) → GrantStep t who id permits result new → Keeps t new
+grant-keeps t who id permits (Ok done) new h = to t new _ h.1 (granted-keeps t who id permits h.0)
+grant-keeps t who id permits (Err e) new h = to t new t h.1 (still t)
+
+pub grant-sound : (old : Topic) (who id permits : ℕ) (result : Result (Unit {0}) TooManyPermits) (new : Core) → GrantStep old.core who id permits result new → IsSoundTopic old → IsSoundTopic (record old { core = new })
+grant-sound old who id permits result new h sound = topic-sound old new (grant-keeps old.core who id permits result new h sound.core sound.receipts) sound
+
+-- a dispatch
+pub sent-keeps : (t : Core) (key : ConsumerKey) (i : ℕ) → Admits t key i → Keeps t (sent t key i)
+sent-keeps t key i a sound are = record {
+  sound = sound-subs t (subscriptions.sent t.subs key i) sound (each_sound.send t.subs key t.committed i a.admitted sound.subs) (each_committed.send t.committed t.subs key i a.admitted sound.sent) (omega arith);
+  receipts = receipts-subs t (subscriptions.sent t.subs key i) are;
+  committed = refl;
+  kept = λ kept is. are_kept.send kept t.subs key i is;
+}
+
+dispatch-keeps : (t : Core) (ledger : List (List ℕ)) (key : ConsumerKey) (result : Result (Option Outgoing) Refusal) (new : Core) → Dispatches t ledger key result new → Keeps t new
+dispatch-keeps t ledger key (Ok None) new h = to t new t h.0 (still t)
+dispatch-keeps t ledger key (Ok (Some outgoing)) new h = to t new _ h.1.sent (sent-keeps t key h.0 h.1.admitted)
+dispatch-keeps t ledger key (Err refusal.NoMemory) new h = to t new t h (still t)
+dispatch-keeps t ledger key (Err refusal.Device) new h = absurd h
+
+pub dispatch-sound : (old : Topic) (who id : ℕ) (result : Result (Option Outgoing) Refusal) (new : Topic) → DispatchStep old who id result new → IsSoundTopic old → IsSoundTopic new
+dispatch-sound old who id result new step sound =
+    let stays = dispatch-keeps old.core old.ledger (key_of who id) result new.core step.core sound.core sound.receipts in
+    record {
+      core = stays.sound;
+      receipts = stays.receipts;
+      counted = ap (λ (l : List (List ℕ)). length l) step.ledger ∙ sound.counted ∙ sym stays.committed;
+      kept = let P : Kept → Type 0 = λ k. IsKept k new.core.subs in subst P (sym step.kept) (stays.kept old.kept sound.kept);
+    }
+
+pub dispatch-admits : (old : Topic) (who id : ℕ) (outgoing : Outgoing) (new : Topic) → DispatchStep old who id (Ok (Some outgoing)) new → (i : ℕ) × IsAdmitted old who id outgoing i
+dispatch-admits old who id outgoing new step = (
+  step.core.0,
+  record {
+    named = step.core.1.reply;
+    published = step.core.1.entry;
+    admitted = step.core.1.admitted;
+    is_open = picked old.core.subs (key_of who id) old.core.committed step.core.0 step.core.1.admitted.admitted;
+  },
+)
+
+-- all changes are durable
+flushed-kept : (t : Core) (kept : Kept) → IsKept kept t.subs → IsKept (applied t.subs.changes kept) (record t.subs { changes = [] })
+flushed-kept t kept is = is
 
 flushed-sound : (old : Topic) → IsSoundTopic old → IsSoundTopic (flushed_topic old)
 flushed-sound old sound = record {
   core = subst (λ (t : Core). IsSound t) (finished-handed_on old.core) (sound-finished (handed_on old.core) (sound-handed_on old.core sound.core));
   receipts = subst (λ (t : Core). AreReceipts t) (finished-handed_on old.core) (receipts-finished (handed_on old.core) (sound-handed_on old.core sound.core) (receipts-handed_on old.core sound.core sound.receipts));
   counted = omega (arith, length-append old.ledger old.core.waiting, sound.counted);
+  kept = flushed-kept old.core old.kept sound.kept;
 }
 
 along : (a b : Topic) → a ≡ b → IsSoundTopic b → IsSoundTopic a
@@ -113,6 +229,19 @@ pub collect-sound : (old : Core) (who : ℕ) (reply : Option Reply) (new : Core)
 collect-sound old who None new h sound are = both new old h.1 sound are
 collect-sound old who (Some reply) new h sound are = both new _ h.1 (sound-collected old who sound reply _ h.0) (receipts-collected old who sound reply are)
 
+pub collected-sound : (old : Topic) (who : ℕ) (reply : Option Reply) (new : Core) → Collects old.core who reply new → IsSoundTopic old → IsSoundTopic (record old { core = new })
+collected-sound old who None new h sound = topic-sound old new (to old.core new old.core h.1 (still old.core) sound.core sound.receipts) sound
+collected-sound old who (Some reply) new h sound =
+    topic-sound old new (to old.core new _ h.1 (λ s r. record { sound = sound-collected old.core who s reply _ h.0; receipts = receipts-collected old.core who s reply r; committed = refl; kept = λ kept is. is }) sound.core sound.receipts) sound
+
+pub leave-sound : (old : Topic) (who : ℕ) → IsSoundTopic old → IsSoundTopic (record old { core = left old.core who })
+leave-sound old who sound = topic-sound old (left old.core who) (record {
+  sound = sound-left old.core who sound.core;
+  receipts = receipts-left old.core who sound.core sound.receipts;
+  committed = refl;
+  kept = λ kept is. are_kept.leave kept old.core.subs who is;
+}) sound
+
 -- the replies of a session, when all are made due
 due_to-all : (who : ℕ) (qs : List SessionReplies) → due_to who (map (λ q. make_all_due q) qs) ≡ due_to who qs ++ pending_to who qs
 due_to-all who [] = refl
@@ -132,6 +261,8 @@ commits false (Some d) old n new h none = cc
 commits false None old n new h none = record {
   ledger = ap (λ (t : Topic). t.ledger) h.1;
   count = h.0;
+  kept = ap (λ (t : Topic). t.kept) h.1;
+  changes = ap (λ (t : Topic). t.core.subs.changes) h.1;
   due = λ who. ap (λ (t : Topic). due_to who t.core.queues) h.1 ∙ due_to-all who old.core.queues;
   pending = λ who. ap (λ (t : Topic). pending_to who t.core.queues) h.1 ∙ pending_to-all who old.core.queues;
 }

@@ -1,10 +1,12 @@
 pub mod Lists
+pub mod Ids
 pub mod Places
 pub mod Queues
 pub mod Receipts
 pub mod Sends
 pub mod Collects
 pub mod Flushes
+pub mod Subscribing
 pub mod Openings
 pub mod Flushing
 pub mod Steps

@@ -1,6 +1,7 @@
 -- A topic that was opened is sound.
 use Rattle.std.proofs.Common.{ℕ, ◌^◌, ◌≤◌, ◌<◌, [], nat_eq, arith}
 use Rattle.std.specs.List.{IsDistinct}
+use Rattle.subscriptions.proofs.Limits.{each_sound, each_committed}
 use Rattle.topic_core.specs.Core.{opened}
 use Rattle.topic_core.specs.Soundness.{IsSound, AreReceipts}
 
@@ -23,6 +24,8 @@ sound-opened n committed some few = record {
   sessions = no_sessions;
   within = tt;
   sure = λ none. tt;
+  subs = each_sound.made;
+  sent = each_committed.made committed;
 }
 
 pub receipts-opened : (n committed : ℕ) → AreReceipts (opened n committed)

@@ -1,9 +1,10 @@
 -- The queue of a session, where it stands among all.
-use Rattle.std.proofs.Common.{◌≡◌, ℕ, zero, suc, ◌<◌, ◌≤◌, Bool, true, false, cond, ◌||◌, nat_lt, Option, Some, None, List, [], ◌∷◌, ◌++◌, length, drop, get_or, set, refl, ap, sym, ◌∙◌, arith}
+use Rattle.std.proofs.Common.{◌≡◌, ℕ, zero, suc, ◌-◌, ◌<◌, ◌≤◌, Bool, true, false, cond, ◌||◌, nat_lt, Option, Some, None, List, [], ◌∷◌, ◌++◌, length, length-append, take, drop, get_or, set, refl, ap, sym, ◌∙◌, arith}
 use Rattle.std.specs.Prelude.{IfNone, IfSome, MatchOption}
-use Rattle.std.specs.List.{list_any, position, position_or_len}
-use Rattle.std.proofs.lemmas.Bool.{true≢false, ltb-false}
-use Rattle.std.proofs.lemmas.List.{set-get_or}
+use Rattle.std.specs.List.{AllByRecursion, list_any, position, position_or_len}
+use Rattle.std.proofs.lemmas.Bool.Decides.{nat_tests}
+use Rattle.std.proofs.lemmas.Bool.{true≢false, false≢true, ltb-false}
+use Rattle.std.proofs.lemmas.List.{set-get_or, take_all, take-append-le}
 use Rattle.std.proofs.lemmas.List.Quantifiers.{position-Some}
 use Rattle.std.proofs.lemmas.List.Recursion.{or_from_places}
 use Rattle.std.proofs.lemmas.List.Sums.{fails_before_first}
@@ -106,3 +107,34 @@ takes_first who qs i q new (Some x) p read is was =
           ∙ ap (λ d. x ∷ d) (ap (λ (y : SessionReplies). y.due) (was ∙ ap without_first read) ∙ sym (due_to-collected who qs i q p) ∙ ap (λ ys. due_to who ys) (sym to)),
       to ∙ sym (collected_from-at who qs i q p),
     )
+
+-- one more reply for a session makes it one of those with a queue
+pub queued-any : (who : ℕ) (r : Reply) (qs : List SessionReplies) → list_any (is_for who) (queued who r qs) ≡ true
+queued-any who r [] = grind (arith, nat_tests)
+queued-any who r (q ∷ qs) = elim (is_for who q) as (λ b. is_for who q ≡ b → list_any (is_for who) (cond b (with_pending r q ∷ qs) (q ∷ queued who r qs)) ≡ true) [
+  | true ↦ λ here. ap (λ b. b || list_any (is_for who) qs) here
+  | false ↦ λ other. ap (λ b. b || list_any (is_for who) (queued who r qs)) other ∙ queued-any who r qs
+] refl
+
+-- what undoes one more reply of a queue undoes it among all
+module _ (who : ℕ) (r : Reply) (d new : SessionReplies) (undo : (x : Reply) (before : SessionReplies) → before.handed_on ≤ length before.pending → d ≡ with_pending x before → new ≡ before) where
+  pub undone : (qs : List SessionReplies) (i : ℕ) → AllByRecursion (λ q. q.handed_on ≤ length q.pending) qs → list_any (is_for who) qs ≡ true
+      → IsPlace who (queued who r qs) i d → d ≡ get_or (queued who r qs) i d → set (queued who r qs) i new ≡ qs
+  undone [] i fits any p read = absurd (false≢true any)
+  undone (q ∷ qs) zero fits any p read =
+      elim (is_for who q) as (λ b. is_for who q ≡ b → IsPlace who (cond b (with_pending r q ∷ qs) (q ∷ queued who r qs)) zero d
+      → d ≡ get_or (cond b (with_pending r q ∷ qs) (q ∷ queued who r qs)) zero d → set (cond b (with_pending r q ∷ qs) (q ∷ queued who r qs)) zero new ≡ q ∷ qs) [
+        | true ↦ λ _ place is. ap (λ x. x ∷ qs) (undo r q fits.0 is)
+        | false ↦ λ other place is. absurd (true≢false (sym place.here ∙ other))
+      ] refl p read
+  undone (q ∷ qs) (suc i) fits any p read =
+      elim (is_for who q) as (λ b. is_for who q ≡ b → (b || list_any (is_for who) qs) ≡ true → IsPlace who (cond b (with_pending r q ∷ qs) (q ∷ queued who r qs)) (suc i) d
+      → d ≡ get_or (cond b (with_pending r q ∷ qs) (q ∷ queued who r qs)) (suc i) d → set (cond b (with_pending r q ∷ qs) (q ∷ queued who r qs)) (suc i) new ≡ q ∷ qs) [
+        | true ↦ λ here _ place is. absurd (true≢false (sym here ∙ place.before zero (omega arith)))
+        | false ↦ λ _ more place is. ap (λ xs. q ∷ xs) (undone qs i fits.1 more (rest who q (queued who r qs) i d place) is)
+      ] refl any p read
+
+-- what is left before a last element
+pub without_last : {X : Type 0} (xs : List X) (x : X) → take (length (xs ++ x ∷ []) - 1) (xs ++ x ∷ []) ≡ xs
+without_last xs x =
+    ap (λ n. take n (xs ++ x ∷ [])) (omega (arith, length-append xs (x ∷ []))) ∙ take-append-le (length xs) xs (x ∷ []) (omega arith) ∙ take_all (length xs) xs (omega arith)

@@ -2,11 +2,12 @@
 use Rattle.std.proofs.Common.{◌≡◌, ℕ, ◌+◌, ◌*◌, ◌/◌, ◌%◌, ◌≤◌, ◌<◌, Bool, true, false, cond, ◌&&◌, nat_eq, List, [], ◌∷◌, ◌++◌, take, drop, refl, ap, sym, ◌∙◌, arith}
 use Rattle.std.specs.List.{AllByRecursion, count_by}
 use Rattle.std.proofs.lemmas.List.Sums.{sum_by-cons, sum_by-take-drop}
-use Rattle.std.proofs.lemmas.Bool.{eqb-true}
-use Rattle.commands.specs.declared.reply.MessageId.{MessageId}
+use Rattle.std.proofs.lemmas.Bool.{eqb-true, true≢false}
+use Rattle.ids.specs.declared.message_id.MessageId.{MessageId}
+use Rattle.ids.specs.Ids.{message_id_at}
 use Rattle.commands.specs.declared.reply.Reply.{Reply}
-use Rattle.commands.specs.declared.reply.Reply.TheVariants.{Connected, ProducerSuccess, SendReceipt, SendError, Error, Pong}
-use Rattle.topic_core.specs.Replies.{SessionReplies, message_id_at}
+use Rattle.commands.specs.declared.reply.Reply.TheVariants.{Connected, ProducerSuccess, SendReceipt, SendError, Message, Success, Error, AckResponse, Pong}
+use Rattle.topic_core.specs.Replies.{SessionReplies, is_receipt}
 use Rattle.topic_core.specs.Soundness.{IsReceiptWithin, AreRising, HasReceipts, is_receipt_for}
 
 -- a wider range
@@ -15,7 +16,10 @@ within-wider n a b c d Connected low high x = tt
 within-wider n a b c d (ProducerSuccess q m) low high x = tt
 within-wider n a b c d (SendReceipt p s id) low high x = (x.0, omega (arith, low, x.1), omega (arith, high, x.2), x.3)
 within-wider n a b c d (SendError p s e) low high x = tt
+within-wider n a b c d (Message c' id k) low high x = tt
+within-wider n a b c d (Success q) low high x = tt
 within-wider n a b c d (Error q e) low high x = tt
+within-wider n a b c d (AckResponse c' e q) low high x = tt
 within-wider n a b c d Pong low high x = tt
 
 module _ (P Q : Reply → Type 0) where
@@ -49,6 +53,32 @@ pub rising-push : (n a e : ℕ) (rs : List Reply) (producer_id sequence_id : ℕ
 rising-push n a e rs p s h x =
     rising-append n a e (e + 1) rs (SendReceipt p s (message_id_at n e) ∷ []) h (omega arith) x (e + 1, omega arith, omega arith, (e, omega arith, omega arith, refl), tt)
 
+-- a reply that is no receipt is for no position
+plain-within : (n a b : ℕ) (r : Reply) → is_receipt r ≡ false → IsReceiptWithin n a b r
+plain-within n a b Connected h = tt
+plain-within n a b (ProducerSuccess q m) h = tt
+plain-within n a b (SendReceipt p s id) h = absurd (true≢false h)
+plain-within n a b (SendError p s e) h = tt
+plain-within n a b (Message c id k) h = tt
+plain-within n a b (Success q) h = tt
+plain-within n a b (Error q e) h = tt
+plain-within n a b (AckResponse c e q) h = tt
+plain-within n a b Pong h = tt
+
+pub plain-for : (id : MessageId) (r : Reply) → is_receipt r ≡ false → is_receipt_for id r ≡ false
+plain-for id Connected h = refl
+plain-for id (ProducerSuccess q m) h = refl
+plain-for id (SendReceipt p s of) h = absurd (true≢false h)
+plain-for id (SendError p s e) h = refl
+plain-for id (Message c of k) h = refl
+plain-for id (Success q) h = refl
+plain-for id (Error q e) h = refl
+plain-for id (AckResponse c e q) h = refl
+plain-for id Pong h = refl
+
+pub rising-plain : (n a e : ℕ) (rs : List Reply) (r : Reply) → a ≤ e → is_receipt r ≡ false → AreRising n a e rs → AreRising n a e (rs ++ r ∷ [])
+rising-plain n a e rs r h plain x = rising-append n a e e rs (r ∷ []) h (omega arith) x (e, omega arith, omega arith, plain-within n e e r plain, tt)
+
 pub rising-within : (n a e : ℕ) (rs : List Reply) → AreRising n a e rs → AllByRecursion (IsReceiptWithin n a e) rs
 rising-within n a e [] x = tt
 rising-within n a e (r ∷ rs) x =
@@ -76,7 +106,10 @@ other-receipt n a b k (SendReceipt p s id) some h x =
       | false ↦ λ _. refl
     ] refl
 other-receipt n a b k (SendError p s e) some h x = refl
+other-receipt n a b k (Message c id m) some h x = refl
+other-receipt n a b k (Success q) some h x = refl
 other-receipt n a b k (Error q e) some h x = refl
+other-receipt n a b k (AckResponse c e q) some h x = refl
 other-receipt n a b k Pong some h x = refl
 
 no-receipt : (n a b k : ℕ) (rs : List Reply) → 0 < n → b ≤ k → AllByRecursion (IsReceiptWithin n a b) rs → count_by (is_receipt_for (message_id_at n k)) rs ≡ 0

@@ -10,7 +10,8 @@ use Rattle.commands.specs.declared.reply.Reply.TheVariants.{SendReceipt}
 use Rattle.commands.specs.declared.server_error.ServerError.{ServerError}
 use Rattle.commands.specs.declared.server_error.ServerError.TheVariants.{PersistenceError, ChecksumError, TooManyRequests, NotAllowedError}
 use Rattle.topic_core.specs.declared.command.Send.{Send}
-use Rattle.topic_core.specs.Replies.{SessionReplies, is_receipt, receipts_in, message_id_at, with_pending, queued}
+use Rattle.ids.specs.Ids.{message_id_at}
+use Rattle.topic_core.specs.Replies.{SessionReplies, is_receipt, receipts_in, with_pending, queued}
 use Rattle.topic_core.specs.Core.{Core, next_position, waiting_bytes, entries_of}
 use Rattle.topic_core.specs.Soundness.{IsSound, AreReceipts, HasReceipts, is_receipt_for, receipts_for}
 use Rattle.topic_core.specs.Steps.{receipt, accepted, first_standing, limit_refusals, send_refusals, has_open_producer, is_checksummed, bytes_of, is_single}
@@ -111,6 +112,8 @@ module _ (t : Core) (who p s : ℕ) (entry : List ℕ) (sound : IsSound t) where
         sessions = distinct-queued who (receipt t p s) t.queues sound.sessions;
         within = all-queued _ _ who (receipt t p s) t.queues (λ q h. h) (λ q h. omega (arith, h, length-append q.pending (receipt t p s ∷ []))) (omega arith) sound.within;
         sure = λ none. all-queued _ _ who (receipt t p s) t.queues (λ q h. h) (λ q h. h) refl (sound.sure none);
+        subs = sound.subs;
+        sent = sound.sent;
       }
 
   -- how many receipts for a position await a flush then

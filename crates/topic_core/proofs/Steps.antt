@@ -1,15 +1,21 @@
 -- What a step answers fits its command, and what waits then came from accepted SENDs.
-use Rattle.std.proofs.Common.{◌≡◌, inl, inr, ℕ, Bool, true, false, cond, Some, None, List, [], ◌∷◌, ◌++◌, length, refl, subst, sym, ap, ◌∙◌, arith, append-nil}
+use Rattle.std.proofs.Common.{◌≡◌, inl, inr, ℕ, Bool, true, false, cond, Option, Some, None, is_some, List, [], ◌∷◌, ◌++◌, length, refl, subst, sym, ap, ◌∙◌, arith, append-nil}
 use Rattle.std.specs.List.{AllByRecursion}
+use Rattle.std.specs.Option.{option_map}
 use Rattle.commands.specs.declared.server_error.ServerError.{ServerError}
+use Rattle.commands.specs.declared.server_error.ServerError.TheVariants.{PersistenceError}
 use Rattle.commands.specs.declared.reply.Reply.TheVariants.{ProducerSuccess, SendError, Error}
+use Rattle.subscriptions.specs.declared.consumer.Refusal.{Refusal}
+use Rattle.subscriptions.specs.declared.consumer.Refusal.TheVariants as refusal
 use Rattle.topic_core.specs.declared.command.Send.{Send}
+use Rattle.topic_core.specs.declared.command.Subscribe.{Subscribe}
+use Rattle.topic_core.specs.declared.command.Ack.{Ack}
 use Rattle.topic_core.specs.declared.command.TopicCommand.{TopicCommand}
 use Rattle.topic_core.specs.declared.command.TopicCommand.TheVariants as command
 use Rattle.topic_core.specs.declared.command.Answer.{Answer}
-use Rattle.topic_core.specs.declared.command.Answer.TheVariants.{Now, Later, NoMemory}
+use Rattle.topic_core.specs.declared.command.Answer.TheVariants.{Now, Later, Nothing, NoMemory}
 use Rattle.topic_core.specs.Core.{Core}
-use Rattle.topic_core.specs.Steps.{CoreStep, Fits, IsAmong, outcome_of, first_standing, refused_or, producer_refusals, send_refusals, producer_errors, send_errors, with_producer, accepted, bytes_of}
+use Rattle.topic_core.specs.Steps.{CoreStep, Fits, IsAmong, outcome_of, first_standing, refused_or, producer_refusals, send_refusals, producer_errors, send_errors, with_producer, accepted, bytes_of, error_of, subscribe_refusal, subscribed, subscribe_errors, ack_refusals, ack_refused, ack_accepted, ack_errors}
 use Rattle.topic_core.specs.Laws.{IsPublished, entries_added}
 
 -- the first refusal that stands is one of the table's
@@ -21,15 +27,34 @@ among errors (row ∷ rows) all e is =
       | false ↦ λ later. among errors rows all.1 e later
     ] is
 
+-- the errors of a SUBSCRIBE
+attach-among : (o : Option Refusal) (e : ServerError) → option_map error_of o ≡ Some e → IsAmong e subscribe_errors
+attach-among None e is = cc
+attach-among (Some refusal.ConsumerBusy) e is = inr (inl (cc))
+attach-among (Some refusal.TooManyRequests) e is = inr (inr (inl (cc)))
+
+subscribe-among : (failed : Bool) (o : Option Refusal) (e : ServerError) → cond failed (Some PersistenceError) (option_map error_of o) ≡ Some e → IsAmong e subscribe_errors
+subscribe-among true o e is = inl (cc)
+subscribe-among false o e is = attach-among o e is
+
+-- the answer of an ACK, by whether it asked for one
+ack-refused-fits : (ack : Ack) (request : Option ℕ) (e : ServerError) → ack.request_id ≡ request → IsAmong e ack_errors → Fits (command.Ack ack) (ack_refused ack.consumer_id request e)
+ack-refused-fits ack None e asked is = asked
+ack-refused-fits ack (Some request) e asked is = (refl, asked, is)
+
+ack-accepted-fits : (t : Core) (who : ℕ) (ack : Ack) (request : Option ℕ) → ack.request_id ≡ request → Fits (command.Ack ack) (ack_accepted t who ack request).answer
+ack-accepted-fits t who ack None asked = asked
+ack-accepted-fits t who ack (Some request) asked = ap (λ r. is_some r) asked
+
 outcome-fits : (t : Core) (who : ℕ) (c : TopicCommand) → Fits c (outcome_of t who c).answer
 outcome-fits t who (command.Producer id request name) =
-    elim (first_standing (producer_refusals t name)) as (λ o. first_standing (producer_refusals t name) ≡ o → Fits (command.Producer id request name) (refused_or o (λ error. Error request error) t
+    elim (first_standing (producer_refusals t name)) as (λ o. first_standing (producer_refusals t name) ≡ o → Fits (command.Producer id request name) (refused_or o (λ error. Now (Error request error)) t
     (record { answer = Now (ProducerSuccess request name); core = with_producer t who id name })).answer) [
       | None ↦ λ _. (refl, refl)
       | Some e ↦ λ is. (refl, among producer_errors (producer_refusals t name) (inl refl, (inr (inl refl), tt)) e is)
     ] refl
 outcome-fits t who (command.Send send) =
-    elim (first_standing (send_refusals t who send)) as (λ o. first_standing (send_refusals t who send) ≡ o → Fits (command.Send send) (refused_or o (λ error. SendError send.producer_id send.sequence_id error) t
+    elim (first_standing (send_refusals t who send)) as (λ o. first_standing (send_refusals t who send) ≡ o → Fits (command.Send send) (refused_or o (λ error. Now (SendError send.producer_id send.sequence_id error)) t
     (record { answer = Later; core = accepted t who send.producer_id send.sequence_id (bytes_of send.entry) })).answer) [
       | None ↦ λ _. tt
       | Some e ↦ λ is. (
@@ -39,11 +64,25 @@ outcome-fits t who (command.Send send) =
             (inl refl, (inr (inl refl), (inl refl, (inl refl, (inr (inr (inl refl)), (inr (inr (inr (inl refl))), (inr (inr (inr (inl refl))), (inr (inr (inr (inl refl))), (inr (inr (inr (inl refl))), tt))))))))) e is,
       )
     ] refl
+outcome-fits t who (command.Subscribe subscribe) =
+    elim (subscribe_refusal t subscribe) as (λ o. subscribe_refusal t subscribe ≡ o → Fits (command.Subscribe subscribe) (refused_or o (λ error. Now (Error subscribe.request_id error)) t
+    (record { answer = Later; core = subscribed t who subscribe })).answer) [
+      | None ↦ λ _. tt
+      | Some e ↦ λ is. (refl, subscribe-among t.failed _ e is)
+    ] refl
+outcome-fits t who (command.Ack ack) =
+    elim (first_standing (ack_refusals t who ack)) as (λ o. first_standing (ack_refusals t who ack) ≡ o → Fits (command.Ack ack) (refused_or o (ack_refused ack.consumer_id ack.request_id) t
+    (ack_accepted t who ack ack.request_id)).answer) [
+      | None ↦ λ _. ack-accepted-fits t who ack ack.request_id refl
+      | Some e ↦ λ is. ack-refused-fits ack ack.request_id e refl
+          (among ack_errors (ack_refusals t who ack) (inl refl, (inr (inl refl), (inr (inr (inl refl)), (inr (inr (inl refl)), (inr (inr (inr (inl refl))), tt))))) e is)
+    ] refl
 
 pub step-fits : (t : Core) (who : ℕ) (c : TopicCommand) (a : Answer) (new : Core) → CoreStep t who c a new → Fits c a
 step-fits t who c NoMemory new h = tt
 step-fits t who c (Now r) new h = let P : Answer → Type 0 = λ x. Fits c x in subst P (sym h.0) (outcome-fits t who c)
 step-fits t who c Later new h = let P : Answer → Type 0 = λ x. Fits c x in subst P (sym h.0) (outcome-fits t who c)
+step-fits t who c Nothing new h = let P : Answer → Type 0 = λ x. Fits c x in subst P (sym h.0) (outcome-fits t who c)
 
 -- nothing is added to what waits
 unchanged : (t new : Core) (c : TopicCommand) (a : Answer) → entries_added c a ≡ [] → new.waiting ≡ t.waiting → new.accepted ≡ t.accepted → IsPublished t c a new
@@ -54,7 +93,7 @@ unchanged t new c a none waiting accepted = record {
 
 producer-publishes : (t new : Core) (who id request : ℕ) (name : List ℕ) (a : Answer) → entries_added (command.Producer id request name) a ≡ [] → new ≡ (outcome_of t who (command.Producer id request name)).core → IsPublished t (command.Producer id request name) a new
 producer-publishes t new who id request name a none is =
-    elim (first_standing (producer_refusals t name)) as (λ o. new ≡ (refused_or o (λ error. Error request error) t (record { answer = Now (ProducerSuccess request name); core = with_producer t who id name })).core
+    elim (first_standing (producer_refusals t name)) as (λ o. new ≡ (refused_or o (λ error. Now (Error request error)) t (record { answer = Now (ProducerSuccess request name); core = with_producer t who id name })).core
     → IsPublished t (command.Producer id request name) a new) [
       | None ↦ λ e. unchanged t new (command.Producer id request name) a none (ap (λ (k : Core). k.waiting) e) (ap (λ (k : Core). k.accepted) e)
       | Some error ↦ λ e. unchanged t new (command.Producer id request name) a none (ap (λ (k : Core). k.waiting) e) (ap (λ (k : Core). k.accepted) e)
@@ -63,8 +102,8 @@ producer-publishes t new who id request name a none is =
 send-publishes : (t new : Core) (who : ℕ) (send : Send) (a : Answer) → a ≡ (outcome_of t who (command.Send send)).answer → new ≡ (outcome_of t who (command.Send send)).core → IsPublished t (command.Send send) a new
 send-publishes t new who send a answered is =
     elim (first_standing (send_refusals t who send)) as (λ o.
-    a ≡ (refused_or o (λ error. SendError send.producer_id send.sequence_id error) t (record { answer = Later; core = accepted t who send.producer_id send.sequence_id (bytes_of send.entry) })).answer
-    → new ≡ (refused_or o (λ error. SendError send.producer_id send.sequence_id error) t (record { answer = Later; core = accepted t who send.producer_id send.sequence_id (bytes_of send.entry) })).core
+    a ≡ (refused_or o (λ error. Now (SendError send.producer_id send.sequence_id error)) t (record { answer = Later; core = accepted t who send.producer_id send.sequence_id (bytes_of send.entry) })).answer
+    → new ≡ (refused_or o (λ error. Now (SendError send.producer_id send.sequence_id error)) t (record { answer = Later; core = accepted t who send.producer_id send.sequence_id (bytes_of send.entry) })).core
     → IsPublished t (command.Send send) a new) [
       | None ↦ λ later e. let P : Answer → Type 0 = λ x. IsPublished t (command.Send send) x new in
           subst P (sym later) (record { waiting = ap (λ (k : Core). k.waiting) e; accepted = ap (λ (k : Core). k.accepted) e })
@@ -72,10 +111,40 @@ send-publishes t new who send a answered is =
           subst P (sym now) (unchanged t new (command.Send send) (Now (SendError send.producer_id send.sequence_id error)) refl (ap (λ (k : Core). k.waiting) e) (ap (λ (k : Core). k.accepted) e))
     ] answered is
 
+subscribe-publishes : (t new : Core) (who : ℕ) (subscribe : Subscribe) (a : Answer) → new ≡ (outcome_of t who (command.Subscribe subscribe)).core → IsPublished t (command.Subscribe subscribe) a new
+subscribe-publishes t new who subscribe a is =
+    elim (subscribe_refusal t subscribe) as (λ o. new ≡ (refused_or o (λ error. Now (Error subscribe.request_id error)) t (record { answer = Later; core = subscribed t who subscribe })).core
+    → IsPublished t (command.Subscribe subscribe) a new) [
+      | None ↦ λ e. unchanged t new (command.Subscribe subscribe) a refl (ap (λ (k : Core). k.waiting) e) (ap (λ (k : Core). k.accepted) e)
+      | Some error ↦ λ e. unchanged t new (command.Subscribe subscribe) a refl (ap (λ (k : Core). k.waiting) e) (ap (λ (k : Core). k.accepted) e)
+    ] is
+
+ack-adds-none : (t new : Core) (who : ℕ) (ack : Ack) (a : Answer) (request : Option ℕ) → new ≡ (ack_accepted t who ack request).core → IsPublished t (command.Ack ack) a new
+ack-adds-none t new who ack a None e = unchanged t new (command.Ack ack) a refl (ap (λ (k : Core). k.waiting) e) (ap (λ (k : Core). k.accepted) e)
+ack-adds-none t new who ack a (Some request) e = unchanged t new (command.Ack ack) a refl (ap (λ (k : Core). k.waiting) e) (ap (λ (k : Core). k.accepted) e)
+
+ack-publishes : (t new : Core) (who : ℕ) (ack : Ack) (a : Answer) → new ≡ (outcome_of t who (command.Ack ack)).core → IsPublished t (command.Ack ack) a new
+ack-publishes t new who ack a is =
+    elim (first_standing (ack_refusals t who ack)) as (λ o. new ≡ (refused_or o (ack_refused ack.consumer_id ack.request_id) t (ack_accepted t who ack ack.request_id)).core
+    → IsPublished t (command.Ack ack) a new) [
+      | None ↦ λ e. ack-adds-none t new who ack a ack.request_id e
+      | Some error ↦ λ e. unchanged t new (command.Ack ack) a refl (ap (λ (k : Core). k.waiting) e) (ap (λ (k : Core). k.accepted) e)
+    ] is
+
 pub step-publishes : (t : Core) (who : ℕ) (c : TopicCommand) (a : Answer) (new : Core) → CoreStep t who c a new → IsPublished t c a new
 step-publishes t who (command.Producer id request name) NoMemory new h = unchanged t new (command.Producer id request name) NoMemory refl (ap (λ (k : Core). k.waiting) h) (ap (λ (k : Core). k.accepted) h)
 step-publishes t who (command.Producer id request name) (Now r) new h = producer-publishes t new who id request name (Now r) refl h.1
 step-publishes t who (command.Producer id request name) Later new h = producer-publishes t new who id request name Later refl h.1
+step-publishes t who (command.Producer id request name) Nothing new h = producer-publishes t new who id request name Nothing refl h.1
 step-publishes t who (command.Send send) NoMemory new h = unchanged t new (command.Send send) NoMemory refl (ap (λ (k : Core). k.waiting) h) (ap (λ (k : Core). k.accepted) h)
 step-publishes t who (command.Send send) (Now r) new h = send-publishes t new who send (Now r) h.0 h.1
 step-publishes t who (command.Send send) Later new h = send-publishes t new who send Later h.0 h.1
+step-publishes t who (command.Send send) Nothing new h = send-publishes t new who send Nothing h.0 h.1
+step-publishes t who (command.Subscribe subscribe) NoMemory new h = unchanged t new (command.Subscribe subscribe) NoMemory refl (ap (λ (k : Core). k.waiting) h) (ap (λ (k : Core). k.accepted) h)
+step-publishes t who (command.Subscribe subscribe) (Now r) new h = subscribe-publishes t new who subscribe (Now r) h.1
+step-publishes t who (command.Subscribe subscribe) Later new h = subscribe-publishes t new who subscribe Later h.1
+step-publishes t who (command.Subscribe subscribe) Nothing new h = subscribe-publishes t new who subscribe Nothing h.1
+step-publishes t who (command.Ack ack) NoMemory new h = unchanged t new (command.Ack ack) NoMemory refl (ap (λ (k : Core). k.waiting) h) (ap (λ (k : Core). k.accepted) h)
+step-publishes t who (command.Ack ack) (Now r) new h = ack-publishes t new who ack (Now r) h.1
+step-publishes t who (command.Ack ack) Later new h = ack-publishes t new who ack Later h.1
+step-publishes t who (command.Ack ack) Nothing new h = ack-publishes t new who ack Nothing h.1

@@ -1,16 +1,15 @@
 -- The abstract topic. Its core is all but the bytes of the committed entries and the durable subscriptions.
 use Rattle.std.specs.Prelude.{ℕ, ◌+◌, Bool, false, Option, Some, None, List, [], length, sum_by}
-use Rattle.std.specs.Ordering.{nat_cmp}
-use Rattle.std.specs.Cmp.Lexicographic.{slice_cmp}
-use Rattle.std.specs.FinMap as map
+use Rattle.subscriptions.specs.State.{Subscriptions}
+use Rattle.subscriptions.specs.Steps.{none_yet}
+use Rattle.subscriptions.specs.Laws.{Kept}
 use Rattle.topic_core.specs.declared.producer.Producer.{Producer}
-use Rattle.topic_core.specs.Subscriptions.{Subscription, Change, Positions}
 use Rattle.topic_core.specs.Replies.{SessionReplies, receipts_in}
 
 -- how much a flush handed on that hasn't come to a good end; the replies are counted in their queues
 pub record Doubt : Type 0 where
   pub entries : ℕ  -- of the first waiting ones
-  pub changes : ℕ  -- of the first changes
+  pub changes : ℕ  -- of the first changes of the subscriptions
 
 pub record Core : Type 0 where
   pub per_ledger : ℕ  -- how many entry ids a ledger id has
@@ -19,8 +18,7 @@ pub record Core : Type 0 where
   pub accepted : ℕ  -- how many SENDs were accepted since the node opened
   pub handed : ℕ  -- how many receipts were collected since then
   pub producers : List Producer
-  pub subs : List Subscription
-  pub changes : List Change  -- the ones that aren't durable yet
+  pub subs : Subscriptions  -- and the changes of them that aren't durable yet
   pub queues : List SessionReplies  -- one a session at most
   pub doubt : Option Doubt
   pub failed : Bool
@@ -28,7 +26,7 @@ pub record Core : Type 0 where
 pub record Topic : Type 0 where
   pub core : Core
   pub ledger : List (List ℕ)  -- the committed entries
-  pub kept : map.FinMap (slice_cmp nat_cmp) Positions  -- the durable subscriptions: each name's acknowledged positions
+  pub kept : Kept  -- the durable subscriptions: each name's acknowledged positions
 
 -- a core that was opened over so many committed entries, and that nothing happened to since
 abbrev pub opened : ℕ → ℕ → Core
@@ -39,16 +37,15 @@ opened per_ledger committed = record {
   accepted = 0;
   handed = 0;
   producers = [];
-  subs = [];
-  changes = [];
+  subs = none_yet;
   queues = [];
   doubt = None;
   failed = false;
 }
 
--- a core over a store of entries, without durable subscriptions
-abbrev pub topic_of : Core → List (List ℕ) → Topic
-topic_of core ledger = record { core = core; ledger = ledger; kept = map.empty }
+-- a core over what its two stores have
+abbrev pub topic_of : Core → List (List ℕ) → Kept → Topic
+topic_of core ledger kept = record { core = core; ledger = ledger; kept = kept }
 
 -- how many of the waiting entries and of the changes a flush handed on
 abbrev pub entries_of : Option Doubt → ℕ

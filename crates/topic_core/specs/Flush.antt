@@ -1,6 +1,8 @@
 -- A flush of a topic, and its parts.
 use Rattle.std.specs.Prelude.{◌≡◌, ℕ, ◌+◌, Bool, true, false, ◌&&◌, ◌||◌, Some, None, is_some, Result, Ok, Err, [], ◌++◌, length, drop, map, nat_eq}
 use Rattle.std.specs.List.{list_all}
+use Rattle.subscriptions.specs.Steps.{settled}
+use Rattle.subscriptions.specs.Laws.{applied}
 use Rattle.topic_core.specs.declared.refusal.Refusal.{Refusal}
 use Rattle.topic_core.specs.declared.refusal.Refusal.TheVariants as refusal
 use Rattle.topic_core.specs.declared.store.StoreError.{StoreError}
@@ -10,7 +12,7 @@ use Rattle.topic_core.specs.Core.{Core, Topic, entries_of, changes_of}
 
 -- nothing waits for a flush
 abbrev pub is_idle : Core → Bool
-is_idle t = nat_eq (length t.waiting) 0 && nat_eq (length t.changes) 0 && list_all (λ q. nat_eq (length q.pending) 0) t.queues
+is_idle t = nat_eq (length t.waiting) 0 && nat_eq (length t.subs.changes) 0 && list_all (λ q. nat_eq (length q.pending) 0) t.queues
 
 -- a flush has nothing to do: one is under way, or nothing waits
 abbrev pub has_no_flush : Core → Bool
@@ -19,7 +21,7 @@ has_no_flush t = is_some t.doubt || is_idle t
 -- all that waits is handed on
 abbrev pub handed_on : Core → Core
 handed_on t = record t {
-  doubt = Some (record { entries = length t.waiting; changes = length t.changes });
+  doubt = Some (record { entries = length t.waiting; changes = length t.subs.changes });
   queues = map (λ q. hand_on q) t.queues;
 }
 
@@ -33,7 +35,7 @@ abbrev pub finished : Core → Core
 finished t = record t {
   committed = t.committed + entries_of t.doubt;
   waiting = drop (entries_of t.doubt) t.waiting;
-  changes = drop (changes_of t.doubt) t.changes;
+  subs = settled t.subs (changes_of t.doubt);
   queues = map (λ q. make_due q) t.queues;
   doubt = None;
 }
@@ -52,14 +54,18 @@ abbrev pub flushed : Core → Core
 flushed t = record t {
   committed = t.committed + length t.waiting;
   waiting = [];
-  changes = [];
+  subs = record t.subs { changes = [] };
   queues = map (λ q. make_all_due q) t.queues;
   doubt = None;
 }
 
--- the ledger gains the entries
+-- the ledger gains the entries, and the durable subscriptions become what the changes make of them
 abbrev pub flushed_topic : Topic → Topic
-flushed_topic t = record t { core = flushed t.core; ledger = t.ledger ++ t.core.waiting }
+flushed_topic t = record {
+  core = flushed t.core;
+  ledger = t.ledger ++ t.core.waiting;
+  kept = applied t.core.subs.changes t.kept;
+}
 
 -- the end of a flush that began
 abbrev pub FlushEnds : Topic → Result ℕ Refusal → Topic → Type 0

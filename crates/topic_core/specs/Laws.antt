@@ -1,15 +1,24 @@
 -- What holds of every step of a topic.
-use Rattle.std.specs.Prelude.{◌≡◌, ℕ, ◌+◌, ◌≤◌, false, Option, None, Result, Ok, List, [], ◌∷◌, ◌++◌, length}
+use Rattle.std.specs.Prelude.{◌≡◌, ℕ, ◌+◌, ◌<◌, ◌≤◌, ◌^◌, ◌↔◌, true, false, Option, None, Some, Result, Ok, List, [], ◌∷◌, ◌++◌, length, slice_get}
+use Rattle.std.specs.List.{find}
+use Rattle.ids.specs.Ids.{message_id_at, Names}
+use Rattle.ids.specs.declared.message_id.MessageIdData.{MessageIdData}
+use Rattle.subscriptions.specs.Steps.{is_on, sent_before}
+use Rattle.subscriptions.specs.Laws.{IsOpenFor, applied}
+use Rattle.subscriptions.specs.declared.consumer.TooManyPermits.{TooManyPermits}
 use Rattle.commands.specs.declared.reply.Reply.{Reply}
+use Rattle.commands.specs.declared.reply.Reply.TheVariants.{Message}
 use Rattle.topic_core.specs.declared.refusal.Refusal.{Refusal}
 use Rattle.topic_core.specs.declared.command.TopicCommand.{TopicCommand}
 use Rattle.topic_core.specs.declared.command.TopicCommand.TheVariants as asked
 use Rattle.topic_core.specs.declared.command.Answer.{Answer}
-use Rattle.topic_core.specs.declared.command.Answer.TheVariants.{Now, Later, NoMemory}
+use Rattle.topic_core.specs.declared.command.Answer.TheVariants.{Now, Later, Nothing, NoMemory}
 use Rattle.topic_core.specs.Replies.{is_receipt, due_to, pending_to}
+use Rattle.topic_core.specs.declared.dispatch.Outgoing.{Outgoing}
 use Rattle.topic_core.specs.Core.{Core, Topic, receipts_due}
-use Rattle.topic_core.specs.Soundness.{IsSound, AreReceipts, IsSoundTopic}
-use Rattle.topic_core.specs.Steps.{CoreStep, TopicStep, Collects, Fits, bytes_of, left}
+use Rattle.topic_core.specs.Soundness.{IsSoundTopic}
+use Rattle.topic_core.specs.Steps.{CoreStep, TopicStep, Collects, GrantStep, Fits, bytes_of, key_of, is_committed, position_at, left}
+use Rattle.topic_core.specs.Dispatch.{DispatchStep, Admits}
 use Rattle.topic_core.specs.Flush.{FlushStep}
 
 -- an answer fits its command
@@ -25,7 +34,10 @@ abbrev pub entries_added : TopicCommand → Answer → List (List ℕ)
 entries_added (asked.Producer id request name) answer = []
 entries_added (asked.Send send) (Now reply) = []
 entries_added (asked.Send send) Later = bytes_of send.entry ∷ []
+entries_added (asked.Send send) Nothing = []
 entries_added (asked.Send send) NoMemory = []
+entries_added (asked.Subscribe subscribe) answer = []
+entries_added (asked.Ack ack) answer = []
 
 -- what waits are the entries of accepted SENDs, and each is counted once
 pub record IsPublished (old : Core) (c : TopicCommand) (answer : Answer) (new : Core) : Type 0 where
@@ -39,17 +51,36 @@ EntriesArePublished = (old : Core) (who : ℕ) (c : TopicCommand) (answer : Answ
 pub record StaysSound : Type 0 where
   pub command : (old : Topic) (who : ℕ) (c : TopicCommand) (answer : Answer) (new : Topic) → TopicStep old who c answer new → IsSoundTopic old → IsSoundTopic new
   pub flush : (old : Topic) (result : Result ℕ Refusal) (new : Topic) → FlushStep old result new → IsSoundTopic old → IsSoundTopic new
-  pub collect : (old : Core) (who : ℕ) (reply : Option Reply) (new : Core) → Collects old who reply new → IsSound old → AreReceipts old → IsSound new × AreReceipts new
-  pub leave : (old : Core) (who : ℕ) → IsSound old → AreReceipts old → IsSound (left old who) × AreReceipts (left old who)
+  pub grant : (old : Topic) (who id permits : ℕ) (result : Result (Unit {0}) TooManyPermits) (new : Core) → GrantStep old.core who id permits result new → IsSoundTopic old → IsSoundTopic (record old { core = new })
+  pub dispatch : (old : Topic) (who id : ℕ) (result : Result (Option Outgoing) Refusal) (new : Topic) → DispatchStep old who id result new → IsSoundTopic old → IsSoundTopic new
+  pub collect : (old : Topic) (who : ℕ) (reply : Option Reply) (new : Core) → Collects old.core who reply new → IsSoundTopic old → IsSoundTopic (record old { core = new })
+  pub leave : (old : Topic) (who : ℕ) → IsSoundTopic old → IsSoundTopic (record old { core = left old.core who })
+
+-- a message that is sent is the published entry of a position that its consumer was admitted to; nobody acknowledged it on the subscription, and nobody holds it
+pub record IsAdmitted (old : Topic) (who id : ℕ) (outgoing : Outgoing) (i : ℕ) : Type 0 where
+  pub named : outgoing.reply ≡ Message id (message_id_at old.core.per_ledger i) (sent_before old.core.subs (key_of who id) i)
+  pub published : slice_get old.ledger i ≡ Some outgoing.entry
+  pub admitted : Admits old.core (key_of who id) i
+  pub is_open : IsOpenFor (find (is_on (key_of who id)) old.core.subs.subs) old.core.committed i
+
+abbrev pub MessagesAreAdmitted : Type 0
+MessagesAreAdmitted = (old : Topic) (who id : ℕ) (outgoing : Outgoing) (new : Topic) → DispatchStep old who id (Ok (Some outgoing)) new → (i : ℕ) × IsAdmitted old who id outgoing i
+
+-- an id of an ACK is that of a committed entry exactly where it names a committed position, and that is the one acknowledged
+abbrev pub IdsArePositions : Type 0
+IdsArePositions = (n committed i : ℕ) (id : MessageIdData) → 0 < n → committed ≤ 2 ^ 63
+    → ((is_committed n committed id ≡ true) × (i ≡ position_at n id)) ↔ (Names n id i × (i < committed))
 
 -- receipts never outnumber the committed entries
 abbrev pub ReceiptsAreCovered : Type 0
 ReceiptsAreCovered = (t : Topic) → IsSoundTopic t → t.core.handed + receipts_due t.core.queues ≤ length t.ledger
 
--- a good flush makes just a session's pending replies due, behind those that were, and the ledger grows by what waited
+-- a good flush makes just a session's pending replies due, behind those that were; the ledger grows by what waited, and the changes are durable
 pub record IsFlushed (old : Topic) (n : ℕ) (new : Topic) : Type 0 where
   pub ledger : new.ledger ≡ old.ledger ++ old.core.waiting
   pub count : n ≡ length old.core.waiting
+  pub kept : new.kept ≡ applied old.core.subs.changes old.kept
+  pub changes : new.core.subs.changes ≡ []
   pub due : (who : ℕ) → due_to who new.core.queues ≡ due_to who old.core.queues ++ pending_to who old.core.queues
   pub pending : (who : ℕ) → pending_to who new.core.queues ≡ []
 

@@ -1,8 +1,7 @@
 -- The replies that a topic owes to its sessions.
-use Rattle.std.specs.Prelude.{ℕ, ◌/◌, ◌%◌, Bool, true, false, cond, nat_eq, List, [], ◌∷◌, ◌++◌, length, take, drop, count_by}
-use Rattle.commands.specs.declared.reply.MessageId.{MessageId}
+use Rattle.std.specs.Prelude.{ℕ, Bool, true, false, cond, nat_eq, List, [], ◌∷◌, ◌++◌, length, take, drop, count_by}
 use Rattle.commands.specs.declared.reply.Reply.{Reply}
-use Rattle.commands.specs.declared.reply.Reply.TheVariants.{Connected, ProducerSuccess, SendReceipt, SendError, Error, Pong}
+use Rattle.commands.specs.declared.reply.Reply.TheVariants.{Connected, ProducerSuccess, SendReceipt, SendError, Message, Success, Error, AckResponse, Pong}
 
 -- what a topic owes to one session, in order: replies that are due, and then those that await a flush
 pub record SessionReplies : Type 0 where
@@ -11,16 +10,15 @@ pub record SessionReplies : Type 0 where
   pub pending : List Reply
   pub handed_on : ℕ  -- how many of the first pending ones a flush handed on that hasn't ended
 
--- entry i of a topic is entry i mod n of ledger i div n
-abbrev pub message_id_at : ℕ → ℕ → MessageId
-message_id_at n position = record { ledger_id = position / n; entry_id = position % n }
-
 abbrev pub is_receipt : Reply → Bool
 is_receipt Connected = false
 is_receipt (ProducerSuccess request_id name) = false
 is_receipt (SendReceipt producer_id sequence_id id) = true
 is_receipt (SendError producer_id sequence_id error) = false
+is_receipt (Message consumer_id id redelivery_count) = false
+is_receipt (Success request_id) = false
 is_receipt (Error request_id error) = false
+is_receipt (AckResponse consumer_id error request_id) = false
 is_receipt Pong = false
 
 abbrev pub receipts_in : List Reply → ℕ

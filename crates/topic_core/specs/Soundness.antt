@@ -1,10 +1,13 @@
 -- What holds of a topic's core at any time.
 use Rattle.std.specs.Prelude.{◌≡◌, ℕ, ◌+◌, ◌^◌, ◌<◌, ◌≤◌, Bool, false, ◌&&◌, nat_eq, None, List, [], ◌∷◌, length, take, drop, map, All, sum_by, count_by}
 use Rattle.std.specs.List.{AllByRecursion, IsDistinct}
-use Rattle.commands.specs.declared.reply.MessageId.{MessageId}
+use Rattle.ids.specs.declared.message_id.MessageId.{MessageId}
+use Rattle.ids.specs.Ids.{message_id_at}
 use Rattle.commands.specs.declared.reply.Reply.{Reply}
-use Rattle.commands.specs.declared.reply.Reply.TheVariants.{Connected, ProducerSuccess, SendReceipt, SendError, Error, Pong}
-use Rattle.topic_core.specs.Replies.{SessionReplies, receipts_in, message_id_at}
+use Rattle.commands.specs.declared.reply.Reply.TheVariants.{Connected, ProducerSuccess, SendReceipt, SendError, Message, Success, Error, AckResponse, Pong}
+use Rattle.subscriptions.specs.Soundness.{IsCommitted, IsSound as AreSound}
+use Rattle.subscriptions.specs.Laws.{IsKept}
+use Rattle.topic_core.specs.Replies.{SessionReplies, receipts_in}
 use Rattle.topic_core.specs.Core.{Core, Topic, entries_of, changes_of, receipts_due}
 
 -- how many receipts a flush handed on, and how many await the next one
@@ -26,11 +29,14 @@ pub record IsSound (t : Core) : Type 0 where
   pub receipts : t.handed + receipts_due t.queues ≤ t.committed
   pub handed_on : receipts_handed_on t.queues ≤ entries_of t.doubt
   pub promises : entries_of t.doubt + receipts_left t.queues ≤ length t.waiting
-  pub changes : changes_of t.doubt ≤ length t.changes
+  pub changes : changes_of t.doubt ≤ length t.subs.changes
   -- each session has one queue at most
   pub sessions : IsDistinct nat_eq (map (λ q. q.session) t.queues)
   pub within : AllByRecursion (λ q. q.handed_on ≤ length q.pending) t.queues
   pub sure : t.doubt ≡ None → AllByRecursion (λ q. q.handed_on ≡ 0) t.queues
+  -- the subscriptions are sound, and only committed positions were sent
+  pub subs : AreSound t.subs
+  pub sent : IsCommitted t.committed t.subs
 
 -- a receipt is for a position from one on and below another
 abbrev pub IsReceiptWithin : ℕ → ℕ → ℕ → Reply → Type 0
@@ -38,7 +44,10 @@ IsReceiptWithin n from end Connected = Unit {0}
 IsReceiptWithin n from end (ProducerSuccess request_id name) = Unit {0}
 IsReceiptWithin n from end (SendReceipt producer_id sequence_id id) = (position : ℕ) × (from ≤ position) × (position < end) × (id ≡ message_id_at n position)
 IsReceiptWithin n from end (SendError producer_id sequence_id error) = Unit {0}
+IsReceiptWithin n from end (Message consumer_id id redelivery_count) = Unit {0}
+IsReceiptWithin n from end (Success request_id) = Unit {0}
 IsReceiptWithin n from end (Error request_id error) = Unit {0}
+IsReceiptWithin n from end (AckResponse consumer_id error request_id) = Unit {0}
 IsReceiptWithin n from end Pong = Unit {0}
 
 -- the receipts are for rising positions, from one on and below another
@@ -58,7 +67,10 @@ is_receipt_for id Connected = false
 is_receipt_for id (ProducerSuccess request_id name) = false
 is_receipt_for id (SendReceipt producer_id sequence_id of) = nat_eq of.ledger_id id.ledger_id && nat_eq of.entry_id id.entry_id
 is_receipt_for id (SendError producer_id sequence_id error) = false
+is_receipt_for id (Message consumer_id of redelivery_count) = false
+is_receipt_for id (Success request_id) = false
 is_receipt_for id (Error request_id error) = false
+is_receipt_for id (AckResponse consumer_id error request_id) = false
 is_receipt_for id Pong = false
 
 -- how many receipts for this id await a flush
@@ -70,8 +82,9 @@ pub record AreReceipts (t : Core) : Type 0 where
   pub each : AllByRecursion (HasReceipts t.per_ledger t.committed (entries_of t.doubt) (length t.waiting)) t.queues
   pub single : (position : ℕ) → receipts_for (message_id_at t.per_ledger position) t.queues ≤ 1
 
--- a topic whose core counts its ledger
+-- a topic whose core counts its ledger, and whose subscriptions are what the changes make of the durable ones
 pub record IsSoundTopic (t : Topic) : Type 0 where
   pub core : IsSound t.core
   pub receipts : AreReceipts t.core
   pub counted : length t.ledger ≡ t.core.committed
+  pub kept : IsKept t.kept t.core.subs

@@ -1,24 +1,40 @@
 -- What one call of a session does to a topic.
-use Rattle.std.specs.Prelude.{◌≡◌, ◌⊎◌, ℕ, ℤ, pos, ◌+◌, ◌^◌, Bool, true, false, cond, not, ◌&&◌, nat_eq, nat_lt, nat_le, Option, Some, None, is_none, List, [], ◌∷◌, ◌++◌, length, filter}
-use Rattle.std.specs.List.{list_any}
+use Rattle.std.specs.Prelude.{◌≡◌, ◌⊎◌, ℕ, ℤ, pos, negsuc, ◌+◌, ◌*◌, ◌^◌, Bool, true, false, cond, not, ◌&&◌, nat_eq, nat_lt, nat_le, Option, Some, None, is_some, is_none, Result, Ok, Err, List, [], ◌∷◌, ◌++◌, length, filter, map}
+use Rattle.std.specs.List.{list_any, list_all}
+use Rattle.std.specs.Option.{option_map}
 use Rattle.std.specs.Ordering.{int_eq}
 use Rattle.std.specs.Str.{bytes_eq}
 use Rattle.commands.specs.declared.metadata.MessageMeta.{MessageMeta}
 use Rattle.commands.specs.declared.server_error.ServerError.{ServerError}
-use Rattle.commands.specs.declared.server_error.ServerError.TheVariants.{PersistenceError, ChecksumError, TooManyRequests, ProducerBusy, NotAllowedError}
+use Rattle.commands.specs.declared.server_error.ServerError.TheVariants.{PersistenceError, ConsumerBusy, ChecksumError, ConsumerNotFound, TooManyRequests, ProducerBusy, NotAllowedError}
+use Rattle.commands.specs.declared.consuming.InitialPosition.{InitialPosition}
+use Rattle.commands.specs.declared.consuming.InitialPosition.TheVariants.{Latest, Earliest}
+use Rattle.commands.specs.declared.consuming.AckType.{AckType}
+use Rattle.commands.specs.declared.consuming.AckType.TheVariants.{Individual, Cumulative}
 use Rattle.commands.specs.declared.reply.Reply.{Reply}
-use Rattle.commands.specs.declared.reply.Reply.TheVariants.{ProducerSuccess, SendReceipt, SendError, Error}
+use Rattle.commands.specs.declared.reply.Reply.TheVariants.{ProducerSuccess, SendReceipt, SendError, Success, Error, AckResponse}
+use Rattle.ids.specs.Ids.{message_id_at}
+use Rattle.ids.specs.declared.message_id.MessageIdData.{MessageIdData}
+use Rattle.holds.specs.declared.consumer.ConsumerKey.{ConsumerKey}
+use Rattle.subscriptions.specs.Steps as subscriptions
+use Rattle.subscriptions.specs.declared.change.InitialPosition.{InitialPosition as Start}
+use Rattle.subscriptions.specs.declared.change.InitialPosition.TheVariants as start
+use Rattle.subscriptions.specs.declared.consumer.Refusal.{Refusal}
+use Rattle.subscriptions.specs.declared.consumer.Refusal.TheVariants as refusal
+use Rattle.subscriptions.specs.declared.consumer.TooManyPermits.{TooManyPermits}
 use Rattle.topic_core.specs.declared.producer.Producer.{Producer}
 use Rattle.topic_core.specs.declared.producer.ProducerState.{ProducerState}
 use Rattle.topic_core.specs.declared.producer.ProducerState.TheVariants.{Open, Closing}
 use Rattle.topic_core.specs.declared.command.Send.{Send}
 use Rattle.topic_core.specs.declared.command.SentEntry.{SentEntry}
 use Rattle.topic_core.specs.declared.command.SentEntry.TheVariants.{Checksummed, Plain}
+use Rattle.topic_core.specs.declared.command.Subscribe.{Subscribe}
+use Rattle.topic_core.specs.declared.command.Ack.{Ack}
 use Rattle.topic_core.specs.declared.command.TopicCommand.{TopicCommand}
 use Rattle.topic_core.specs.declared.command.TopicCommand.TheVariants as command
 use Rattle.topic_core.specs.declared.command.Answer.{Answer}
-use Rattle.topic_core.specs.declared.command.Answer.TheVariants.{Now, Later, NoMemory}
-use Rattle.topic_core.specs.Replies.{is_receipt, message_id_at, due_to, queued, collected_from, is_for}
+use Rattle.topic_core.specs.declared.command.Answer.TheVariants.{Now, Later, Nothing, NoMemory}
+use Rattle.topic_core.specs.Replies.{is_receipt, due_to, queued, collected_from, is_for}
 use Rattle.topic_core.specs.Core.{Core, Topic, next_position, waiting_bytes}
 
 -- an answer, and the topic's core after it
@@ -31,10 +47,10 @@ abbrev pub first_standing : List (Bool × ServerError) → Option ServerError
 first_standing [] = None
 first_standing (row ∷ rows) = cond row.0 (Some row.1) (first_standing rows)
 
--- a refusal is answered by its reply and changes nothing; else the command has its effect
-abbrev pub refused_or : Option ServerError → (ServerError → Reply) → Core → Outcome → Outcome
-refused_or None reply old effect = effect
-refused_or (Some error) reply old effect = record { answer = Now (reply error); core = old }
+-- a refusal has its answer and changes nothing; else the command has its effect
+abbrev pub refused_or : Option ServerError → (ServerError → Answer) → Core → Outcome → Outcome
+refused_or None refused old effect = effect
+refused_or (Some error) refused old effect = record { answer = refused error; core = old }
 
 abbrev pub is_open : ProducerState → Bool
 is_open Open = true
@@ -68,7 +84,7 @@ with_producer t who id name = record t { producers = t.producers ++ record { ses
 
 abbrev pub producer_outcome : Core → ℕ → ℕ → ℕ → List ℕ → Outcome
 producer_outcome t who id request name =
-    refused_or (first_standing (producer_refusals t name)) (λ error. Error request error) t
+    refused_or (first_standing (producer_refusals t name)) (λ error. Now (Error request error)) t
     (record {
       answer = Now (ProducerSuccess request name);
       core = with_producer t who id name;
@@ -125,20 +141,112 @@ accepted t who producer_id sequence_id entry = record t {
 
 abbrev pub send_outcome : Core → ℕ → Send → Outcome
 send_outcome t who send =
-    refused_or (first_standing (send_refusals t who send)) (λ error. SendError send.producer_id send.sequence_id error) t
+    refused_or (first_standing (send_refusals t who send)) (λ error. Now (SendError send.producer_id send.sequence_id error)) t
     (record {
       answer = Later;
       core = accepted t who send.producer_id send.sequence_id (bytes_of send.entry);
     })
 
+-- a consumer, by its session and its id there
+abbrev pub key_of : ℕ → ℕ → ConsumerKey
+key_of who id = record { session = who; id = id }
+
+-- the session has this consumer
+abbrev pub has_consumer : Core → ℕ → ℕ → Bool
+has_consumer t who id = subscriptions.has_consumer t.subs (key_of who id)
+
+abbrev pub error_of : Refusal → ServerError
+error_of refusal.ConsumerBusy = ConsumerBusy
+error_of refusal.TooManyRequests = TooManyRequests
+
+-- what the topic's subscriptions refuse
+abbrev pub attach_refusal : Core → Subscribe → Option ServerError
+attach_refusal t subscribe = option_map error_of (subscriptions.first_standing (subscriptions.subscribe_refusals t.subs subscribe.subscription subscribe.mode))
+
+-- SUBSCRIBE: what the topic refuses, in order
+abbrev pub subscribe_refusal : Core → Subscribe → Option ServerError
+subscribe_refusal t subscribe = cond t.failed (Some PersistenceError) (attach_refusal t subscribe)
+
+abbrev pub start_of : InitialPosition → Start
+start_of Latest = start.Latest
+start_of Earliest = start.Earliest
+
+-- the consumer is attached at once, and the answer awaits a flush
+abbrev pub subscribed : Core → ℕ → Subscribe → Core
+subscribed t who subscribe = record t {
+  subs = subscriptions.attached t.subs subscribe.subscription subscribe.mode (key_of who subscribe.consumer_id) (subscriptions.start_of (start_of subscribe.initial) t.committed);
+  queues = queued who (Success subscribe.request_id) t.queues;
+}
+
+abbrev pub subscribe_outcome : Core → ℕ → Subscribe → Outcome
+subscribe_outcome t who subscribe =
+    refused_or (subscribe_refusal t subscribe) (λ error. Now (Error subscribe.request_id error)) t
+    (record {
+      answer = Later;
+      core = subscribed t who subscribe;
+    })
+
+-- the position of a message id, where each ledger has n entries
+abbrev pub position_at : ℕ → MessageIdData → ℕ
+position_at n id = id.ledger_id * n + id.entry_id
+
+-- the id is that of a whole entry of no partition
+abbrev pub is_whole : MessageIdData → Bool
+is_whole id = int_eq id.partition (negsuc 0) && int_eq id.batch_index (negsuc 0) && not id.has_ack_set
+
+-- the id is that of one of so many committed entries
+abbrev pub is_committed : ℕ → ℕ → MessageIdData → Bool
+is_committed n committed id = is_whole id && nat_lt id.entry_id n && nat_lt (position_at n id) committed
+
+abbrev pub is_cumulative : AckType → Bool
+is_cumulative Individual = false
+is_cumulative Cumulative = true
+
+-- ACK: what the topic refuses, in order
+abbrev pub ack_refusals : Core → ℕ → Ack → List (Bool × ServerError)
+ack_refusals t who ack =
+    (not (has_consumer t who ack.consumer_id), ConsumerNotFound)
+    ∷ (t.failed, PersistenceError)
+    ∷ (is_cumulative ack.ack_type, NotAllowedError)
+    ∷ (not (list_all (is_committed t.per_ledger t.committed) ack.ids), NotAllowedError)
+    ∷ (nat_lt 65536 (length t.subs.changes + length ack.ids), TooManyRequests)
+    ∷ []
+
+-- a refused ACK is answered only where it asked for an answer
+abbrev pub ack_refused : ℕ → Option ℕ → ServerError → Answer
+ack_refused id None error = Nothing
+ack_refused id (Some request) error = Now (AckResponse id (Some error) request)
+
+-- positions are acknowledged at once
+abbrev pub acknowledged_at : Core → ConsumerKey → List ℕ → Core
+acknowledged_at t key positions = record t { subs = subscriptions.acknowledged t.subs key positions }
+
+-- those that the ids name
+abbrev pub acknowledged : Core → ℕ → Ack → Core
+acknowledged t who ack = acknowledged_at t (key_of who ack.consumer_id) (map (λ id. position_at t.per_ledger id) ack.ids)
+
+-- the answer awaits a flush, where the ACK asked for one
+abbrev pub ack_accepted : Core → ℕ → Ack → Option ℕ → Outcome
+ack_accepted t who ack None = record { answer = Nothing; core = acknowledged t who ack }
+ack_accepted t who ack (Some request) = record {
+  answer = Later;
+  core = record (acknowledged t who ack) { queues = queued who (AckResponse ack.consumer_id None request) t.queues };
+}
+
+abbrev pub ack_outcome : Core → ℕ → Ack → Outcome
+ack_outcome t who ack = refused_or (first_standing (ack_refusals t who ack)) (ack_refused ack.consumer_id ack.request_id) t (ack_accepted t who ack ack.request_id)
+
 -- what each command does
 abbrev pub outcome_of : Core → ℕ → TopicCommand → Outcome
 outcome_of t who (command.Producer id request name) = producer_outcome t who id request name
 outcome_of t who (command.Send send) = send_outcome t who send
+outcome_of t who (command.Subscribe subscribe) = subscribe_outcome t who subscribe
+outcome_of t who (command.Ack ack) = ack_outcome t who ack
 
 -- an outcome is met, or memory was refused and nothing changed
 abbrev pub Meets : Outcome → Core → Answer → Core → Type 0
 Meets outcome old NoMemory new = new ≡ old
+Meets outcome old Nothing new = (Nothing ≡ outcome.answer) × (new ≡ outcome.core)
 Meets outcome old (Now reply) new = (Now reply ≡ outcome.answer) × (new ≡ outcome.core)
 Meets outcome old Later new = (Later ≡ outcome.answer) × (new ≡ outcome.core)
 
@@ -159,6 +267,12 @@ producer_errors = PersistenceError ∷ ProducerBusy ∷ []
 abbrev pub send_errors : List ServerError
 send_errors = NotAllowedError ∷ ChecksumError ∷ PersistenceError ∷ TooManyRequests ∷ []
 
+abbrev pub subscribe_errors : List ServerError
+subscribe_errors = PersistenceError ∷ ConsumerBusy ∷ TooManyRequests ∷ []
+
+abbrev pub ack_errors : List ServerError
+ack_errors = ConsumerNotFound ∷ PersistenceError ∷ NotAllowedError ∷ TooManyRequests ∷ []
+
 -- it is one of them
 abbrev pub IsAmong : ServerError → List ServerError → Type 0
 IsAmong error [] = ⊥
@@ -171,9 +285,19 @@ Fits (command.Producer id request name) (Now (ProducerSuccess r n)) = (r ≡ req
 Fits (command.Producer id request name) (Now (Error r e)) = (r ≡ request) × IsAmong e producer_errors
 Fits (command.Producer id request name) (Now _) = ⊥
 Fits (command.Producer id request name) Later = ⊥
+Fits (command.Producer id request name) Nothing = ⊥
 Fits (command.Send send) (Now (SendError p s e)) = (p ≡ send.producer_id) × (s ≡ send.sequence_id) × IsAmong e send_errors
 Fits (command.Send send) (Now _) = ⊥
 Fits (command.Send send) Later = Unit {0}
+Fits (command.Send send) Nothing = ⊥
+Fits (command.Subscribe subscribe) (Now (Error r e)) = (r ≡ subscribe.request_id) × IsAmong e subscribe_errors
+Fits (command.Subscribe subscribe) (Now _) = ⊥
+Fits (command.Subscribe subscribe) Later = Unit {0}
+Fits (command.Subscribe subscribe) Nothing = ⊥
+Fits (command.Ack ack) (Now (AckResponse c (Some e) r)) = (c ≡ ack.consumer_id) × (ack.request_id ≡ Some r) × IsAmong e ack_errors
+Fits (command.Ack ack) (Now _) = ⊥
+Fits (command.Ack ack) Later = is_some ack.request_id ≡ true
+Fits (command.Ack ack) Nothing = ack.request_id ≡ None
 
 -- how many receipts a reply is
 abbrev pub receipts_of : Reply → ℕ
@@ -188,9 +312,22 @@ abbrev pub Collects : Core → ℕ → Option Reply → Core → Type 0
 Collects old who None new = (due_to who old.queues ≡ []) × (new ≡ old)
 Collects old who (Some reply) new = (due_to who old.queues ≡ reply ∷ due_to who new.queues) × (new ≡ collected old who reply)
 
--- a session leaves: its producers and its replies go, and what it sent stays
+-- FLOW: the consumer may get so many messages more; of a failed topic nothing changes
+abbrev pub granted : Core → ℕ → ℕ → ℕ → Core
+granted t who id permits = cond t.failed t (record t { subs = subscriptions.granted t.subs (key_of who id) permits })
+
+abbrev pub grants_too_many : Core → ℕ → ℕ → ℕ → Bool
+grants_too_many t who id permits = not t.failed && subscriptions.grants_too_many t.subs (key_of who id) permits
+
+-- the permits are granted, or they would be too many and nothing changes
+abbrev pub GrantStep : Core → ℕ → ℕ → ℕ → Result (Unit {0}) TooManyPermits → Core → Type 0
+GrantStep old who id permits (Ok done) new = (grants_too_many old who id permits ≡ false) × (new ≡ granted old who id permits)
+GrantStep old who id permits (Err too_many) new = (grants_too_many old who id permits ≡ true) × (new ≡ old)
+
+-- a session leaves: its producers, its consumers and its replies go, and what it sent stays
 abbrev pub left : Core → ℕ → Core
 left t who = record t {
   producers = filter (λ p. not (nat_eq p.session who)) t.producers;
+  subs = subscriptions.left t.subs who;
   queues = filter (λ q. not (is_for who q)) t.queues;
 }

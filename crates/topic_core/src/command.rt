@@ -1,5 +1,7 @@
 use bytes::Bytes;
-use commands::{MessageMeta, Reply, ReplyText};
+use commands::{AckType, InitialPosition, MessageMeta, Reply, ReplyText, Sequence, Text};
+use ids::MessageIdData;
+use subscriptions::Mode;
 
 /// What stands behind a SEND in its frame.
 #[derive(Drop)]
@@ -22,6 +24,26 @@ pub struct Send {
     pub entry: SentEntry,
 }
 
+/// A SUBSCRIBE ("PulsarApi.proto, CommandSubscribe") whose type is served. The session has no consumer with this id.
+#[derive(Drop)]
+pub struct Subscribe {
+    pub consumer_id: u64,
+    pub request_id: u64,
+    pub subscription: Text,
+    pub mode: Mode,
+    pub initial: InitialPosition,
+}
+
+/// An ACK ("PulsarApi.proto, CommandAck").
+#[derive(Drop)]
+pub struct Ack {
+    pub consumer_id: u64,
+    pub ack_type: AckType,
+    /// As they stand in the command, repeated ones too.
+    pub ids: Sequence<MessageIdData>,
+    pub request_id: Option<u64>,
+}
+
 /// What a session asks of a topic.
 #[derive(Drop)]
 pub enum TopicCommand {
@@ -32,6 +54,8 @@ pub enum TopicCommand {
         producer_name: ReplyText,
     },
     Send(Send),
+    Subscribe(Subscribe),
+    Ack(Ack),
 }
 
 /// What a topic answers.
@@ -41,6 +65,8 @@ pub enum Answer {
     Now(Reply),
     /// Nothing yet: the reply is due after a flush.
     Later,
+    /// Nothing, now or later: none was asked for.
+    Nothing,
     /// Memory was refused, and nothing changed.
     NoMemory,
 }

@@ -1,17 +1,23 @@
 ghost use Rattle.std.specs.Prelude.{◌≡◌, ◌+◌, ◌++◌, ◌≤◌, ℕ, None, length, take, drop, sum_by, OnOk, OnErr};
-ghost use Rattle.topic_core.specs.Core.{Core, topic_of, entries_of};
+ghost use Rattle.subscriptions.specs.Laws.{applied};
+ghost use Rattle.topic_core.specs.Core.{Core, topic_of, entries_of, changes_of};
 ghost use Rattle.topic_core.specs.Flush.{TakeStep, FinishStep, FlushStep, is_idle, finished, taken_back};
 
 use crate::refusal::Refusal;
 use crate::reply_queue::{are_idle, hand_on_all, make_all_due, take_all_back};
 use crate::store::{EntryStore, StoreError};
+use crate::subscription_store::SubscriptionStore;
 use crate::topic::{Doubt, TopicCore};
 use bytes::Bytes;
 
 impl TopicCore {
-    /// Commits what waits, and answers how many entries these were; 0 where nothing waits.
-    pub fn flush<E: EntryStore>(&mut self, store: &mut E) -> Result<usize, Refusal>
-        ensures { FlushStep (topic_of self.old (E.content store.old)) result (topic_of self.new (E.content store.new)) }
+    /// Commits what waits, the entries before the changes of the subscriptions, and answers how many entries these were; 0 where nothing waits.
+    pub fn flush<E: EntryStore, S: SubscriptionStore>(
+        &mut self,
+        entries: &mut E,
+        subscriptions: &mut S,
+    ) -> Result<usize, Refusal>
+        ensures { FlushStep (topic_of self.old (E.content entries.old) (S.content subscriptions.old)) result (topic_of self.new (E.content entries.new) (S.content subscriptions.new)) }
     {
         if self.failed {
             return Err(Refusal::Device);
@@ -19,7 +25,7 @@ impl TopicCore {
         if !self.take() {
             return Ok(0);
         }
-        let written = self.write(store);
+        let written = self.write(entries, subscriptions);
         self.finish(written)
     }
 
@@ -33,6 +39,7 @@ impl TopicCore {
         hand_on_all(&mut self.queues);
         self.doubt = Some(Doubt {
             entries: self.waiting.len(),
+            changes: self.subs.changes().len(),
         });
         true
     }
@@ -41,11 +48,29 @@ impl TopicCore {
     fn is_idle(&self) -> bool
         ensures { result ≡ is_idle self.now }
     {
-        self.waiting.is_empty() && are_idle(self.queues.as_slice())
+        self.waiting.is_empty()
+            && self.subs.changes().is_empty()
+            && are_idle(self.queues.as_slice())
     }
 
-    /// Adds the entries that were handed on to the store, where there are any.
-    fn write<E: EntryStore>(&self, store: &mut E) -> Result<(), StoreError>
+    /// Adds the entries that were handed on to their store, where there are any, and then the changes to theirs.
+    fn write<E: EntryStore, S: SubscriptionStore>(
+        &self,
+        entries: &mut E,
+        subscriptions: &mut S,
+    ) -> Result<(), StoreError>
+        ensures entries_ok { OnOk result (E.content entries.new ≡ E.content entries.old ++ take (entries_of self.now.doubt) self.now.waiting) }
+        ensures changes_ok { OnOk result (S.content subscriptions.new ≡ applied (take (changes_of self.now.doubt) self.now.subs.changes) (S.content subscriptions.old)) }
+        ensures entries_err { OnErr result (E.content entries.new ≡ E.content entries.old) }
+        ensures changes_err { OnErr result (S.content subscriptions.new ≡ S.content subscriptions.old) }
+    {
+        self.write_entries(entries)?;
+        let count = self.changes_handed_on();
+        subscriptions.append(&self.subs.changes()[..count]);
+        Ok(())
+    }
+
+    fn write_entries<E: EntryStore>(&self, store: &mut E) -> Result<(), StoreError>
         ensures ok { OnOk result (E.content store.new ≡ E.content store.old ++ take (entries_of self.now.doubt) self.now.waiting) }
         ensures err { OnErr result (E.content store.new ≡ E.content store.old) }
     {
@@ -80,16 +105,29 @@ impl TopicCore {
         }
     }
 
+    /// How many changes were handed on.
+    fn changes_handed_on(&self) -> usize
+        ensures count { result ≡ changes_of self.now.doubt }
+        ensures within { result ≤ length self.now.subs.changes }
+    {
+        match self.doubt {
+            Some(doubt) => doubt.changes,
+            None => 0,
+        }
+    }
+
     /// What was handed on is committed, and its replies are due.
     fn commit(&mut self) -> usize
         ensures count { result ≡ entries_of self.old.doubt }
         ensures committed { self.new ≡ finished self.old }
     {
         let count = self.entries_handed_on();
+        let changes = self.changes_handed_on();
         let bytes = bytes_in(&self.waiting[..count]);
         drop_first(&mut self.waiting, count);
         self.waiting_bytes -= bytes;
         self.committed += count as u64;
+        self.subs.settle(changes);
         make_all_due(&mut self.queues);
         self.doubt = None;
         count

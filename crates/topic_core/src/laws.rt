@@ -1,4 +1,4 @@
-ghost use Rattle.topic_core.specs.Laws.{AnswersFit, AnswersNoReceipt, EntriesArePublished, StaysSound, ReceiptsAreCovered, FlushesCommit};
+ghost use Rattle.topic_core.specs.Laws.{AnswersFit, AnswersNoReceipt, EntriesArePublished, StaysSound, MessagesAreAdmitted, IdsArePositions, ReceiptsAreCovered, FlushesCommit};
 
 /// An answer is the acceptance of its command or one of its refusals, with its ids.
 pub fn answers_fit()
@@ -20,12 +20,22 @@ pub fn stays_sound()
     ensures { StaysSound }
 {}
 
+/// A message is the published entry of a position that is open on its subscription, and that its consumer was admitted to.
+pub fn messages_are_admitted()
+    ensures { MessagesAreAdmitted }
+{}
+
+/// The ids of an accepted ACK name the positions that are acknowledged.
+pub fn ids_are_positions()
+    ensures { IdsArePositions }
+{}
+
 /// Receipts never outnumber the committed entries.
 pub fn receipts_are_covered()
     ensures { ReceiptsAreCovered }
 {}
 
-/// A flush that ends well commits what waited, and makes due what waited for it, in order for each session.
+/// A flush that ends well commits what waited, makes the changes durable, and makes due what waited for it, in order for each session.
 pub fn flushes_commit()
     ensures { FlushesCommit }
 {}

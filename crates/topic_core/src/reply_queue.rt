@@ -1,5 +1,6 @@
-ghost use Rattle.std.specs.Prelude.{◌≡◌, ◌<◌, ◌≤◌, ℕ, [], ◌∷◌, ◌++◌, length, map, filter, position, not, nat_eq, IfOk, IfNone, IfSome, OnOk, OnErr, MatchOption};
-ghost use Rattle.std.specs.List.{list_all};
+ghost use Rattle.std.specs.Prelude.{◌≡◌, ◌<◌, ◌≤◌, ℕ, List, [], ◌∷◌, ◌++◌, length, map, filter, position, not, nat_eq, IfOk, IfNone, IfSome, OnOk, OnErr, MatchOption};
+ghost use Rattle.std.specs.List.{AllByRecursion, list_all, list_any};
+ghost use Rattle.commands.specs.declared.reply.Reply.{Reply};
 ghost use Rattle.topic_core.specs.Replies.{SessionReplies, is_for, due_to, with_pending, queued, without_first, collected_from, hand_on, make_due, take_back};
 
 use commands::Reply;
@@ -64,6 +65,15 @@ impl ReplyQueue {
         Ok(())
     }
 
+    /// The last reply goes, where no flush handed it on.
+    fn drop_last(&mut self)
+        ensures { (reply : Reply) (before : SessionReplies) → before.handed_on ≤ length before.pending → self.old ≡ with_pending reply before → self.new ≡ before }
+    {
+        if self.replies.len() > self.due + self.handed_on {
+            let _ = self.replies.pop_back();
+        }
+    }
+
     /// Takes the first due reply.
     fn take_due(&mut self) -> Option<Reply>
         ensures reply { MatchOption result (self.old.due ≡ []) (λ reply. self.old.due ≡ reply ∷ self.new.due) }
@@ -126,6 +136,29 @@ pub(crate) fn push_reply(
     let queue = &mut queues[place];
     queue.push(reply)?;
     Ok(())
+}
+
+/// Whether a session has a queue.
+pub(crate) fn has_queue(who: u64, queues: &[ReplyQueue]) -> bool
+    ensures { result ≡ list_any (is_for who) queues.now }
+{
+    queues.iter().any(|q| q.session() == who)
+}
+
+/// Undoes the last `push_reply` of a session that had a queue before, or had none.
+pub(crate) fn drop_last_reply(who: u64, had_queue: bool, queues: &mut Vec<ReplyQueue>)
+    ensures { (reply : Reply) (before : List SessionReplies) → AllByRecursion (λ q. q.handed_on ≤ length q.pending) before → had_queue ≡ list_any (is_for who) before
+        → queues.old.items ≡ queued who reply before → queues.new.items ≡ before }
+{
+    if !had_queue {
+        let _ = queues.pop();
+        return;
+    }
+    let Some(place) = place_of(who, queues.as_slice()) else {
+        return;
+    };
+    let queue = &mut queues[place];
+    queue.drop_last();
 }
 
 /// Takes a session's first due reply.

@@ -1,9 +1,14 @@
 use super::*;
 use bytes::Bytes;
-use commands::{MessageMeta, Reply, ReplyText, ServerError, Text};
+use commands::{
+    AckType, InitialPosition, MessageMeta, Reply, ReplyText, Sequence, ServerError, Text,
+};
+use ids::MessageIdData;
 use std::alloc::{AllocError, Global};
-use std::process::Abort;
 use std::test::Fail;
+use subscriptions::Mode;
+
+mod table;
 
 /// What an answer or a reply tells.
 #[derive(Clone, Copy, Debug, PartialEq, Eq)]
@@ -16,6 +21,13 @@ enum Told {
         sequence: u64,
         ledger: u64,
         entry: u64,
+    },
+    Done(u64),
+    Message {
+        consumer: u64,
+        ledger: u64,
+        entry: u64,
+        redelivery_count: u32,
     },
     Nothing,
     Committed(usize),
@@ -40,6 +52,27 @@ fn told_by(reply: &Reply) -> Told {
             ..
         } => Told::Refused(*sequence_id, *error),
         Reply::Error { request_id, error } => Told::Refused(*request_id, *error),
+        Reply::Message {
+            consumer_id,
+            message_id,
+            redelivery_count,
+        } => Told::Message {
+            consumer: *consumer_id,
+            ledger: message_id.ledger_id,
+            entry: message_id.entry_id,
+            redelivery_count: *redelivery_count,
+        },
+        Reply::Success { request_id } => Told::Done(*request_id),
+        Reply::AckResponse {
+            error: Some(error),
+            request_id,
+            ..
+        } => Told::Refused(*request_id, *error),
+        Reply::AckResponse {
+            error: None,
+            request_id,
+            ..
+        } => Told::Done(*request_id),
         Reply::Connected | Reply::Pong => Told::Nothing,
     }
 }
@@ -49,6 +82,7 @@ fn answered(answer: &Answer) -> Result<Told, AllocError> {
     match answer {
         Answer::Now(reply) => Ok(told_by(reply)),
         Answer::Later => Ok(Told::Later),
+        Answer::Nothing => Ok(Told::Nothing),
         Answer::NoMemory => Err(AllocError),
     }
 }
@@ -141,6 +175,82 @@ fn send(
     )
 }
 
+/// Asks for a consumer of an Exclusive subscription. Its name is empty, so that a change of it takes no memory of its own.
+fn subscribe(
+    alloc: Global,
+    core: &mut TopicCore,
+    who: u64,
+    id: u64,
+    initial: InitialPosition,
+) -> Result<Told, AllocError> {
+    let answer = core.command(
+        who,
+        TopicCommand::Subscribe(Subscribe {
+            consumer_id: id,
+            request_id: 200 + id % 100,
+            subscription: Text::new(String::new(alloc)),
+            mode: Mode::Exclusive,
+            initial,
+        }),
+    );
+    answered(&answer)
+}
+
+/// The id of an entry.
+fn entry_id(ledger_id: u64, entry_id: u64) -> MessageIdData {
+    MessageIdData {
+        ledger_id,
+        entry_id,
+        partition: -1,
+        batch_index: -1,
+        has_ack_set: false,
+    }
+}
+
+fn acknowledge_all(
+    core: &mut TopicCore,
+    who: u64,
+    id: u64,
+    ack_type: AckType,
+    ids: Vec<MessageIdData>,
+    request_id: Option<u64>,
+) -> Result<Told, AllocError> {
+    let answer = core.command(
+        who,
+        TopicCommand::Ack(Ack {
+            consumer_id: id,
+            ack_type,
+            ids: Sequence::new(ids),
+            request_id,
+        }),
+    );
+    answered(&answer)
+}
+
+/// Acknowledges one entry.
+fn acknowledge(
+    alloc: Global,
+    core: &mut TopicCore,
+    who: u64,
+    id: u64,
+    entry: MessageIdData,
+    request_id: Option<u64>,
+) -> Result<Told, AllocError> {
+    let ids = vec![in alloc; entry; 1]?;
+    acknowledge_all(core, who, id, AckType::Individual, ids, request_id)
+}
+
+/// What a consumer gets, where the store has the topic's entries.
+fn dispatched(core: &mut TopicCore, store: &MemoryLedger, who: u64, id: u64) -> Result<Told, Fail> {
+    if store.len() != core.committed() {
+        return Err(Fail::from("the store"));
+    }
+    match core.dispatch(store, who, id)? {
+        Some(outgoing) => Ok(told_by(&outgoing.reply)),
+        None => Ok(Told::Nothing),
+    }
+}
+
 const REFUSED: Told = Told::Refused(7, ServerError::NotAllowedError);
 
 #[test]
@@ -157,7 +267,7 @@ fn an_entry_is_committed_and_then_receipted(rt: HostRuntime) -> Result<(), Fail>
     assert_eq!(rt; send(alloc, &mut core, 0, 1, 0)?, Told::Later);
     assert_eq!(rt; collected(&mut core, 0), Told::Nothing);
     assert_eq!(rt; core.committed(), 0);
-    assert_eq!(rt; core.flush(&mut store)?, 1);
+    assert_eq!(rt; core.flush(&mut store, &mut MemorySubscriptions::new())?, 1);
     assert_eq!(rt; core.committed(), 1);
     assert_eq!(rt; store.len(), 1);
     let entry = store.read(0)?.ok_or("the entry")?;
@@ -174,7 +284,7 @@ fn an_entry_is_committed_and_then_receipted(rt: HostRuntime) -> Result<(), Fail>
     };
     assert_eq!(rt; collected(&mut core, 0), receipt);
     assert_eq!(rt; collected(&mut core, 0), Told::Nothing);
-    assert_eq!(rt; core.flush(&mut store)?, 0);
+    assert_eq!(rt; core.flush(&mut store, &mut MemorySubscriptions::new())?, 0);
     core.leave(0);
     assert!(rt; !core.has_producer(0, 1));
     assert!(rt; !core.is_failed());
@@ -257,7 +367,10 @@ fn a_failed_topic_refuses_in_its_turn(rt: HostRuntime) -> Result<(), Fail> {
         checksum
     );
     assert_eq!(rt; send(alloc, &mut core, 0, 1, 7)?, failed);
-    assert_eq!(rt; core.flush(&mut store), Err(Refusal::Device));
+    assert_eq!(rt;
+        core.flush(&mut store, &mut MemorySubscriptions::new()),
+        Err(Refusal::Device)
+    );
     let failed = Told::Refused(102, ServerError::PersistenceError);
     assert_eq!(rt; produce(alloc, &mut core, 1, 2, "one")?, failed);
     Ok(())
@@ -336,7 +449,13 @@ fn a_thousand_and_twenty_four_entries_wait(rt: HostRuntime) -> Result<(), Fail> 
         );
     }
     assert_eq!(rt; send(alloc, &mut core, 0, 1, 7)?, FULL);
-    assert_eq!(rt; core.flush(&mut MemoryLedger::new(alloc))?, 1024);
+    assert_eq!(rt;
+        core.flush(
+            &mut MemoryLedger::new(alloc),
+            &mut MemorySubscriptions::new()
+        )?,
+        1024
+    );
     assert_eq!(rt; send(alloc, &mut core, 0, 1, 7)?, Told::Later);
     Ok(())
 }
@@ -379,154 +498,108 @@ fn accepted_sends_end_at_two_to_the_sixty_two(rt: HostRuntime) -> Result<(), Fai
     Ok(())
 }
 
-/// What a session, or the broker, does to a topic.
-#[derive(Clone, Copy, Debug)]
-enum Step {
-    Produce(u64, u64, &'static str),
-    Send(u64, u64, u64),
-    Flush,
-    Collect(u64),
-    Leave(u64),
-}
-
-/// A topic as a table of all that was ever sent and answered.
-#[derive(Drop)]
-struct SlowTopic {
-    producers: Vec<(u64, u64, &'static str)>,
-    /// Of each accepted SEND: whose receipt is left, its producer and its sequence id.
-    sends: Vec<(Option<u64>, u64, u64)>,
-    committed: usize,
-}
-
-impl SlowTopic {
-    fn step(&mut self, step: Step) -> Result<Told, AllocError> {
-        match step {
-            Step::Produce(who, id, name) => {
-                if self.producers.iter().any(|p| p.2 == name) {
-                    return Ok(Told::Refused(100 + id % 100, ServerError::ProducerBusy));
-                }
-                self.producers.push((who, id, name))?;
-                Ok(Told::Created(100 + id % 100))
-            }
-            Step::Send(who, id, sequence) => {
-                if !self.producers.iter().any(|p| p.0 == who && p.1 == id) {
-                    return Ok(Told::Refused(sequence, ServerError::NotAllowedError));
-                }
-                self.sends.push((Some(who), id, sequence))?;
-                Ok(Told::Later)
-            }
-            Step::Flush => {
-                let count = self.sends.len().saturating_sub(self.committed);
-                self.committed = self.sends.len();
-                Ok(Told::Committed(count))
-            }
-            Step::Collect(who) => Ok(self.collect(who)),
-            Step::Leave(who) => {
-                self.producers.retain(|p| p.0 != who);
-                for i in 0..self.sends.len() {
-                    if self.sends[i].0 == Some(who) {
-                        self.sends[i].0 = None;
-                    }
-                }
-                Ok(Told::Nothing)
-            }
-        }
-    }
-
-    /// Ledgers have two entries.
-    fn collect(&mut self, who: u64) -> Told {
-        for i in 0..self.sends.len().min(self.committed) {
-            let (session, producer, sequence) = self.sends[i];
-            if session == Some(who) {
-                self.sends[i].0 = None;
-                return Told::Receipt {
-                    producer,
-                    sequence,
-                    ledger: i as u64 / 2,
-                    entry: i as u64 % 2,
-                };
-            }
-        }
-        Told::Nothing
-    }
-}
-
-fn core_step(
-    alloc: Global,
-    core: &mut TopicCore,
-    store: &mut MemoryLedger,
-    step: Step,
-) -> Result<Told, Fail> {
-    match step {
-        Step::Produce(who, id, name) => Ok(produce(alloc, core, who, id, name)?),
-        Step::Send(who, id, sequence) => Ok(send(alloc, core, who, id, sequence)?),
-        Step::Flush => Ok(Told::Committed(core.flush(store)?)),
-        Step::Collect(who) => Ok(collected(core, who)),
-        Step::Leave(who) => {
-            core.leave(who);
-            Ok(Told::Nothing)
-        }
-    }
-}
-
-/// Checks that the topic answers each step as the table does.
-fn agree(rt: &impl Abort, alloc: Global, steps: &[Step]) -> Result<(), Fail> {
-    let mut core = TopicCore::new(alloc, 2, 0);
+/// A topic with one committed entry, and its store, where session 1 has the consumer 5.
+fn consuming(alloc: Global) -> Result<(TopicCore, MemoryLedger), Fail> {
+    let mut core = producing(alloc)?;
     let mut store = MemoryLedger::new(alloc);
-    let mut slow = SlowTopic {
-        producers: Vec::new(alloc),
-        sends: Vec::new(alloc),
-        committed: 0,
-    };
-    for step in steps {
-        let told = core_step(alloc, &mut core, &mut store, *step)?;
-        assert_eq!(rt; told, slow.step(*step)?, "at {step:?}");
+    send(alloc, &mut core, 0, 1, 7)?;
+    subscribe(alloc, &mut core, 1, 5, InitialPosition::Earliest)?;
+    core.flush(&mut store, &mut MemorySubscriptions::new())?;
+    Ok((core, store))
+}
+
+#[test]
+fn a_message_is_the_entry(rt: HostRuntime) -> Result<(), Fail> {
+    let (mut core, store) = consuming(rt.alloc())?;
+    assert!(rt; core.has_consumer(1, 5));
+    assert!(rt; !core.has_consumer(0, 5));
+    assert!(rt; core.grant(1, 5, u32::MAX).is_ok());
+    assert!(rt; core.grant(1, 5, u32::MAX).is_ok());
+    assert!(rt; core.grant(1, 6, u32::MAX).is_ok());
+    if store.len() != core.committed() {
+        return Err(Fail::from("the store"));
     }
-    assert_eq!(rt; store.len(), core.committed());
+    let outgoing = core.dispatch(&store, 1, 5)?.ok_or("a message")?;
+    assert_eq!(rt;
+        outgoing.entry.as_slice(),
+        b"\0\0\0\x0a\x0a\x01p\x10\0\x18\x01\xc0>\x05".as_slice()
+    );
+    let message = Told::Message {
+        consumer: 5,
+        ledger: 0,
+        entry: 0,
+        redelivery_count: 0,
+    };
+    assert_eq!(rt; told_by(&outgoing.reply), message);
     Ok(())
 }
 
 #[test]
-fn receipts_come_in_order_to_their_sessions(rt: HostRuntime) -> Result<(), Fail> {
-    let steps = [
-        Step::Produce(0, 1, "one"),
-        Step::Produce(1, 1, "two"),
-        Step::Send(0, 1, 10),
-        Step::Send(1, 1, 20),
-        Step::Send(0, 1, 11),
-        Step::Collect(0),
-        Step::Flush,
-        Step::Send(0, 1, 12),
-        Step::Collect(0),
-        Step::Collect(0),
-        Step::Collect(0),
-        Step::Flush,
-        Step::Flush,
-        Step::Collect(1),
-        Step::Collect(1),
-        Step::Collect(0),
-        Step::Collect(2),
-    ];
-    agree(&rt, rt.alloc(), &steps)
+fn acknowledgements_are_answered_where_they_ask(rt: HostRuntime) -> Result<(), Fail> {
+    let alloc = rt.alloc();
+    let (mut core, mut store) = consuming(alloc)?;
+    let first = entry_id(0, 0);
+    assert_eq!(rt;
+        acknowledge(alloc, &mut core, 1, 5, first, None)?,
+        Told::Nothing
+    );
+    assert_eq!(rt;
+        acknowledge(alloc, &mut core, 2, 5, first, None)?,
+        Told::Nothing
+    );
+    let ids = vec![in alloc; first; 1]?;
+    assert_eq!(rt;
+        acknowledge_all(&mut core, 1, 5, AckType::Cumulative, ids, Some(7))?,
+        REFUSED
+    );
+    assert_eq!(rt;
+        acknowledge_all(
+            &mut core,
+            1,
+            5,
+            AckType::Individual,
+            Vec::new(alloc),
+            Some(8)
+        )?,
+        Told::Later
+    );
+    core.failed = true;
+    let failed = Told::Refused(7, ServerError::PersistenceError);
+    let unknown = Told::Refused(7, ServerError::ConsumerNotFound);
+    assert_eq!(rt;
+        acknowledge(alloc, &mut core, 1, 5, first, Some(7))?,
+        failed
+    );
+    assert_eq!(rt;
+        acknowledge(alloc, &mut core, 2, 5, first, Some(7))?,
+        unknown
+    );
+    assert!(rt; core.grant(1, 5, 1).is_ok());
+    core.failed = false;
+    assert_eq!(rt; dispatched(&mut core, &store, 1, 5)?, Told::Nothing);
+    assert_eq!(rt; core.flush(&mut store, &mut MemorySubscriptions::new())?, 0);
+    assert_eq!(rt; collected(&mut core, 1), Told::Done(205));
+    assert_eq!(rt; collected(&mut core, 1), Told::Done(8));
+    Ok(())
 }
 
 #[test]
-fn what_a_leaving_session_sent_stays(rt: HostRuntime) -> Result<(), Fail> {
-    let steps = [
-        Step::Produce(0, 1, "one"),
-        Step::Send(0, 1, 10),
-        Step::Leave(0),
-        Step::Send(0, 1, 11),
-        Step::Produce(1, 1, "one"),
-        Step::Send(1, 1, 20),
-        Step::Flush,
-        Step::Collect(0),
-        Step::Collect(1),
-        Step::Leave(1),
-        Step::Flush,
-        Step::Collect(1),
-    ];
-    agree(&rt, rt.alloc(), &steps)
+fn sixty_five_thousand_changes_wait(rt: HostRuntime) -> Result<(), Fail> {
+    let alloc = rt.alloc();
+    let (mut core, mut store) = consuming(alloc)?;
+    let first = entry_id(0, 0);
+    let most = vec![in alloc; first; 65_536]?;
+    assert_eq!(rt;
+        acknowledge_all(&mut core, 1, 5, AckType::Individual, most, Some(7))?,
+        Told::Later
+    );
+    assert_eq!(rt; acknowledge(alloc, &mut core, 1, 5, first, Some(7))?, FULL);
+    core.flush(&mut store, &mut MemorySubscriptions::new())?;
+    assert_eq!(rt;
+        acknowledge(alloc, &mut core, 1, 5, first, Some(7))?,
+        Told::Later
+    );
+    Ok(())
 }
 
 #[test]
@@ -551,6 +624,8 @@ fn laws_cost_nothing() {
     answers_are_no_receipts();
     entries_are_published();
     stays_sound();
+    messages_are_admitted();
+    ids_are_positions();
     receipts_are_covered();
     flushes_commit();
 }

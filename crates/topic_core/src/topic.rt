@@ -3,15 +3,18 @@ ghost use Rattle.std.specs.List.{list_any};
 ghost use Rattle.std.specs.Str.{bytes_eq};
 ghost use Rattle.topic_core.specs.Core.{Core, opened, next_position};
 ghost use Rattle.topic_core.specs.Replies.{is_receipt};
-ghost use Rattle.topic_core.specs.Steps.{Meets, CoreStep, Collects, Fits, first_standing, producer_refusals, send_refusals, limit_refusals, producer_outcome, send_outcome, has_producer, has_open_producer, has_name, is_producer, is_open, is_single_message, accepted, receipt, left};
+ghost use Rattle.topic_core.specs.Steps.{Meets, CoreStep, Collects, Fits, first_standing, producer_refusals, send_refusals, limit_refusals, producer_outcome, send_outcome, has_producer, has_open_producer, has_name, is_producer, is_open, is_single_message, accepted, receipt, key_of, left};
 
 use crate::command::{Answer, Send, SentEntry, TopicCommand};
 use crate::producer::{Producer, ProducerState};
 use crate::reply_queue::{ReplyQueue, forget_replies, push_reply, take_reply};
 use bytes::Bytes;
-use commands::{MessageId, MessageMeta, Reply, ReplyText, ServerError, Text};
+use commands::{MessageMeta, Reply, ReplyText, ServerError, Text};
+use holds::ConsumerKey;
+use ids::to_id;
 use std::alloc::{AllocError, Global};
 use std::marker::Model;
+use subscriptions::Subscriptions;
 
 /// The most entries that a topic has, committed and waiting, and the most SENDs that it accepts. Our own rule.
 const MOST_ENTRIES: u64 = 1 << 62;
@@ -29,19 +32,21 @@ const LONGEST_ENTRY: usize = 1_048_576;
 #[derive(Clone, Copy)]
 pub(crate) struct Doubt {
     pub(crate) entries: usize,
+    pub(crate) changes: usize,
 }
 
 /// One topic, without the bytes of its committed entries.
 #[derive(Drop)]
 pub struct TopicCore {
     pub(crate) alloc: Global,
-    pub(crate) per_ledger: u64,
+    pub(crate) per_ledger: u32,
     pub(crate) committed: u64,
     pub(crate) waiting: Vec<Bytes>,
     pub(crate) waiting_bytes: u64,
     pub(crate) accepted: u64,
     pub(crate) handed: u64,
     pub(crate) producers: Vec<Producer>,
+    pub(crate) subs: Subscriptions,
     pub(crate) queues: Vec<ReplyQueue>,
     pub(crate) doubt: Option<Doubt>,
     pub(crate) failed: bool,
@@ -49,16 +54,15 @@ pub struct TopicCore {
 
 impl Model for TopicCore {
     ghost use Rattle.std.specs.Prelude.{◌≡◌, ℕ, sum_by, length};
-    ghost use Rattle.std.specs.Coded.{codes, coded_ℕ};
-    ghost use Rattle.std.specs.Ordering.{nat_cmp};
-    ghost use Rattle.std.specs.FinSet as set;
-    ghost use Rattle.std.specs.FinMap as map;
+    ghost use Rattle.std.specs.Coded.{codes};
+    ghost use Rattle.cursor.specs.Positions.{positions_code};
+    ghost use Rattle.holds.specs.Deliveries.{deliveries_code};
     ghost use Rattle.topic_core.specs.Core.{Core};
     ghost use Rattle.topic_core.specs.Soundness.{IsSound, AreReceipts};
 
     ghost Value = { Core };
 
-    ghost coded = { Prim.hlevel (codes, set.code {R = nat_cmp} coded_ℕ, map.code {R = nat_cmp} coded_ℕ coded_ℕ) };
+    ghost coded = { Prim.hlevel (codes, positions_code, deliveries_code) };
 
     ghost use Rattle.topic_core.specs.Held.{core_of};
 
@@ -69,7 +73,7 @@ impl Model for TopicCore {
 
 impl TopicCore {
     /// A topic over a store of so many entries, where a ledger id has so many entry ids.
-    pub fn new(alloc: Global, per_ledger: u64, committed: u64) -> TopicCore
+    pub fn new(alloc: Global, per_ledger: u32, committed: u64) -> TopicCore
         requires numbered { 0 < per_ledger }
         requires few { committed ≤ 2 ^ 62 }
         ensures { result ≡ opened per_ledger committed }
@@ -83,6 +87,7 @@ impl TopicCore {
             accepted: 0,
             handed: 0,
             producers: Vec::new(alloc),
+            subs: Subscriptions::new(alloc),
             queues: Vec::new(alloc),
             doubt: None,
             failed: false,
@@ -237,10 +242,7 @@ impl TopicCore {
         ensures err { OnErr result (self.new ≡ self.old) }
     {
         let position = self.committed + self.waiting.len() as u64;
-        let message_id = MessageId {
-            ledger_id: position / self.per_ledger,
-            entry_id: position % self.per_ledger,
-        };
+        let message_id = to_id(position, self.per_ledger);
         let len = entry.len() as u64;
         self.waiting.reserve(1)?;
         let receipt = Reply::SendReceipt {
@@ -267,6 +269,8 @@ impl TopicCore {
                 producer_name,
             } => self.add_producer(who, producer_id, request_id, producer_name),
             TopicCommand::Send(send) => self.send(who, send),
+            TopicCommand::Subscribe(subscribe) => self.subscribe(who, &subscribe),
+            TopicCommand::Ack(ack) => self.acknowledge(who, &ack),
         };
         answer.unwrap_or(Answer::NoMemory)
     }
@@ -287,8 +291,16 @@ impl TopicCore {
         ensures { self.new ≡ left self.old who }
     {
         forget_producers(who, &mut self.producers);
+        self.subs.leave(who);
         forget_replies(who, &mut self.queues);
     }
+}
+
+/// A consumer, by its session and its id there.
+pub(crate) fn key_of(session: u64, id: u64) -> ConsumerKey
+    ensures { result ≡ key_of session id }
+{
+    ConsumerKey { session, id }
 }
 
 /// Whether a session has this producer, and it is open.
@@ -334,9 +346,20 @@ fn is_receipt(reply: &Reply) -> bool
             sequence_id: _,
             error: _,
         }
+        | Reply::Message {
+            consumer_id: _,
+            message_id: _,
+            redelivery_count: _,
+        }
+        | Reply::Success { request_id: _ }
         | Reply::Error {
             request_id: _,
             error: _,
+        }
+        | Reply::AckResponse {
+            consumer_id: _,
+            error: _,
+            request_id: _,
         }
         | Reply::Pong => false,
     }

@@ -1,0 +1,27 @@
+-- Which messages go out.
+use Rattle.std.specs.Prelude.{◌≡◌, ℕ, true, Some, List, [], ◌∷◌, ◌++◌, slice_get}
+use Rattle.topic_core.specs.Core.{Topic}
+use Rattle.topic_core.specs.Laws.{IsAdmitted}
+use Rattle.node.specs.Moves.{Handed, outgoing, Move, Deliver, Moves}
+use Rattle.node.specs.Telling.{is_message}
+
+-- a message went out on moves: there its position was open and admitted to the session's consumer, and its entry, which
+-- stood in the ledger, stands in it still
+pub record IsDelivered (old : Topic) (moves : List Move) (ledger : List (List ℕ)) (handed : Handed) : Type 0 where
+  pub consumer : ℕ
+  pub before : List Move
+  pub after : List Move
+  pub splits : moves ≡ before ++ Deliver consumer handed ∷ after
+  pub there : Topic
+  pub steps : Moves old before there
+  pub position : ℕ
+  pub admitted : IsAdmitted there handed.session consumer (outgoing handed) position
+  pub stands : slice_get ledger position ≡ Some handed.entry
+
+-- what is a message was delivered
+abbrev pub Delivers : Topic → List Move → List (List ℕ) → Handed → Type 0
+Delivers old moves ledger handed = is_message handed.reply ≡ true → IsDelivered old moves ledger handed
+
+abbrev pub DeliversEach : Topic → List Move → List (List ℕ) → List Handed → Type 0
+DeliversEach old moves ledger [] = Unit {0}
+DeliversEach old moves ledger (handed ∷ more) = Delivers old moves ledger handed × DeliversEach old moves ledger more

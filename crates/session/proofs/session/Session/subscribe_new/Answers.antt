@@ -1,0 +1,21 @@
+use Rattle.std.proofs.Common.{◌∙◌, sym, refl}
+use Rattle.session.specs.declared.port.Found.TheVariants.{Topic, TooMany}
+use Rattle.session.proofs.session.Session.subscribe_new.Goals as goal
+
+pub returns-in-Topic-clause-step : goal.returns-in-Topic-clause-step
+returns-in-Topic-clause-step g c = λ s.
+    rw (sym c.own_consumer_refusal.ensures ∙ c.in_default.is) (record {
+      found = Topic c.in-Topic.topic;
+      between = g.P.Port.broker c.find.new.self;
+      finds = rw c.as_str.ensures at (c.in-Topic.ensures.step s);
+      asks = c.subscribe_on.ensures.step (g.met.P.Port.passes_sole _ _ c.find.ensures.passes s);
+    })
+
+pub returns-in-TooMany-clause-step : goal.returns-in-TooMany-clause-step
+returns-in-TooMany-clause-step g c = λ s.
+    rw (sym c.own_consumer_refusal.ensures ∙ c.in_default.is) (record {
+      found = TooMany;
+      between = g.P.Port.broker c.find.new.self;
+      finds = rw c.as_str.ensures at (c.in-TooMany.ensures.step s);
+      asks = (c.refuse_subscribe-in-TooMany.ensures.says, refl);
+    })

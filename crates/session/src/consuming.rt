@@ -1,0 +1,336 @@
+ghost use Rattle.std.specs.Prelude.{◌≡◌, ◌<◌, ◌≤◌, filter, nat_lt, position, IfSome, OnOk, OnErr, vec_len, vec_capacity, length};
+ghost use Rattle.std.specs.List.{list_all, position_or_len};
+ghost use Rattle.commands.specs.declared.reply.Reply.TheVariants.{Error};
+ghost use Rattle.session.specs.declared.port.Found.TheVariants.{Topic};
+ghost use Rattle.topic_core.specs.Steps.{first_standing};
+ghost use Rattle.session.specs.Broker.{Broker};
+ghost use Rattle.session.specs.Client.{Client, Play, play, plain, Says, Speaks};
+ghost use Rattle.session.specs.Consuming.{is_live, has_entry, is_name_byte, is_subscription_name, is_served, own_refusals, subscribe_command, is_later, with_entry, Subscribes, FoundStep, SubscribeOf, SubscribeStep, topic_of, granting, FlowStep, RefusesAck, AckStep};
+
+use crate::consumer_entry::ConsumerEntry;
+use crate::fault::Fault;
+use crate::port::{Found, Port};
+use crate::session::Session;
+use crate::topic_name::is_topic_name;
+use commands::{Ack, Flow, Reply, ServerError, Subscribe, SubscriptionType};
+use std::alloc::AllocError;
+use subscriptions::{Mode, TooManyPermits};
+use topic_core::{Answer, TopicCommand};
+
+/// Our own rule: a session has at most so many consumers.
+const MOST_CONSUMERS: usize = 64;
+
+/// Our own rule: a subscription's name has at most so many bytes.
+const LONGEST_NAME: usize = 255;
+
+impl Session {
+    /// Works SUBSCRIBE ("PulsarApi.proto, CommandSubscribe").
+    pub(crate) fn subscribe<P: Port>(&mut self, asked: Subscribe, port: &mut P, out: &mut Vec<u8>)
+        ensures step { P.sole port.old → SubscribeStep (play self.old (P.broker port.old) out.old.items) asked
+            (play self.new (P.broker port.new) out.new.items) }
+        ensures speaks { Speaks self.old out.old.items self.new out.new.items }
+        ensures passes { P.passes port.old port.new }
+    {
+        forget_dead(&mut self.consumers, self.number, port);
+        self.subscribe_new(asked, port, out)
+    }
+
+    /// Works SUBSCRIBE, where the session knows just the consumers that it has.
+    fn subscribe_new<P: Port>(&mut self, asked: Subscribe, port: &mut P, out: &mut Vec<u8>)
+        ensures step { P.sole port.old → SubscribeOf (play self.old (P.broker port.old) out.old.items) asked
+            (play self.new (P.broker port.new) out.new.items) }
+        ensures speaks { Speaks self.old out.old.items self.new out.new.items }
+        ensures passes { P.passes port.old port.new }
+    {
+        if let Some(error) = self.own_consumer_refusal(&asked) {
+            return self.refuse_subscribe(asked.request_id, error, out);
+        }
+        match port.find(asked.topic.as_str()) {
+            Found::Topic(topic) => self.subscribe_on(topic, asked, port, out),
+            Found::TooMany => {
+                self.refuse_subscribe(asked.request_id, ServerError::TooManyRequests, out)
+            }
+            Found::NoMemory => self.end_by(Fault::NoMemory),
+        }
+    }
+
+    fn own_consumer_refusal(&self, asked: &Subscribe) -> Option<ServerError>
+        ensures { result ≡ first_standing (own_refusals self.now.consumers asked.now) }
+    {
+        own_refusal(self.consumers.as_slice(), asked)
+    }
+
+    fn refuse_subscribe(&mut self, request_id: u64, error: ServerError, out: &mut Vec<u8>)
+        ensures says { Says self.old out.old.items (plain (Error request_id error)) self.new out.new.items }
+        ensures speaks { Speaks self.old out.old.items self.new out.new.items }
+    {
+        self.say(&Reply::Error { request_id, error }, out)
+    }
+
+    fn subscribe_on<P: Port>(
+        &mut self,
+        topic: u64,
+        asked: Subscribe,
+        port: &mut P,
+        out: &mut Vec<u8>,
+    )
+        requires { topic < P.count port.old }
+        ensures step { P.sole port.old → FoundStep (play self.old (P.broker port.old) out.old.items) asked (Topic topic)
+            (play self.new (P.broker port.new) out.new.items) }
+        ensures speaks { Speaks self.old out.old.items self.new out.new.items }
+        ensures passes { P.passes port.old port.new }
+    {
+        if self.try_subscribe(topic, asked, port, out).is_err() {
+            self.end_by(Fault::NoMemory);
+        }
+    }
+
+    /// Has the topic work SUBSCRIBE, unless memory is refused before.
+    fn try_subscribe<P: Port>(
+        &mut self,
+        topic: u64,
+        asked: Subscribe,
+        port: &mut P,
+        out: &mut Vec<u8>,
+    ) -> Result<(), AllocError>
+        requires { topic < P.count port.old }
+        ensures ok { OnOk result (P.sole port.old → Subscribes (play self.old (P.broker port.old) out.old.items) topic asked
+            (play self.new (P.broker port.new) out.new.items)) }
+        ensures err { OnErr result ((self.new ≡ self.old) × (out.new.items ≡ out.old.items)
+            × (P.sole port.old → P.broker port.new ≡ P.broker port.old)) }
+        ensures speaks { Speaks self.old out.old.items self.new out.new.items }
+        ensures passes { P.passes port.old port.new }
+    {
+        self.consumers.reserve(1)?;
+        let consumer_id = asked.consumer_id;
+        let answer = port.command(topic, self.number, subscribe_command(asked));
+        keep(&mut self.consumers, is_later(&answer), consumer_id, topic);
+        self.answer(&answer, out);
+        Ok(())
+    }
+
+    fn consumer_topic(&self, consumer_id: u64) -> Option<u64>
+        ensures { result ≡ topic_of self.now.consumers consumer_id }
+    {
+        topic_of(self.consumers.as_slice(), consumer_id)
+    }
+
+    /// Works FLOW ("PulsarApi.proto, CommandFlow").
+    pub(crate) fn flow<P: Port>(&mut self, asked: Flow, port: &mut P, out: &mut Vec<u8>)
+        ensures step { P.sole port.old → FlowStep (play self.old (P.broker port.old) out.old.items) asked
+            (play self.new (P.broker port.new) out.new.items) }
+        ensures speaks { Speaks self.old out.old.items self.new out.new.items }
+        ensures passes { P.passes port.old port.new }
+    {
+        let Some(topic) = self.consumer_topic(asked.consumer_id) else {
+            return;
+        };
+        if topic >= port.topics() {
+            return;
+        }
+        let granted = port.grant(
+            topic,
+            self.number(),
+            asked.consumer_id,
+            asked.message_permits,
+        );
+        self.end_if_too_many(granted);
+    }
+
+    /// Permits beyond what a consumer may have in all end the session.
+    fn end_if_too_many(&mut self, granted: Result<(), TooManyPermits>)
+        ensures { self.new ≡ granting self.old granted }
+    {
+        if granted.is_err() {
+            self.fault = Some(Fault::TooManyPermits);
+        }
+    }
+
+    /// Works ACK ("PulsarApi.proto, CommandAck").
+    pub(crate) fn ack<P: Port>(&mut self, asked: Ack, port: &mut P, out: &mut Vec<u8>)
+        ensures step { P.sole port.old → AckStep (play self.old (P.broker port.old) out.old.items) asked
+            (play self.new (P.broker port.new) out.new.items) }
+        ensures speaks { Speaks self.old out.old.items self.new out.new.items }
+        ensures passes { P.passes port.old port.new }
+    {
+        let Some(topic) = self.consumer_topic(asked.consumer_id) else {
+            return self.refuse_ack(asked.request_id, asked.consumer_id, out);
+        };
+        if topic >= port.topics() {
+            return self.refuse_ack(asked.request_id, asked.consumer_id, out);
+        }
+        let command = TopicCommand::Ack(topic_core::Ack {
+            consumer_id: asked.consumer_id,
+            ack_type: asked.ack_type,
+            ids: asked.message_ids,
+            request_id: asked.request_id,
+        });
+        let answer = port.command(topic, self.number, command);
+        self.answer(&answer, out)
+    }
+
+    /// Answers the ACK of a consumer that the session doesn't have, where it asks for an answer.
+    fn refuse_ack(&mut self, request_id: Option<u64>, consumer_id: u64, out: &mut Vec<u8>)
+        ensures refuses { (b : Broker) → RefusesAck request_id (play self.old b out.old.items) consumer_id (play self.new b out.new.items) }
+        ensures speaks { Speaks self.old out.old.items self.new out.new.items }
+    {
+        let Some(request_id) = request_id else {
+            return;
+        };
+        self.say(
+            &Reply::AckResponse {
+                consumer_id,
+                error: Some(ServerError::ConsumerNotFound),
+                request_id,
+            },
+            out,
+        )
+    }
+}
+
+/// Whether the session still has this consumer on its topic.
+fn is_live<P: Port>(port: &P, who: u64, entry: &ConsumerEntry) -> bool
+    ensures { P.sole port.now → result ≡ is_live (P.broker port.now) who entry.now }
+{
+    if entry.topic >= port.topics() {
+        return false;
+    }
+    port.has_consumer(entry.topic, who, entry.consumer_id)
+}
+
+/// Drops the consumers that the session doesn't have any more.
+fn forget_dead<P: Port>(consumers: &mut Vec<ConsumerEntry>, who: u64, port: &P)
+    ensures { P.sole port.now → consumers.new.items ≡ filter (is_live (P.broker port.now) who) consumers.old.items }
+{
+    consumers.retain(|entry| is_live(port, who, entry));
+}
+
+fn has_entry(consumers: &[ConsumerEntry], consumer_id: u64) -> bool
+    ensures { result ≡ has_entry consumers.now consumer_id }
+{
+    consumers
+        .iter()
+        .any(|entry| entry.consumer_id == consumer_id)
+}
+
+fn topic_of(consumers: &[ConsumerEntry], consumer_id: u64) -> Option<u64>
+    ensures { result ≡ topic_of consumers.now consumer_id }
+{
+    consumers
+        .iter()
+        .find(|entry| entry.consumer_id == consumer_id)
+        .map(|entry| entry.topic)
+}
+
+/// Whether a byte may stand in the name of a subscription.
+fn is_name_byte(byte: u8) -> bool
+    ensures { result ≡ is_name_byte byte }
+{
+    match byte {
+        b'0'..=b'9' | b'A'..=b'Z' | b'a'..=b'z' | b'-' | b'_' | b'.' => true,
+        _ => false,
+    }
+}
+
+/// Whether all of these bytes may stand in the name of a subscription.
+fn are_name_bytes(bytes: &[u8]) -> bool
+    ensures { result ≡ list_all is_name_byte bytes.now }
+{
+    bytes.iter().all(|byte| is_name_byte(*byte))
+}
+
+/// Whether this is the name of a subscription.
+fn is_subscription_name(name: &str) -> bool
+    ensures { result ≡ is_subscription_name name.now }
+{
+    1 <= name.len() && name.len() <= LONGEST_NAME && are_name_bytes(name.as_bytes())
+}
+
+/// Whether consumers of this subscription type are served. Our own rule, for now.
+fn is_served(kind: SubscriptionType) -> bool
+    ensures { result ≡ is_served kind }
+{
+    match kind {
+        SubscriptionType::Exclusive => true,
+        SubscriptionType::Shared | SubscriptionType::Failover | SubscriptionType::KeyShared => {
+            false
+        }
+    }
+}
+
+fn own_refusal(consumers: &[ConsumerEntry], asked: &Subscribe) -> Option<ServerError>
+    ensures { result ≡ first_standing (own_refusals consumers.now asked.now) }
+{
+    if has_entry(consumers, asked.consumer_id) {
+        return Some(ServerError::NotAllowedError);
+    }
+    if consumers.len() >= MOST_CONSUMERS {
+        return Some(ServerError::TooManyRequests);
+    }
+    if !is_topic_name(asked.topic.as_str()) {
+        return Some(ServerError::InvalidTopicName);
+    }
+    if !asked.durable || asked.start_message_id.is_some() {
+        return Some(ServerError::NotAllowedError);
+    }
+    if !is_subscription_name(asked.subscription.as_str()) {
+        return Some(ServerError::NotAllowedError);
+    }
+    if !is_served(asked.subscription_type) {
+        return Some(ServerError::NotAllowedError);
+    }
+    None
+}
+
+/// What the session asks of the topic.
+fn subscribe_command(asked: Subscribe) -> TopicCommand
+    ensures { result ≡ subscribe_command asked }
+{
+    TopicCommand::Subscribe(topic_core::Subscribe {
+        consumer_id: asked.consumer_id,
+        request_id: asked.request_id,
+        subscription: asked.subscription,
+        mode: Mode::Exclusive,
+        initial: asked.initial_position,
+    })
+}
+
+fn is_later(answer: &Answer) -> bool
+    ensures { result ≡ is_later answer.now }
+{
+    match answer {
+        Answer::Later => true,
+        Answer::Now(_) | Answer::Nothing | Answer::NoMemory => false,
+    }
+}
+
+/// Keeps the topic of a consumer that was accepted, for which there is room, behind those with a smaller id.
+fn keep(consumers: &mut Vec<ConsumerEntry>, accepted: bool, consumer_id: u64, topic: u64)
+    requires { vec_len consumers.old < vec_capacity consumers.old }
+    ensures { consumers.new.items ≡ with_entry consumers.old.items accepted consumer_id topic }
+{
+    if accepted {
+        let place = place_of(consumers.as_slice(), consumer_id);
+        consumers
+            .insert(place, ConsumerEntry { consumer_id, topic })
+            .unwrap();
+    }
+}
+
+/// How many of the first consumers have no greater id.
+fn place_of(consumers: &[ConsumerEntry], consumer_id: u64) -> usize
+    ensures place { result ≡ position_or_len (λ entry. nat_lt consumer_id entry.consumer_id) consumers.now }
+    ensures within { result ≤ length consumers.now }
+{
+    first_behind(consumers, consumer_id).unwrap_or(consumers.len())
+}
+
+/// Where the first consumer with a greater id stands.
+fn first_behind(consumers: &[ConsumerEntry], consumer_id: u64) -> Option<usize>
+    ensures place { result ≡ position (λ entry. nat_lt consumer_id entry.consumer_id) consumers.now }
+    ensures within { IfSome result (λ place. place < length consumers.now) }
+{
+    consumers
+        .iter()
+        .position(|entry| consumer_id < entry.consumer_id)
+}
