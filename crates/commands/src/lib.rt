@@ -37,6 +37,3 @@ pub use sequence::Sequence;
 pub use server_error::ServerError;
 pub use text::Text;
 pub use writing::write_reply;
-
-#[cfg(test)]
-mod tests;

@@ -15,6 +15,3 @@ pub use frame::{Frame, FrameEntry};
 pub use laws::{any_cut, one_reading, written_frames};
 pub use parser::Parser;
 pub use writing::write_frame;
-
-#[cfg(test)]
-mod tests;

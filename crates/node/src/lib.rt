@@ -19,6 +19,3 @@ pub use laws::{
 pub use node::Node;
 pub use octets::Octets;
 pub use session::Fault;
-
-#[cfg(test)]
-mod tests;

@@ -1,7 +1,7 @@
 //! The commands of a consumer, and their messages inside.
 
 use super::{command_of, fault_of};
-use crate::{
+use commands::{
     Ack, AckType, Command, CommandFault, Flow, InitialPosition, IntRange, KeySharedMeta,
     KeySharedMode, MessageIdData, Subscribe, SubscriptionType,
 };

@@ -1,7 +1,11 @@
 mod consuming;
 mod plain;
 
-use super::*;
+use commands::{
+    Ack, Command, CommandFault, Connect, Flow, MessageId, MessageMeta, Producer, Reply, ReplyText,
+    Send, Sequence, ServerError, Subscribe, Text, read_command, read_entry, read_meta, size_at,
+    write_reply,
+};
 use std::alloc::{AllocError, Global};
 use std::test::Fail;
 

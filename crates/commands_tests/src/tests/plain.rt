@@ -1,7 +1,7 @@
 //! A second program for the same bytes, slow and plain: it keeps all fields in a list.
 
 use super::hex;
-use crate::{Command, CommandFault, Send, read_command};
+use commands::{Command, CommandFault, Send, read_command};
 use std::alloc::{AllocError, Global};
 use std::test::Fail;
 

@@ -1,5 +1,5 @@
-use super::*;
 use commands::{Command, MessageId, Reply, ReplyText, ServerError};
+use frames::{Fault, Frame, FrameEntry, Parser, write_frame};
 use std::alloc::{AllocError, Global};
 use std::process::Abort;
 use std::test::Fail;

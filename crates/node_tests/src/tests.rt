@@ -1,4 +1,8 @@
-use super::*;
+use node::{
+    Event, Fault, Node, Octets, Output, Verdict, messages_are_admitted, moves_publish,
+    new_nodes_account, receipts_are_covered, receipts_are_found, runs_unfold, stays_sound,
+    steps_unfold,
+};
 use std::alloc::{AllocError, Global};
 use std::test::Fail;
 
