@@ -10,3 +10,4 @@ mod Places
 mod Scan
 mod Torn
 mod Steps
+mod Further

@@ -7,3 +7,4 @@ pub mod Logs
 pub mod Content
 pub mod One
 pub mod Local
+pub mod Reading

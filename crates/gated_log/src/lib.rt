@@ -16,12 +16,14 @@ mod part;
 mod place;
 mod prepared;
 mod read;
+mod reader;
 mod refusal;
 mod room;
 
 pub use batch_list::BatchList;
 pub use create::{lay_closed, open_header};
 pub use gated_file::GatedFile;
+pub use header::{AtHeader, at_header};
 pub use law::{
     batches_give_their_bodies, every_file_has_a_finding, file_has_one_finding,
     file_stands_for_one_list,
@@ -29,5 +31,6 @@ pub use law::{
 pub use log::GatedLog;
 pub use log_id::LogId;
 pub use prepared::{MAX_BODY, PreparedBatch};
+pub use reader::LogReader;
 pub use refusal::Refusal;
 pub use room::Room;

@@ -18,10 +18,15 @@ use disk::{DeviceError, FileId, Shelf};
 use std::alloc::Global;
 
 // The first gate stands behind the header.
-const FIRST_GATE: u64 = 16;
+pub(crate) const FIRST_GATE: u64 = 16;
 
 // What stands at a gate of the file.
-fn look<S: Shelf>(shelf: &mut S, file: FileId, at: u64, size: u64) -> Result<AtGate, DeviceError>
+pub(crate) fn look<S: Shelf>(
+    shelf: &mut S,
+    file: FileId,
+    at: u64,
+    size: u64,
+) -> Result<AtGate, DeviceError>
     requires { at < size }
     ensures room { IfOk result (λ found. (n : ℕ) → found ≡ AtGate.Batch n → n + 5 < size - at) }
     ensures gate { (S.disk shelf.old).honest → size ≡ length ((S.disk shelf.old).seen file) → IfOk result (λ found. IsAtGate (drop at ((S.disk shelf.old).seen file)) found) }
@@ -36,7 +41,7 @@ fn look<S: Shelf>(shelf: &mut S, file: FileId, at: u64, size: u64) -> Result<AtG
 }
 
 // What stands at the head of the file.
-fn read_header<S: Shelf>(shelf: &mut S, file: FileId) -> Result<AtHeader, DeviceError>
+pub(crate) fn read_header<S: Shelf>(shelf: &mut S, file: FileId) -> Result<AtHeader, DeviceError>
     ensures header { (S.disk shelf.old).honest → IfOk result (λ found. IsAtHeader ((S.disk shelf.old).seen file) found) }
     ensures seen { (S.disk shelf.old).honest → Same (S.disk shelf.old).seen (S.disk shelf.new).seen }
     ensures any_moment { (S.disk shelf.old).honest → Leaves (S.disk shelf.old).may_leave (S.disk shelf.old) (S.disk shelf.new) }

@@ -2,6 +2,7 @@
 mod answers;
 mod damage;
 mod faults;
+mod reader;
 mod stops;
 
 use disk::{DeviceError, FileId, Shelf};

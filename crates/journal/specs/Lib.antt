@@ -1,0 +1,9 @@
+pub mod Files
+pub mod Chains
+pub mod Journals
+pub mod Kinds
+pub mod Openings
+pub mod Stops
+pub mod Bodies
+pub mod Links
+pub mod Local
