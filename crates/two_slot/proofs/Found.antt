@@ -1,0 +1,158 @@
+-- The slot that counts, by the headers.
+use Rattle.std.proofs.Common.{◌≡◌, inl, inr, ℕ, ◌+◌, ◌<◌, ◌^◌, Bool, true, false, List, refl, sym, ◌∙◌, ap, subst, arith, Ok, Err}
+use Rattle.std.specs.Prelude.{nat_lt, if◌then◌else◌}
+use Rattle.std.specs.Result.{IsErrOf}
+use Rattle.std.proofs.lemmas.Bool.{cases_lt}
+use Rattle.std.proofs.lemmas.Bool.Decides.{nat_tests}
+use Rattle.disk.specs.declared.file_id.CursorSlot.{CursorSlot}
+use Rattle.disk.specs.declared.file_id.CursorSlot.TheVariants.{Zero, One}
+use Rattle.disk.specs.declared.file_id.FileId.TheVariants.{Slot}
+use Rattle.disk.specs.Disk.{Disk, Image, Leaves}
+use Rattle.gated_log.specs.declared.log.GatedLog.{GatedLog}
+use Rattle.gated_log.specs.declared.log_id.LogId.{LogId}
+use Rattle.gated_log.specs.declared.refusal.Refusal.{Refusal}
+use Rattle.gated_log.specs.Batches.{Bodies, IsLog}
+use Rattle.gated_log.specs.Headers.{IsOpen}
+use Rattle.gated_log.specs.Findings.{Finding as LogFinding, Uninitialised, OtherVersion as LogVersion, Damage as LogDamage, Batches}
+use Rattle.gated_log.specs.Lists.{Settled}
+use Rattle.gated_log.specs.Logs.{LogHolds, log_id}
+use Rattle.two_slot.specs.declared.slot_header.HeaderFault.{HeaderFault}
+use Rattle.two_slot.specs.declared.slot_header.HeaderFault.TheVariants.{Damage as HeaderDamage}
+use Rattle.two_slot.specs.declared.slot_header.SlotHeader.{SlotHeader}
+use Rattle.two_slot.specs.declared.slot_header.SlotHeader.TheVariants.{CutShort, Closed, Open, Faulty}
+use Rattle.two_slot.specs.declared.choice.Choice.{Choice}
+use Rattle.two_slot.specs.declared.choice.Choice.TheVariants.{Refuse, Read, ReadZero}
+use Rattle.two_slot.specs.declared.spare.Spare.{Spare}
+use Rattle.two_slot.specs.declared.spare.Spare.TheVariants.{Lower}
+use Rattle.two_slot.specs.declared.two_slot.TwoSlot.{TwoSlot}
+use Rattle.two_slot.specs.Slots.{other_of}
+use Rattle.two_slot.specs.SlotHeaders.{IsSlotHeader}
+use Rattle.two_slot.specs.Choices.{choice, if_open}
+use Rattle.two_slot.specs.TwoSlots.{Holds, IsSpare, generation_of}
+use Rattle.two_slot.specs.Findings.{log_finding, fault_behind, header_finding, FindsBy, IsAnswerTo, Told, Says, HaveHeaders, header_refusal, LogAnswer, IsLogAnswer}
+use Rattle.two_slot.proofs.Opening.{header_answer}
+use Rattle.two_slot.specs.One.{generation_one, log_open}
+
+-- by the order of two generations
+by_order : (P : Choice → Type 0) (h g : ℕ) (x y z : Choice) → (h < g → P x) → (g < h → P y) → (h ≡ g → P z) → P (if nat_lt h g then x else if nat_lt g h then y else z)
+by_order P h g x y z less more same = elim (cases_lt h g) [
+  | inl low ↦ let t : nat_lt h g ≡ true = grind (arith, nat_tests) in subst (λ (b : Bool). P (if b then x else if nat_lt g h then y else z)) (sym t) (less low)
+  | inr high ↦ let t : nat_lt h g ≡ false = grind (arith, nat_tests) in subst (λ (b : Bool). P (if b then x else if nat_lt g h then y else z)) (sym t) (elim (cases_lt g h) [
+    | inl low ↦ let u : nat_lt g h ≡ true = grind (arith, nat_tests) in subst (λ (b : Bool). P (if b then y else z)) (sym u) (more low)
+    | inr tied ↦ let u : nat_lt g h ≡ false = grind (arith, nat_tests) in subst (λ (b : Bool). P (if b then y else z)) (sym u) (same (omega (arith, high, tied)))
+  ])
+]
+
+-- the slot that is read has a good header, and so has the other one
+abbrev IsRead : ℕ → Image → Choice → Type 0
+IsRead topic image (Refuse slot fault) = Unit {0}
+IsRead topic image (ReadZero fault) = Unit {0}
+IsRead topic image (Read slot spare) = (g : ℕ) × IsOpen g (image (Slot topic slot)) × (g + 1 < 2 ^ 64) × IsSpare spare g (image (Slot topic (other_of slot)))
+
+chosen_open : (topic : ℕ) (image : Image) (g : ℕ) (one : SlotHeader) → IsSlotHeader (image (Slot topic Zero)) (Open g) → IsSlotHeader (image (Slot topic One)) one → IsRead topic image (if_open g one)
+chosen_open topic image g CutShort is is' = (g, is.1, is.2, is')
+chosen_open topic image g Closed is is' = (g, is.1, is.2, is')
+chosen_open topic image g (Open h) is is' = by_order (IsRead topic image) h g (Read Zero Lower) (Read One Lower) (Refuse One HeaderDamage)
+    (λ low. (g, is.1, is.2, record { earlier = h; less = low; long = is'.0; is_open = is'.1 }))
+    (λ low. (h, is'.1, is'.2, record { earlier = g; less = low; long = is.0; is_open = is.1 }))
+    (λ same. tt)
+chosen_open topic image g (Faulty h fault) is is' = by_order (IsRead topic image) h g (ReadZero fault) (Refuse One fault) (Refuse One HeaderDamage) (λ low. tt) (λ low. tt) (λ same. tt)
+
+chosen : (topic : ℕ) (image : Image) (zero one : SlotHeader) → HaveHeaders topic image zero one → IsRead topic image (choice zero one)
+chosen topic image CutShort CutShort is = tt
+chosen topic image CutShort Closed is = tt
+chosen topic image CutShort (Open h) is = (h, is.one_is.1, is.one_is.2, is.zero_is)
+chosen topic image CutShort (Faulty h fault) is = tt
+chosen topic image Closed CutShort is = tt
+chosen topic image Closed Closed is = tt
+chosen topic image Closed (Open h) is = (h, is.one_is.1, is.one_is.2, is.zero_is)
+chosen topic image Closed (Faulty h fault) is = tt
+chosen topic image (Open g) one is = chosen_open topic image g one is.zero_is is.one_is
+chosen topic image (Faulty g fault) one is = tt
+
+-- the log that is read, and the other slot
+read_beside : (topic : ℕ) (disk : Disk) (zero one : SlotHeader) (slot : CursorSlot) (spare : Spare) (n : ℕ) (bodies : Bodies) → Says topic disk zero one (Read slot spare) → IsLog n bodies (disk.seen (Slot topic slot))
+    → (n + 1 < 2 ^ 64) × IsSpare spare n (disk.seen (Slot topic (other_of slot)))
+read_beside topic disk zero one slot spare n bodies says is =
+    let read = subst (λ (by : Choice). IsRead topic disk.seen by) (sym says.choice_is) (chosen topic disk.seen zero one says.headers) in
+    let same : read.0 ≡ n = generation_one read.0 n (disk.seen (Slot topic slot)) read.1 (log_open n bodies (disk.seen (Slot topic slot)) is) in
+    subst (λ (g : ℕ). (g + 1 < 2 ^ 64) × IsSpare spare g (disk.seen (Slot topic (other_of slot)))) same (read.2, read.3)
+
+-- the slots are read so
+pub record AreRead (slots : TwoSlot) (topic : ℕ) (slot : CursorSlot) (spare : Spare) : Type 0 where
+  pub topic_is : slots.topic ≡ topic
+  pub slot_is : slots.counts ≡ slot
+  pub spare_is : slots.spare ≡ spare
+
+held : (slots : TwoSlot) (topic : ℕ) (slot : CursorSlot) (spare : Spare) → AreRead slots topic slot spare → (disk : Disk) (zero one : SlotHeader) → Says topic disk zero one (Read slot spare)
+    → (c : Image) (bodies : Bodies) → slots.failed ≡ false → LogHolds slots.log c bodies → ((s : CursorSlot) → c (Slot topic s) ≡ disk.seen (Slot topic s)) → Holds slots c bodies
+held slots topic slot spare are disk zero one says c bodies works holds same =
+    let file : (log_id slots.log).file ≡ Slot topic slot = slots.is_slot ∙ (λ i. Slot (are.topic_is i) (are.slot_is i)) in
+    let log : IsLog (generation_of slots) bodies (disk.seen (Slot topic slot)) = subst (λ (l : List ℕ). IsLog (generation_of slots) bodies l) (ap c file ∙ same slot) holds.file.is in
+    let beside = read_beside topic disk zero one slot spare (generation_of slots) bodies says log in
+    let other : c (Slot slots.topic (other_of slots.counts)) ≡ disk.seen (Slot topic (other_of slot)) = (λ i. c (Slot (are.topic_is i) (other_of (are.slot_is i)))) ∙ same (other_of slot) in
+    record {
+      works = works;
+      log = holds;
+      in_range = beside.0;
+      spare = subst (λ (k : Spare). IsSpare k (generation_of slots) (c (Slot slots.topic (other_of slots.counts)))) (sym are.spare_is)
+          (subst (λ (l : List ℕ). IsSpare spare (generation_of slots) l) (sym other) beside.1);
+    }
+
+-- the value that an opening makes
+pub read_settled : (slots : TwoSlot) (topic : ℕ) (slot : CursorSlot) (spare : Spare) → AreRead slots topic slot spare → (d0 d1 : Disk) (zero one : SlotHeader) → Says topic d0 zero one (Read slot spare)
+    → (bodies : Bodies) → slots.failed ≡ false → d1.seen ≡ d0.seen → Leaves d0.may_leave d0 d1 → Settled (LogHolds slots.log) d1 bodies → Settled (Holds slots) d1 bodies
+read_settled slots topic slot spare are d0 d1 zero one says bodies works same leaves s = record {
+  honest = s.honest;
+  now = held slots topic slot spare are d0 zero one says d1.seen bodies works s.now (λ k. ap (λ (i : Image). i (Slot topic k)) same);
+  left = λ c may. held slots topic slot spare are d0 zero one says c bodies works (s.left c may) (λ k. says.synced k c (leaves.now c may));
+}
+
+ok_err : {R : Type 0} {r : R} {e : Refusal} → IsErrOf {T = R} {E = Refusal} (Ok r) e → ⊥
+ok_err is = cc
+
+log_read : (slots : TwoSlot) (topic : ℕ) (slot : CursorSlot) (seen : Image) (found : LogFinding) → slots.counts ≡ slot → ((bodies : Bodies) → LogHolds slots.log seen bodies → Holds slots seen bodies)
+    → LogAnswer slot topic seen found (Ok slots.log) → IsAnswerTo topic seen (log_finding slot found) (Ok slots)
+log_read slots topic slot seen Uninitialised counts holds is = absurd (ok_err is)
+log_read slots topic slot seen LogVersion counts holds is = absurd (ok_err is)
+log_read slots topic slot seen (LogDamage at) counts holds is = absurd (ok_err is)
+log_read slots topic slot seen (Batches number bodies) counts holds is = record { slot_is = counts; generation_is = ap (λ (id : LogId). id.number) is.0; holds = holds bodies is.1 }
+
+-- and what it answers to
+pub read_told : (slots : TwoSlot) (topic : ℕ) (slot : CursorSlot) (spare : Spare) → AreRead slots topic slot spare → (disk : Disk) (seen : Image) (zero one : SlotHeader) → Says topic disk zero one (Read slot spare)
+    → slots.failed ≡ false → seen ≡ disk.seen → IsLogAnswer topic slot disk.seen seen (Ok slots.log) → Told topic disk.seen seen (Ok slots)
+read_told slots topic slot spare are disk seen zero one says works same (inl is) = inl (
+  log_finding slot is.0,
+  record {
+    zero = zero;
+    one = one;
+    zero_is = says.headers.zero_is;
+    one_is = says.headers.one_is;
+    found = subst (λ (by : Choice). FindsBy by topic disk.seen (log_finding slot is.0)) says.choice_is (is.0, is.1, refl);
+  },
+  log_read slots topic slot seen is.0 are.slot_is (λ bodies holds. held slots topic slot spare are disk zero one says seen bodies works holds (λ k. ap (λ (i : Image). i (Slot topic k)) same)) is.2,
+)
+read_told slots topic slot spare are disk seen zero one says works same (inr (inl none)) = absurd (ok_err none)
+read_told slots topic slot spare are disk seen zero one says works same (inr (inr device)) = absurd (ok_err device)
+
+-- the header of slot 1 is refused, behind a slot 0 that counts
+fault_found : (topic : ℕ) (seen : Image) (fault : HeaderFault) (log : GatedLog) (found : LogFinding) → LogAnswer Zero topic seen found (Ok log) → fault_behind fault found ≡ header_finding One fault
+fault_found topic seen fault log Uninitialised is = absurd (ok_err is)
+fault_found topic seen fault log LogVersion is = absurd (ok_err is)
+fault_found topic seen fault log (LogDamage at) is = absurd (ok_err is)
+fault_found topic seen fault log (Batches number bodies) is = refl
+
+pub fault_told : (topic : ℕ) (disk : Disk) (seen : Image) (zero one : SlotHeader) (fault : HeaderFault) (log : GatedLog) → Says topic disk zero one (ReadZero fault) → IsLogAnswer topic Zero disk.seen seen (Ok log) → Told topic disk.seen seen (Err (header_refusal topic One fault))
+fault_told topic disk seen zero one fault log says (inl is) = inl (
+  header_finding One fault,
+  record {
+    zero = zero;
+    one = one;
+    zero_is = says.headers.zero_is;
+    one_is = says.headers.one_is;
+    found = subst (λ (by : Choice). FindsBy by topic disk.seen (header_finding One fault)) says.choice_is (is.0, is.1, sym (fault_found topic seen fault log is.0 is.2));
+  },
+  header_answer topic seen One fault,
+)
+fault_told topic disk seen zero one fault log says (inr (inl none)) = absurd (ok_err none)
+fault_told topic disk seen zero one fault log says (inr (inr device)) = absurd (ok_err device)

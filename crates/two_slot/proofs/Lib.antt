@@ -1,0 +1,5 @@
+mod Appending
+mod Opening
+mod Found
+mod Standing
+mod Headers

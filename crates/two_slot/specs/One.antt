@@ -1,0 +1,140 @@
+-- Two slots stand for one list, and an opening finds one thing in them.
+use Rattle.std.proofs.Common.{◌≡◌, inl, inr, ⊎_elim, ℕ, ◌+◌, ◌≤◌, ◌<◌, ◌^◌, List, [], ◌∷◌, ◌++◌, length, take, drop, refl, sym, ◌∙◌, ap, subst, arith, append_assoc, length-append}
+use Rattle.std.specs.Int.{w64, from_le_bytes}
+use Rattle.std.proofs.lemmas.Nat.{from_le_bytes-to_le_bytes_8}
+use Rattle.disk.specs.declared.file_id.CursorSlot.{CursorSlot}
+use Rattle.disk.specs.declared.file_id.CursorSlot.TheVariants.{Zero, One}
+use Rattle.disk.specs.declared.file_id.FileId.TheVariants.{Slot}
+use Rattle.disk.specs.Disk.{Image}
+use Rattle.gated_log.specs.Batches.{Bodies, mark, header, batches, opened, IsLog}
+use Rattle.gated_log.specs.Headers.{HasOpenHeader, IsHeaderDamaged, IsOtherVersion, IsOpen}
+use Rattle.gated_log.specs.Findings.{Finding as LogFinding}
+use Rattle.gated_log.specs.One.{log_one, finding_one}
+use Rattle.two_slot.specs.declared.slot_header.SlotHeader.{SlotHeader}
+use Rattle.two_slot.specs.declared.slot_header.SlotHeader.TheVariants.{CutShort, Closed, Open, Faulty}
+use Rattle.two_slot.specs.declared.slot_header.HeaderFault.{HeaderFault}
+use Rattle.two_slot.specs.declared.slot_header.HeaderFault.TheVariants.{Damage as HeaderDamage, Version as HeaderVersion}
+use Rattle.two_slot.specs.declared.choice.Choice.{Choice}
+use Rattle.two_slot.specs.declared.choice.Choice.TheVariants.{Refuse, Read, ReadZero}
+use Rattle.two_slot.specs.Slots.{other_of, Yields, Counts, Stands}
+use Rattle.two_slot.specs.SlotHeaders.{generation_in, IsFaulty, IsSlotHeader}
+use Rattle.two_slot.specs.Choices.{choice}
+use Rattle.two_slot.specs.Findings.{Finding, log_finding, fault_behind, FindsBy, Finds}
+
+-- the generation in an open header
+pub open_generation : (n : ℕ) (file : List ℕ) → IsOpen n file → generation_in file ≡ n
+open_generation n file is = ap (λ (l : List ℕ). from_le_bytes w64 (take 8 (drop 8 l))) is.bytes ∙ from_le_bytes-to_le_bytes_8 n is.in_range
+
+pub generation_one : (n m : ℕ) (file : List ℕ) → IsOpen n file → IsOpen m file → n ≡ m
+generation_one n m file is is' = sym (open_generation n file is) ∙ open_generation m file is'
+
+pub log_open : (n : ℕ) (bodies : Bodies) (file : List ℕ) → IsLog n bodies file → IsOpen n file
+unfolding opened
+log_open n bodies file is = record { rest = batches bodies ++ is.gate ∷ is.rest; in_range = is.in_range; bytes = is.bytes ∙ append_assoc (header 1 n) (batches bodies) (is.gate ∷ is.rest) }
+
+pub log_long : (n : ℕ) (bodies : Bodies) (file : List ℕ) → IsLog n bodies file → 17 ≤ length file
+unfolding opened
+log_long n bodies file is = omega (arith, ap length is.bytes, length-append (header 1 n ++ batches bodies) (is.gate ∷ is.rest), length-append (header 1 n) (batches bodies))
+
+pub open_gate : (n : ℕ) (file : List ℕ) → IsOpen n file → HasOpenHeader file
+open_gate n file is = record { rest = drop 1 (header 1 n) ++ is.rest; bytes = is.bytes; whole = omega (arith, length-append (drop 1 (header 1 n)) is.rest) }
+
+-- a slot that yields to a generation has a lower one, where it is a log
+lower : (n m : ℕ) (bodies : Bodies) (file : List ℕ) → IsLog n bodies file → Yields m file → n < m
+lower n m bodies file is yields = ⊎_elim
+    (λ none. absurd (none (open_gate n file (log_open n bodies file is))))
+    (λ low. omega (arith, low.less, generation_one n low.earlier file (log_open n bodies file is) low.is_open))
+    yields
+
+-- the greater generation counts: not both
+not_both : (g h : ℕ) (one other : Bodies) (a b : List ℕ) → Counts g one a b → Counts h other b a → one ≡ other
+not_both g h one other a b first second =
+    let up : g < h = lower g h one a first.is second.yields in
+    let down : h < g = lower h g other b second.is first.yields in
+    absurd (omega (arith, up, down))
+
+counting_one : (topic : ℕ) (image : Image) (one other : Bodies) (slot slot' : CursorSlot) (g h : ℕ)
+    → Counts g one (image (Slot topic slot)) (image (Slot topic (other_of slot))) → Counts h other (image (Slot topic slot')) (image (Slot topic (other_of slot'))) → one ≡ other
+counting_one topic image one other Zero Zero g h is is' = (log_one g h one other _ is.is is'.is).1
+counting_one topic image one other Zero One g h is is' = not_both g h one other _ _ is is'
+counting_one topic image one other One Zero g h is is' = not_both g h one other _ _ is is'
+counting_one topic image one other One One g h is is' = (log_one g h one other _ is.is is'.is).1
+
+pub slots_one : (topic : ℕ) (image : Image) (one other : Bodies) → Stands topic image one → Stands topic image other → one ≡ other
+slots_one topic image one other is is' = counting_one topic image one other is.slot is'.slot is.generation is'.generation is.counts is'.counts
+
+-- the faults of an open header exclude one another and a good header
+damaged_open : (file : List ℕ) → IsFaulty file HeaderDamage → HasOpenHeader file
+damaged_open file (inl is) = is.0
+damaged_open file (inr is) = is.0
+
+pub version_open : (file : List ℕ) → IsOtherVersion file → HasOpenHeader file
+version_open file is = record { rest = mark ++ is.version ∷ is.rest; bytes = is.bytes; whole = omega (arith, is.long, ap length is.bytes) }
+
+faulty_open : (file : List ℕ) (fault : HeaderFault) → IsFaulty file fault → HasOpenHeader file
+faulty_open file HeaderDamage is = damaged_open file is
+faulty_open file HeaderVersion is = version_open file is.0
+
+good_not_damaged : (n : ℕ) (file : List ℕ) → 17 ≤ length file → IsOpen n file → IsHeaderDamaged file → ⊥
+good_not_damaged n file long is damaged =
+    ⊎_elim (λ other. other (ap (λ (l : List ℕ). take 6 (drop 1 l)) is.bytes)) (λ short. absurd (omega (arith, short, long))) damaged.1
+
+good_version : (n : ℕ) (file : List ℕ) → IsOpen n file → IsOtherVersion file → ⊥
+good_version n file is other =
+    let same = sym other.bytes ∙ is.bytes in
+    let version_is : other.version ≡ 1 = ap (λ (l : List ℕ). head_of (drop 7 l)) same in
+    other.other version_is
+  where
+    head_of : List ℕ → ℕ
+    head_of [] = 0
+    head_of (x ∷ xs) = x
+
+version_not_damaged : (file : List ℕ) → IsOtherVersion file → IsHeaderDamaged file → ⊥
+version_not_damaged file is damaged =
+    ⊎_elim (λ other. other (ap (λ (l : List ℕ). take 6 (drop 1 l)) is.bytes)) (λ short. absurd (omega (arith, short, is.long))) damaged.1
+
+good_not_faulty : (n : ℕ) (file : List ℕ) (fault : HeaderFault) → 17 ≤ length file → IsOpen n file → n + 1 < 2 ^ 64 → IsFaulty file fault → ⊥
+good_not_faulty n file HeaderDamage long is small (inl damaged) = good_not_damaged n file long is damaged
+good_not_faulty n file HeaderDamage long is small (inr last) = absurd (omega (arith, small, last.1, open_generation n file is))
+good_not_faulty n file HeaderVersion long is small other = good_version n file is other.0
+
+fault_one : (file : List ℕ) (one other : HeaderFault) → IsFaulty file one → IsFaulty file other → one ≡ other
+fault_one file HeaderDamage HeaderDamage is is' = refl
+fault_one file HeaderDamage HeaderVersion (inl is) is' = absurd (version_not_damaged file is'.0 is)
+fault_one file HeaderDamage HeaderVersion (inr is) is' = absurd (omega (arith, is.1, is'.1))
+fault_one file HeaderVersion HeaderDamage is (inl is') = absurd (version_not_damaged file is.0 is')
+fault_one file HeaderVersion HeaderDamage is (inr is') = absurd (omega (arith, is.1, is'.1))
+fault_one file HeaderVersion HeaderVersion is is' = refl
+
+short_not_open : (file : List ℕ) → length file < 16 → HasOpenHeader file → ⊥
+short_not_open file short is = absurd (omega (arith, short, ap length is.bytes, is.whole))
+
+pub header_one : (file : List ℕ) (one other : SlotHeader) → IsSlotHeader file one → IsSlotHeader file other → one ≡ other
+header_one file CutShort CutShort is is' = refl
+header_one file CutShort Closed is is' = absurd (omega (arith, is, is'.1))
+header_one file CutShort (Open n) is is' = absurd (omega (arith, is, is'.0))
+header_one file CutShort (Faulty n fault) is is' = absurd (short_not_open file is (faulty_open file fault is'.1))
+header_one file Closed CutShort is is' = absurd (omega (arith, is', is.1))
+header_one file Closed Closed is is' = refl
+header_one file Closed (Open n) is is' = absurd (is.0 (open_gate n file is'.1))
+header_one file Closed (Faulty n fault) is is' = absurd (is.0 (faulty_open file fault is'.1))
+header_one file (Open n) CutShort is is' = absurd (omega (arith, is', is.0))
+header_one file (Open n) Closed is is' = absurd (is'.0 (open_gate n file is.1))
+header_one file (Open n) (Open m) is is' = ap Open (generation_one n m file is.1 is'.1)
+header_one file (Open n) (Faulty m fault) is is' = absurd (good_not_faulty n file fault is.0 is.1 is.2 is'.1)
+header_one file (Faulty n fault) CutShort is is' = absurd (short_not_open file is' (faulty_open file fault is.1))
+header_one file (Faulty n fault) Closed is is' = absurd (is'.0 (faulty_open file fault is.1))
+header_one file (Faulty n fault) (Open m) is is' = absurd (good_not_faulty m file fault is'.0 is'.1 is'.2 is.1)
+header_one file (Faulty n fault) (Faulty m fault') is is' = let generations = is.0 ∙ sym is'.0 in let faults = fault_one file fault fault' is.1 is'.1 in (λ i. Faulty (generations i) (faults i))
+
+found_by_one : (by : Choice) (topic : ℕ) (image : Image) (one other : Finding) → FindsBy by topic image one → FindsBy by topic image other → one ≡ other
+found_by_one (Refuse slot fault) topic image one other is is' = is ∙ sym is'
+found_by_one (Read slot spare) topic image one other is is' = is.2 ∙ ap (λ (f : LogFinding). log_finding slot f) (finding_one _ is.0 is'.0 is.1 is'.1) ∙ sym is'.2
+found_by_one (ReadZero fault) topic image one other is is' = is.2 ∙ ap (λ (f : LogFinding). fault_behind fault f) (finding_one _ is.0 is'.0 is.1 is'.1) ∙ sym is'.2
+
+pub finds_one : (topic : ℕ) (image : Image) (one other : Finding) → Finds topic image one → Finds topic image other → one ≡ other
+finds_one topic image one other is is' =
+    let zeros : is'.zero ≡ is.zero = header_one _ is'.zero is.zero is'.zero_is is.zero_is in
+    let ones : is'.one ≡ is.one = header_one _ is'.one is.one is'.one_is is.one_is in
+    let by : choice is'.zero is'.one ≡ choice is.zero is.one = λ i. choice (zeros i) (ones i) in
+    found_by_one (choice is.zero is.one) topic image one other is.found (subst (λ (c : Choice). FindsBy c topic image other) by is'.found)

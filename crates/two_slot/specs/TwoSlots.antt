@@ -1,0 +1,44 @@
+-- What two slots remember of their files.
+use Rattle.std.specs.Prelude.{◌≡◌, ℕ, ◌+◌, ◌<◌, ◌≤◌, ◌^◌, Bool, false, List, length, vec_len, vec_capacity}
+use Rattle.disk.specs.declared.file_id.FileId.TheVariants.{Slot}
+use Rattle.disk.specs.Disk.{Image}
+use Rattle.gated_log.specs.Batches.{Bodies}
+use Rattle.gated_log.specs.Headers.{HasOpenHeader}
+use Rattle.gated_log.specs.Logs.{LogHolds, log_id, log_content}
+use Rattle.two_slot.specs.declared.spare.Spare.{Spare}
+use Rattle.two_slot.specs.declared.spare.Spare.TheVariants.{Short, Shut, Lower}
+use Rattle.two_slot.specs.declared.two_slot.TwoSlot.{TwoSlot}
+use Rattle.two_slot.specs.Slots.{other_of, IsLower}
+
+-- the topic whose slots they are
+abbrev pub topic_of : TwoSlot → ℕ
+topic_of slots = slots.topic
+
+-- an append failed
+abbrev pub failed : TwoSlot → Bool
+failed slots = slots.failed
+
+-- the generation of the slot that counts
+abbrev pub generation_of : TwoSlot → ℕ
+generation_of slots = (log_id slots.log).number
+
+-- the file of the slot that doesn't count, beside this generation
+abbrev pub IsSpare : Spare → ℕ → List ℕ → Type 0
+IsSpare Short generation file = length file < 16
+IsSpare Shut generation file = (¬ HasOpenHeader file) × (16 ≤ length file)
+IsSpare Lower generation file = IsLower generation file
+
+-- The slots work, and their files hold these bodies just as they remember them.
+pub record Holds (slots : TwoSlot) (image : Image) (bodies : Bodies) : Type 0 where
+  pub works : slots.failed ≡ false
+  pub log : LogHolds slots.log image bodies
+  pub in_range : generation_of slots + 1 < 2 ^ 64
+  pub spare : IsSpare slots.spare (generation_of slots) (image (Slot slots.topic (other_of slots.counts)))
+
+-- the bodies in the file of the slot that counts, as many as it remembers; also after a failure
+abbrev pub content : TwoSlot → Image → Bodies
+content slots image = log_content slots.log image
+
+-- there is room for one body more
+abbrev pub HasRoom : TwoSlot → Type 0
+HasRoom slots = vec_len slots.log.places < vec_capacity slots.log.places

@@ -1,0 +1,20 @@
+//! Two files hold one list of bodies, and one of them counts: the one whose header is open and has the greater generation.
+//! The other may hold anything behind its header. An append is whole or not at all, at whatever moment a crash comes. An
+//! opening finds one thing in the two files: the bodies of the one that counts, or the first fault.
+#![tactic(auto)]
+
+mod append;
+mod choice;
+mod create;
+mod law;
+mod open;
+mod slot_header;
+mod spare;
+mod two_slot;
+
+pub use law::{
+    slots_are_their_own_files, slots_have_one_finding, slots_stand_for_one_list,
+    slots_that_stand_are_found,
+};
+pub use spare::Spare;
+pub use two_slot::TwoSlot;

@@ -1,0 +1,198 @@
+// Which slot counts, and the first fault.
+use super::{Found, ONE, ZERO, found, lay, roomy};
+use disk::FileId;
+use gated_log::Refusal;
+use std::test::Fail;
+
+// An open header of a generation, so many empty bodies of three, and a closed gate.
+fn log(generation: u8, bodies: u8) -> [u8; 32] {
+    let mut bytes = [0; 32];
+    bytes[..9].copy_from_slice(&[1, 0x50, 0x55, 0x4c, 0x53, 0x41, 0x52, 1, generation]);
+    bytes[16] = if bodies > 0 { 1 } else { 0 };
+    bytes[21] = if bodies > 1 { 1 } else { 0 };
+    bytes[26] = if bodies > 2 { 1 } else { 0 };
+    bytes
+}
+
+// The same with another byte at a place.
+fn with(mut bytes: [u8; 32], at: usize, byte: u8) -> [u8; 32] {
+    if let Some(place) = bytes.get_mut(at) {
+        *place = byte;
+    }
+    bytes
+}
+
+// The same with the last generation.
+fn last(mut bytes: [u8; 32]) -> [u8; 32] {
+    bytes[8..16].copy_from_slice(&[0xff; 8]);
+    bytes
+}
+
+fn damaged(file: FileId, offset: u64) -> Found {
+    Err(Refusal::Damaged { file, offset })
+}
+
+// A gate of the log is open, and no whole batch stands behind it.
+const HUGE: usize = 20;
+
+#[test]
+fn the_greater_generation_counts(rt: HostRuntime) -> Result<(), Fail> {
+    let mut shelf = roomy(rt.alloc())?;
+    let cases = [
+        (log(1, 1), with(log(2, 2), 0, 0), Ok(1)),
+        (with(log(3, 1), 0, 0), log(2, 2), Ok(2)),
+        (log(3, 1), log(2, 2), Ok(1)),
+        (log(3, 1), log(4, 2), Ok(2)),
+        (log(3, 1), with(log(2, 2), HUGE, 0x7f), Ok(1)),
+        (with(log(3, 1), HUGE, 0x7f), log(4, 2), Ok(2)),
+    ];
+    for (zero, one, expected) in cases {
+        lay(&mut shelf, ZERO, &zero)?;
+        lay(&mut shelf, ONE, &one)?;
+        assert_eq!(rt; found(rt.alloc(), &mut shelf)?, expected);
+    }
+    Ok(())
+}
+
+#[test]
+fn the_first_fault_is_told(rt: HostRuntime) -> Result<(), Fail> {
+    let mut shelf = roomy(rt.alloc())?;
+    let closed = with(log(9, 1), 0, 0);
+    let bad = with(log(3, 1), HUGE, 0x7f);
+    let cases = [
+        (closed, closed, damaged(ZERO, 0)),
+        (log(2, 1), log(2, 1), damaged(ONE, 0)),
+        (last(log(0, 1)), log(2, 1), damaged(ZERO, 0)),
+        (log(2, 1), last(log(0, 1)), damaged(ONE, 0)),
+        (bad, last(log(0, 1)), damaged(ONE, 0)),
+        (bad, with(log(2, 1), 1, 0), damaged(ZERO, 16)),
+        (log(3, 1), with(log(2, 1), 1, 0), damaged(ONE, 0)),
+        (with(log(3, 1), 7, 2), closed, Err(Refusal::Version)),
+        (closed, with(log(3, 1), 7, 2), Err(Refusal::Version)),
+        (closed, bad, damaged(ONE, 16)),
+    ];
+    for (zero, one, expected) in cases {
+        lay(&mut shelf, ZERO, &zero)?;
+        lay(&mut shelf, ONE, &one)?;
+        assert_eq!(rt; found(rt.alloc(), &mut shelf)?, expected);
+    }
+    Ok(())
+}
+
+#[test]
+fn a_header_cut_short_is_closed(rt: HostRuntime) -> Result<(), Fail> {
+    let mut shelf = roomy(rt.alloc())?;
+    let bytes = log(2, 0);
+    let cases = [(0, Ok(1)), (15, Ok(1)), (16, damaged(ONE, 0)), (17, Ok(0))];
+    for (len, expected) in cases {
+        lay(&mut shelf, ZERO, &log(1, 1))?;
+        lay(&mut shelf, ONE, bytes.get(..len).unwrap_or(&[]))?;
+        assert_eq!(rt; found(rt.alloc(), &mut shelf)?, expected, "{len}");
+    }
+    Ok(())
+}
+
+// The head of a log, or all of it.
+type Bytes = (usize, [u8; 32]);
+
+// A slot 1 of each kind: cut short, closed, open, of another mark, of another version, of the last generation,
+// and without a gate behind its header. Slot 0 has generation 3.
+fn kinds() -> [Bytes; 15] {
+    [
+        (15, log(4, 2)),
+        (16, with(log(4, 2), 0, 0)),
+        (32, with(log(4, 2), 0, 7)),
+        (32, log(2, 2)),
+        (32, log(3, 2)),
+        (32, log(4, 2)),
+        (32, with(log(2, 2), 1, 0)),
+        (32, with(log(3, 2), 1, 0)),
+        (32, with(log(4, 2), 1, 0)),
+        (32, with(log(2, 2), 7, 2)),
+        (32, with(log(3, 2), 7, 2)),
+        (32, with(log(4, 2), 7, 2)),
+        (32, last(log(0, 2))),
+        (32, last(with(log(0, 2), 7, 2))),
+        (16, log(4, 2)),
+    ]
+}
+
+// What an opening finds beside a slot 0 that is closed or cut short.
+fn beside_closed() -> [Found; 15] {
+    let none = damaged(ZERO, 0);
+    let fault = damaged(ONE, 0);
+    let version = Err(Refusal::Version);
+    [
+        none,
+        none,
+        none,
+        Ok(2),
+        Ok(2),
+        Ok(2),
+        fault,
+        fault,
+        fault,
+        version,
+        version,
+        version,
+        fault,
+        fault,
+        fault,
+    ]
+}
+
+// What an opening finds beside a slot 0 that is open, where that slot alone gives this.
+fn beside_open(alone: Found, version_behind: Found, fault_behind: Found) -> [Found; 15] {
+    let fault = damaged(ONE, 0);
+    let version = Err(Refusal::Version);
+    [
+        alone,
+        alone,
+        alone,
+        alone,
+        fault,
+        Ok(2),
+        fault_behind,
+        fault,
+        fault,
+        version_behind,
+        fault,
+        version,
+        fault,
+        fault,
+        fault,
+    ]
+}
+
+#[test]
+fn each_kind_of_header_in_both_slots(rt: HostRuntime) -> Result<(), Fail> {
+    let mut shelf = roomy(rt.alloc())?;
+    let version = Err(Refusal::Version);
+    let bad = damaged(ZERO, 16);
+    let zeros = [
+        ((15, log(3, 1)), beside_closed()),
+        ((16, with(log(3, 1), 0, 0)), beside_closed()),
+        ((32, with(log(3, 1), 0, 7)), beside_closed()),
+        (
+            (32, log(3, 1)),
+            beside_open(Ok(1), version, damaged(ONE, 0)),
+        ),
+        (
+            (32, with(log(3, 1), HUGE, 0x7f)),
+            beside_open(bad, bad, bad),
+        ),
+        ((32, with(log(3, 1), 1, 0)), [damaged(ZERO, 0); 15]),
+        ((32, with(log(3, 1), 7, 2)), [version; 15]),
+        ((32, last(log(0, 1))), [damaged(ZERO, 0); 15]),
+        ((32, last(with(log(0, 1), 7, 2))), [damaged(ZERO, 0); 15]),
+        ((16, log(3, 1)), [damaged(ZERO, 0); 15]),
+    ];
+    for (row, (zero, answers)) in (0u8..).zip(zeros) {
+        lay(&mut shelf, ZERO, zero.1.get(..zero.0).unwrap_or(&[]))?;
+        for (column, (one, expected)) in (0u8..).zip(kinds().into_iter().zip(answers)) {
+            lay(&mut shelf, ONE, one.1.get(..one.0).unwrap_or(&[]))?;
+            assert_eq!(rt; found(rt.alloc(), &mut shelf)?, expected, "{row}, {column}");
+        }
+    }
+    Ok(())
+}
