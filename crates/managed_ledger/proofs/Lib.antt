@@ -1,0 +1,12 @@
+mod Building
+mod Positions
+mod Appends
+mod FirstEntry
+mod Adding
+mod Indexing
+mod Formed
+mod OneFinding
+mod Refusing
+mod Stepping
+mod Looping
+mod Opened

@@ -1,0 +1,14 @@
+pub mod Entries
+pub mod Sizes
+pub mod Shape
+pub mod Stores
+pub mod Ledgers
+pub mod Bodies
+pub mod Reading
+pub mod Openings
+pub mod Totals
+pub mod Places
+pub mod Segments
+pub mod One
+pub mod SameChain
+pub mod Settled

@@ -1,0 +1,28 @@
+//! A managed ledger is the list of a topic's entries, kept in the segments of a journal: an append adds its entries all
+//! or none, at whatever moment a crash comes, and an entry is read by its position with one read of the device. Memory is
+//! taken before the first device call; after a failure the ledger remembers the old entries and refuses until it is opened
+//! again. An opening answers the entries, or the first fault that stands in the segments.
+#![tactic(auto)]
+
+mod append;
+mod body;
+mod build;
+mod entry_store;
+mod extend;
+mod find;
+mod getters;
+mod law;
+mod ledger_index;
+mod ledger_store;
+mod managed_ledger;
+mod open;
+mod place;
+mod prepare;
+mod prepared;
+mod reader;
+mod segment_index;
+
+pub use entry_store::EntryStore;
+pub use law::ledgers_have_one_finding;
+pub use managed_ledger::ManagedLedger;
+pub use prepared::PreparedEntries;
