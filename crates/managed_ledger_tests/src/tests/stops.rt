@@ -94,21 +94,31 @@ fn a_stop_within_an_append(rt: HostRuntime) -> Result<(), Fail> {
     Ok(())
 }
 
-// Nine calls of the roll go before them.
+// How many entries are left after a stop at each of the 13 calls of an append behind a roll: nine calls of the roll go
+// before the four of the batch.
+fn after_stops(alloc: Global, form: CrashForm) -> Result<[u64; 13], Fail> {
+    let mut left = [0; 13];
+    for call in 0..13usize {
+        left[call] = after_stop(alloc, 1, form, call as u64 + 1)?;
+    }
+    Ok(left)
+}
+
 #[test]
 fn a_stop_within_an_append_behind_a_roll(rt: HostRuntime) -> Result<(), Fail> {
-    for form in FORMS {
-        for stop in 1..13u64 {
-            assert_eq!(rt;
-                after_stop(rt.alloc(), 1, form, stop)?,
-                1,
-                "{form:?}, {stop}"
-            );
-        }
-    }
-    for (form, left) in FORMS.into_iter().zip([1, 3, 1, 3]) {
-        assert_eq!(rt; after_stop(rt.alloc(), 1, form, 13)?, left, "{form:?}");
-    }
+    let old = after_stops(rt.alloc(), CrashForm::Old)?;
+    assert_eq!(rt; old, [1; 13]);
+    let new = after_stops(rt.alloc(), CrashForm::New)?;
+    assert_eq!(rt; new, [1, 1, 1, 1, 1, 1, 1, 1, 1, 1, 1, 1, 3]);
+    Ok(())
+}
+
+#[test]
+fn a_stop_within_an_append_behind_a_roll_and_lost_bytes(rt: HostRuntime) -> Result<(), Fail> {
+    let zeros = after_stops(rt.alloc(), CrashForm::Fill(0))?;
+    assert_eq!(rt; zeros, [1; 13]);
+    let ones = after_stops(rt.alloc(), CrashForm::Fill(1))?;
+    assert_eq!(rt; ones, [1, 1, 1, 1, 1, 1, 1, 1, 1, 1, 1, 1, 3]);
     Ok(())
 }
 
