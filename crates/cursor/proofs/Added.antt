@@ -5,13 +5,13 @@ use Rattle.std.specs.Map.{lookup, remove_entry}
 use Rattle.std.specs.BTreeMap.{is_at}
 use Rattle.cursor.specs.Ranged.{Ranges, in_ranges, behind, end_of, added, IsApart}
 
-less : (a b : ℕ) → a < b → nat_cmp a b ≡ Less
+pub less : (a b : ℕ) → a < b → nat_cmp a b ≡ Less
 less a b h = grind (arith, nat_tests)
 
-equal : (a b : ℕ) → a ≡ b → nat_cmp a b ≡ Equal
+pub equal : (a b : ℕ) → a ≡ b → nat_cmp a b ≡ Equal
 equal a b h = grind (arith, nat_tests)
 
-greater : (a b : ℕ) → b < a → nat_cmp a b ≡ Greater
+pub greater : (a b : ℕ) → b < a → nat_cmp a b ≡ Greater
 greater a b h = grind (arith, nat_tests)
 
 end_above : (p : ℕ) (rs : Ranges) → p < end_of p (behind p rs)

@@ -1,8 +1,9 @@
 -- A set of positions kept as a mark-delete and ranges after it. A range is the pair of its end, which isn't in it, and its start.
-use Rattle.std.specs.Prelude.{◌≡◌, ℕ, ◌+◌, ◌^◌, ◌<◌, ◌≤◌, Bool, false, ◌||◌, ◌&&◌, not, ◌==◌, cond, List, [], ◌∷◌, nat_lt, Option, Some, None}
+use Rattle.std.specs.Prelude.{◌≡◌, ℕ, ◌+◌, ◌-◌, ◌^◌, ◌<◌, ◌≤◌, Bool, false, ◌||◌, ◌&&◌, not, ◌==◌, cond, List, [], ◌∷◌, nat_lt, nat_le, Option, Some, None}
 use Rattle.std.specs.FinSet as set
 use Rattle.std.specs.Ordering.{nat_cmp}
 use Rattle.std.specs.Option.{unwrap_or}
+use Rattle.std.specs.List.{filter}
 use Rattle.std.specs.Map.{lookup, remove_entry}
 use Rattle.std.specs.BTreeMap.{is_at, insert_entry}
 use Rattle.std.proofs.Common.{◌∙◌}
@@ -48,6 +49,26 @@ widened p rs = (end_of p (behind p rs), unwrap_or (lookup (is_at (nat_cmp p)) rs
 -- the ranges with p, which none has
 abbrev pub added : ℕ → Ranges → Ranges
 added p rs = remove_entry (is_at (nat_cmp p)) (insert_entry nat_cmp rs (widened p rs).0 (widened p rs).1)
+
+-- where the range from `first` on and before `end` begins and ends, with those that it touches: its end, and its start
+abbrev pub start_of : ℕ → Option (ℕ × ℕ) → ℕ
+start_of first None = first
+start_of first (Some r) = cond (nat_lt r.1 first) r.1 first
+
+abbrev pub last_of : ℕ → Option (ℕ × ℕ) → ℕ
+last_of end None = end
+last_of end (Some r) = cond (nat_le r.1 end) r.0 end
+
+abbrev pub spread : ℕ → ℕ → Ranges → ℕ × ℕ
+spread first end rs = (last_of end (behind (end - 1) rs), start_of first (behind (first - 1) rs))
+
+-- the ranges with this one in the place of those that it touches
+abbrev pub with_range : ℕ → ℕ × ℕ → Ranges → Ranges
+with_range first range rs = filter (λ r. nat_lt r.0 first || nat_le range.0 r.0) (insert_entry nat_cmp rs range.0 range.1)
+
+-- the ranges with the positions from `first` on and before `end`
+abbrev pub joined : ℕ → ℕ → Ranges → Ranges
+joined first end rs = with_range first (spread first end rs) rs
 
 -- the positions of the ranges
 abbrev covered : Ranges → Positions

@@ -1,8 +1,8 @@
 ghost use Rattle.std.specs.Prelude.{◌≡◌, ℕ, ◌+◌, ◌^◌, ◌<◌, ◌≤◌, OnOk, OnErr};
 ghost use Rattle.std.specs.FinSet as set;
-ghost use Rattle.cursor.specs.Positions.{below, IsFirstOpen, run_count};
+ghost use Rattle.cursor.specs.Positions.{below, between, IsFirstOpen, run_count};
 
-use crate::ranges::{add_one, covers, drop_below, join, range_behind};
+use crate::ranges::{add_one, add_range, covers, drop_below, join, range_behind};
 use std::alloc::{AllocError, Global};
 use std::collections::BTreeMap;
 use std::marker::Model;
@@ -29,6 +29,17 @@ impl Model for Cursor {
     ghost invariant = { λ c. IsApart c.mark_delete c.after.entries };
 }
 
+impl Clone for Cursor {
+    ghost is_clone = { λ old new. new ≡ old };
+
+    fn clone(&self) -> Result<Self, AllocError> {
+        Ok(Self {
+            mark_delete: self.mark_delete,
+            after: self.after.clone()?,
+        })
+    }
+}
+
 impl Cursor {
     /// No position is acknowledged.
     pub fn new(alloc: Global) -> Self
@@ -36,6 +47,17 @@ impl Cursor {
     {
         Self {
             mark_delete: 0,
+            after: BTreeMap::new(alloc),
+        }
+    }
+
+    /// All positions below `start` are acknowledged.
+    pub fn starting_at(alloc: Global, start: u64) -> Self
+        requires { start ≤ 2 ^ 62 }
+        ensures { result ≡ below start }
+    {
+        Self {
+            mark_delete: start,
             after: BTreeMap::new(alloc),
         }
     }
@@ -74,6 +96,21 @@ impl Cursor {
             drop_below(&mut self.after, end);
             self.mark_delete = join(&mut self.after, end);
         }
+    }
+
+    /// Acknowledges the positions from `first` to `last`, both included. A refusal changes nothing.
+    pub fn ack_range(&mut self, first: u64, last: u64) -> Result<(), AllocError>
+        requires rises { first ≤ last }
+        requires fits { last < 2 ^ 62 }
+        ensures ok { OnOk result (self.new ≡ set.union self.old (between first (last + 1))) }
+        ensures err { OnErr result (self.new ≡ self.old) }
+    {
+        if first <= self.mark_delete {
+            self.ack_through(last);
+            return Ok(());
+        }
+        add_range(&mut self.after, first, last + 1)?;
+        Ok(())
     }
 
     /// The mark-delete position: the least that isn't acknowledged.

@@ -30,6 +30,13 @@ impl PlainCursor {
         Ok(())
     }
 
+    pub(crate) fn ack_range(&mut self, first: u64, last: u64) -> Result<(), AllocError> {
+        for position in first..=last {
+            self.positions.insert(position)?;
+        }
+        Ok(())
+    }
+
     // The least position from `from` on, and below `end`, that isn't in the set.
     pub(crate) fn first_open(&self, from: u64, end: u64) -> Option<u64> {
         for position in from..end {

@@ -1,6 +1,6 @@
 // Ranges of positions that follow each other with gaps, as a map from the end of each, which isn't in it, to its start.
 ghost use Rattle.std.specs.Prelude.{◌≡◌, ℕ, ◌+◌, ◌^◌, ◌<◌, ◌≤◌, nat_lt, ◌||◌, OnOk, OnErr};
-ghost use Rattle.cursor.specs.Ranged.{in_ranges, behind, widened, added, IsApart, AreApart, IsJoinable};
+ghost use Rattle.cursor.specs.Ranged.{in_ranges, behind, widened, added, spread, joined, IsApart, AreApart, IsJoinable};
 
 use std::alloc::AllocError;
 use std::collections::BTreeMap;
@@ -82,5 +82,46 @@ pub(crate) fn add_one(after: &mut BTreeMap<u64, u64>, position: u64) -> Result<(
     let (end, start) = widened(after, position);
     after.insert(end, start)?;
     let _ = after.remove(&position);
+    Ok(())
+}
+
+// The range from `first` on and before `end`, with those that it touches.
+fn spread(after: &BTreeMap<u64, u64>, first: u64, end: u64) -> (u64, u64)
+    requires rises { first < end }
+    requires low { 0 < first }
+    requires fits { end ≤ 2 ^ 62 }
+    ensures { result ≡ spread first end after.now.entries }
+{
+    let start = match range_behind(after, first - 1) {
+        Some((_, start)) if start < first => start,
+        _ => first,
+    };
+    let end = match range_behind(after, end - 1) {
+        Some((last, start)) if start <= end => last,
+        _ => end,
+    };
+    (end, start)
+}
+
+// Adds the positions from `first` on and before `end`. A refusal changes nothing. Only where a range ends at `first` or behind
+// it are all looked at, so ranges in order are added in proportion to their number.
+pub(crate) fn add_range(
+    after: &mut BTreeMap<u64, u64>,
+    first: u64,
+    end: u64,
+) -> Result<(), AllocError>
+    requires rises { first < end }
+    requires low { 0 < first }
+    requires fits { end ≤ 2 ^ 62 }
+    ensures ok { OnOk result (after.new.entries ≡ joined first end after.old.entries) }
+    ensures err { OnErr result (after.new.entries ≡ after.old.entries) }
+{
+    if range_behind(after, first - 1).is_none() {
+        after.insert(end, first)?;
+        return Ok(());
+    }
+    let (end, start) = spread(after, first, end);
+    after.insert(end, start)?;
+    after.retain(|last, _| *last < first || *last >= end);
     Ok(())
 }

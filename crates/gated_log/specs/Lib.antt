@@ -1,3 +1,4 @@
+pub mod Refusals
 pub mod Batches
 pub mod Gates
 pub mod Headers

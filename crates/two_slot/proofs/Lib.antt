@@ -1,5 +1,4 @@
 mod Appending
 mod Opening
 mod Found
-mod Standing
 mod Headers

@@ -6,3 +6,5 @@ pub mod Findings
 pub mod Local
 pub mod One
 pub mod Fresh
+pub mod Standing
+pub mod ByHeader

@@ -5,6 +5,7 @@
 
 mod append;
 mod choice;
+mod counting;
 mod create;
 mod law;
 mod open;

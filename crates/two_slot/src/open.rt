@@ -1,15 +1,15 @@
 // Two slots are opened, whatever a crash left of them.
-ghost use Rattle.std.specs.Prelude.{◌≡◌, ◌⊎◌, ℕ, IfOk, IfErr, OnOk, IsErr, IsErrOf};
+ghost use Rattle.std.specs.Prelude.{◌≡◌, ◌⊎◌, ℕ, false, IfOk, IfErr, OnOk, IsErr, IsErrOf};
 ghost use Rattle.disk.specs.declared.file_id.FileId.{FileId};
 ghost use Rattle.disk.specs.declared.file_id.CursorSlot.{CursorSlot};
 ghost use Rattle.disk.specs.Disk.{Disk, Image, Same, Synced, Leaves, Kept, Failed};
 ghost use Rattle.disk.specs.Areas.{Agree};
 ghost use Rattle.gated_log.specs.Lists.{Settled};
-ghost use Rattle.gated_log.specs.Logs.{LogHolds, log_id, log_content};
+ghost use Rattle.gated_log.specs.Logs.{LogHolds, log_id, log_content, log_failed};
 ghost use Rattle.two_slot.specs.Slots.{SlotsOf};
 ghost use Rattle.two_slot.specs.SlotHeaders.{IsSlotHeader};
 ghost use Rattle.two_slot.specs.declared.slot_header.SlotHeader.{SlotHeader};
-ghost use Rattle.two_slot.specs.TwoSlots.{Holds, content, topic_of};
+ghost use Rattle.two_slot.specs.TwoSlots.{Holds, content, topic_of, failed};
 ghost use Rattle.two_slot.specs.Findings.{Finding, Finds, IsAnswerTo, IsRefused, IsLogAnswer, HaveHeaders, Says, Told, header_refusal, refusal_of_named};
 
 use crate::TwoSlot;
@@ -39,7 +39,7 @@ fn look<S: Shelf>(shelf: &mut S, file: FileId) -> Result<SlotHeader, DeviceError
 }
 
 // The headers of both slots.
-fn look_at_both<S: Shelf>(shelf: &mut S, topic: u16) -> Result<Headers, DeviceError>
+pub(crate) fn look_at_both<S: Shelf>(shelf: &mut S, topic: u16) -> Result<Headers, DeviceError>
     ensures headers { (S.disk shelf.old).honest → IfOk result (λ headers. HaveHeaders topic (S.disk shelf.new).seen headers.0 headers.1) }
     ensures synced { (S.disk shelf.old).honest → OnOk result ((slot : CursorSlot) → Synced (FileId.Slot topic slot) (S.disk shelf.new)) }
     ensures seen { (S.disk shelf.old).honest → OnOk result (Same (S.disk shelf.old).seen (S.disk shelf.new).seen) }
@@ -92,6 +92,7 @@ fn open_log<S: Shelf>(
     ensures found { (S.disk shelf.old).honest → IsLogAnswer topic slot (S.disk shelf.old).seen (S.disk shelf.new).seen result }
     ensures opened { (S.disk shelf.old).honest → IfOk result (λ log. Settled (LogHolds log) (S.disk shelf.new) (log_content log (S.disk shelf.new).seen)) }
     ensures file { IfOk result (λ log. (log_id log).file ≡ FileId.Slot topic slot) }
+    ensures works { IfOk result (λ log. log_failed log ≡ false) }
     ensures device { IsErrOf result Refusal.Device → Failed (S.disk shelf.old) (S.disk shelf.new) }
     ensures seen { (S.disk shelf.old).honest → ¬ IsErrOf result Refusal.Device → Same (S.disk shelf.old).seen (S.disk shelf.new).seen }
     ensures others { (S.disk shelf.old).honest → Agree (λ f. ¬ SlotsOf topic f) (S.disk shelf.old).seen (S.disk shelf.new).seen }
@@ -116,6 +117,7 @@ fn open_chosen<S: Shelf>(
     ensures opened { (zero one : SlotHeader) → (S.disk shelf.old).honest → Says topic (S.disk shelf.old) zero one choice →
         IfOk result (λ slots. Settled (Holds slots) (S.disk shelf.new) (content slots (S.disk shelf.new).seen)) }
     ensures topic { IfOk result (λ slots. topic_of slots ≡ topic) }
+    ensures works { IfOk result (λ slots. failed slots ≡ false) }
     ensures device { IsErrOf result Refusal.Device → Failed (S.disk shelf.old) (S.disk shelf.new) }
     ensures seen { (S.disk shelf.old).honest → ¬ IsErrOf result Refusal.Device → Same (S.disk shelf.old).seen (S.disk shelf.new).seen }
     ensures others { (S.disk shelf.old).honest → Agree (λ f. ¬ SlotsOf topic f) (S.disk shelf.old).seen (S.disk shelf.new).seen }
@@ -153,6 +155,7 @@ impl TwoSlot {
         ensures refused { (S.disk shelf.old).honest → IfErr result (λ e. (e ≡ Refusal.NoMemory) ⊎ ((e ≡ Refusal.Device) ⊎ IsRefused topic (S.disk shelf.old).seen e)) }
         ensures opened { (S.disk shelf.old).honest → IfOk result (λ slots. Settled (Holds slots) (S.disk shelf.new) (content slots (S.disk shelf.new).seen)) }
         ensures topic { IfOk result (λ slots. topic_of slots ≡ topic) }
+        ensures works { IfOk result (λ slots. failed slots ≡ false) }
         ensures device { IsErrOf result Refusal.Device → Failed (S.disk shelf.old) (S.disk shelf.new) }
 
         // What reads give stays, but of a slot whose sync failed.

@@ -1,0 +1,4 @@
+pub mod Appending
+pub mod Bodies
+pub mod OneFinding
+pub mod Opening

@@ -1,0 +1,5 @@
+pub mod Stores
+pub mod Cursors
+pub mod Findings
+pub mod Reading
+pub mod Laws

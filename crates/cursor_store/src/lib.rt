@@ -1,0 +1,14 @@
+//! A cursor store is the map from a topic's subscriptions to their acknowledged positions, kept as records in two slots: an
+//! append adds all its records or none, at whatever moment a crash comes. Memory is taken before the first device call;
+//! after a failure the store remembers the old map and refuses until it is opened again. An opening answers the map, or the
+//! first fault that stands in the slots.
+#![tactic(auto)]
+
+mod cursor_store;
+mod form;
+mod open;
+mod store;
+mod sub_store;
+
+pub use cursor_store::{CursorStore, PreparedRecords};
+pub use sub_store::SubStore;

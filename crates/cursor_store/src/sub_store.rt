@@ -1,0 +1,168 @@
+// The store of a topic's durable subscriptions.
+ghost use Rattle.std.specs.Prelude.{◌≡◌, ◌⊎◌, ◌<◌, ◌≤◌, ◌^◌, ◌↔◌, List, ℕ, Bool, true, false, length, IfOk, IfErr, OnOk, IsErr, IsErrOf, map as each};
+ghost use Rattle.std.specs.List.{AllByRecursion};
+ghost use Rattle.std.specs.FinMap as map;
+ghost use Rattle.records.specs.Names.{is_subscription_name};
+ghost use Rattle.records.specs.declared.kept_cursor.KeptCursor.{KeptCursor as Cursor};
+ghost use Rattle.disk.specs.declared.file_id.FileId.{FileId};
+ghost use Rattle.disk.specs.Disk.{Disk, Image, Same, Leaves, Kept as Counted, Failed};
+ghost use Rattle.disk.specs.Areas.{Agree, Within};
+ghost use Rattle.records.specs.declared.record.Record.{Record};
+ghost use Rattle.records.specs.Maps.{Kept};
+ghost use Rattle.records.specs.Records.{AreFormed, after_all};
+ghost use Rattle.records.specs.Bytes.{body_of};
+ghost use Rattle.gated_log.specs.Batches.{Bodies};
+ghost use Rattle.two_slot.specs.Slots.{SlotsOf};
+ghost use Rattle.cursor_store.specs.Stores.{Settled, InDoubt};
+
+use disk::{DeviceError, Shelf};
+use gated_log::Refusal;
+use records::{KeptCursor, Record};
+use std::alloc::{AllocError, Global};
+
+/// A map from the name of a subscription to the set of its acknowledged positions, which outlives a crash: an append adds
+/// all its records or none. An append has two parts. The first builds in memory and takes all the memory there is to take,
+/// the second only writes. Positions are those of a ledger, of whose length what is of its form depends.
+pub trait SubStore: Drop {
+    /// What an append writes, and what the store then keeps.
+    type Prepared: Drop;
+
+    /// The topic whose subscriptions it has.
+    ghost topic_of: { Self → ℕ };
+
+    /// The files of the store of a topic.
+    ghost area: { ℕ → FileId → Type 0 };
+
+    /// What these files alone stand for, beside a ledger of so many entries: whoever opens them finds these subscriptions.
+    ghost stands: { ℕ → ℕ → Image → Kept → Type 0 };
+
+    /// The store works, and the files hold these subscriptions, beside a ledger of so many entries, just as it remembers them.
+    ghost holds: { Self → ℕ → Image → Kept → Type 0 };
+
+    /// The subscriptions that it remembers; also after a failure the old ones.
+    ghost content: { Self → Kept };
+
+    /// The bodies of records in its files, as many as it remembers.
+    ghost written: { Self → Image → Bodies };
+
+    /// An append failed. It refuses until it is opened again.
+    ghost failed: { Self → Bool };
+
+    /// There is room for what was prepared.
+    ghost has_room: { Self → Self.Prepared → Type 0 };
+
+    /// This was prepared by the store, for these records.
+    ghost is_for: { Self → Self.Prepared → List Record → Type 0 };
+
+    /// Makes a store without subscriptions, whatever was in its files, with eight device calls. Takes no memory. Until the
+    /// `Ok` a crash may leave anything of these files.
+    fn create<S: Shelf>(alloc: Global, shelf: &mut S, topic: u16) -> Result<Self, DeviceError>
+        ensures created { (entries : ℕ) → (S.disk shelf.old).honest → IfOk result (λ store. Settled (holds store entries) (written store) (S.disk shelf.new) map.empty) }
+        ensures topic { IfOk result (λ store. topic_of store ≡ topic) }
+        ensures works { IfOk result (λ store. failed store ≡ false) }
+        ensures others { (S.disk shelf.old).honest → Within (area topic) (λ c. Unit {0}) (S.disk shelf.old) (S.disk shelf.new) }
+        ensures cause { IsErr result → Failed (S.disk shelf.old) (S.disk shelf.new) }
+        ensures kept { Counted (S.disk shelf.old) (S.disk shelf.new) };
+
+    /// Opens the store of a topic whose ledger has so many entries, whatever a crash left of its files. They are synced
+    /// first, so what is read stays. Where the files stand for subscriptions, these are opened, unless there is no memory
+    /// or the device fails.
+    fn open<S: Shelf>(
+        alloc: Global,
+        shelf: &mut S,
+        topic: u16,
+        entries: u64,
+    ) -> Result<Self, Refusal>
+        requires { entries ≤ 2 ^ 62 }
+        ensures opened { (kept : Kept) → (S.disk shelf.old).honest → stands topic entries (S.disk shelf.old).seen kept →
+            IfOk result (λ store. Settled (holds store entries) (written store) (S.disk shelf.new) kept) }
+        ensures refused { (kept : Kept) → (S.disk shelf.old).honest → stands topic entries (S.disk shelf.old).seen kept →
+            IfErr result (λ e. (e ≡ Refusal.NoMemory) ⊎ ((e ≡ Refusal.Device) × Failed (S.disk shelf.old) (S.disk shelf.new))) }
+        ensures settled { (S.disk shelf.old).honest → IfOk result (λ store. Settled (holds store entries) (written store) (S.disk shelf.new) (content store)) }
+        ensures topic { IfOk result (λ store. topic_of store ≡ topic) }
+        ensures works { IfOk result (λ store. failed store ≡ false) }
+        ensures device { IsErrOf result Refusal.Device → Failed (S.disk shelf.old) (S.disk shelf.new) }
+
+        // What reads give stays, but of a file whose sync failed.
+        ensures seen { (S.disk shelf.old).honest → ¬ IsErrOf result Refusal.Device → Same (S.disk shelf.old).seen (S.disk shelf.new).seen }
+        ensures others { (S.disk shelf.old).honest → Agree (λ f. ¬ area topic f) (S.disk shelf.old).seen (S.disk shelf.new).seen }
+        // A crash at any moment leaves what it might have left before.
+        ensures any_moment { (S.disk shelf.old).honest → Leaves (S.disk shelf.old).may_leave (S.disk shelf.old) (S.disk shelf.new) }
+        ensures kept { Counted (S.disk shelf.old) (S.disk shelf.new) };
+
+    /// The topic whose subscriptions it has.
+    fn topic(&self) -> u16
+        ensures { result ≡ topic_of self.now };
+
+    /// Whether an append failed since the store was opened.
+    fn is_failed(&self) -> bool
+        ensures { result ≡ failed self.now };
+
+    /// What it remembers, with sets of their own, in the order of the names' bytes.
+    fn kept(&self) -> Result<Vec<KeptCursor>, AllocError>
+        ensures kept { IfOk result (λ cursors. each (λ (c : Cursor). (c.name, c.acked)) cursors.items ≡ map.entries (content self.now)) }
+        ensures few { IfOk result (λ cursors. length cursors.items ≤ 64) }
+        ensures named { IfOk result (λ cursors. AllByRecursion (λ c. is_subscription_name c.name ≡ true) cursors.items) };
+
+    /// Builds what an append of these records writes, and what the store keeps after it. Reaches no device.
+    fn prepare(&mut self, records: &[Record]) -> Result<Self::Prepared, Refusal>
+        requires some { 0 < length records.now }
+        requires formed { AreFormed (2 ^ 62) (content self.old) records.now }
+        ensures prepared { IfOk result (λ prepared. has_room self.new prepared × is_for self.new prepared records.now) }
+        ensures holds_still { (entries : ℕ) (c : Image) (kept : Kept) → holds self.old entries c kept → holds self.new entries c kept }
+        ensures written { (c : Image) → written self.new c ≡ written self.old c }
+        ensures content { content self.new ≡ content self.old }
+        ensures topic { topic_of self.new ≡ topic_of self.old }
+        ensures failed { failed self.new ≡ failed self.old }
+        ensures too_large { IsErrOf result Refusal.TooLarge ↔ (33554432 < length (body_of records.now)) }
+        ensures refusals { IfErr result (λ e. (e ≡ Refusal.TooLarge) ⊎ (e ≡ Refusal.NoMemory)) };
+
+    /// Writes what was prepared. Device calls alone, four of them. After an error the store is failed: each later append
+    /// answers it without a device call.
+    fn append_prepared<S: Shelf>(
+        &mut self,
+        shelf: &mut S,
+        prepared: Self::Prepared,
+    ) -> Result<(), DeviceError>
+        requires { has_room self.old prepared }
+        ensures added { (entries : ℕ) (kept : Kept) (records : List Record) → is_for self.old prepared records → AreFormed entries kept records → Settled (holds self.old entries) (written self.old) (S.disk shelf.old) kept →
+            OnOk result (Settled (holds self.new entries) (written self.new) (S.disk shelf.new) (after_all records kept)) }
+        ensures in_doubt { (entries : ℕ) (kept : Kept) (records : List Record) → is_for self.old prepared records → AreFormed entries kept records → Settled (holds self.old entries) (written self.old) (S.disk shelf.old) kept →
+            IsErr result → InDoubt (content self.new) (stands (topic_of self.old) entries) (S.disk shelf.new) kept records }
+
+        // A crash at any moment of the call leaves all the records or none, and other files as they were.
+        ensures within { (entries : ℕ) (kept : Kept) (records : List Record) → is_for self.old prepared records → AreFormed entries kept records → Settled (holds self.old entries) (written self.old) (S.disk shelf.old) kept →
+            Within (area (topic_of self.old)) (λ c. stands (topic_of self.old) entries c kept ⊎ stands (topic_of self.old) entries c (after_all records kept)) (S.disk shelf.old) (S.disk shelf.new) }
+
+        ensures content { (records : List Record) → is_for self.old prepared records → OnOk result (content self.new ≡ after_all records (content self.old)) }
+        ensures topic { topic_of self.new ≡ topic_of self.old }
+        ensures works { OnOk result (failed self.new ≡ false) }
+        ensures failed { IsErr result → failed self.new ≡ true }
+        ensures remembered { IsErr result → content self.new ≡ content self.old }
+        ensures stays_failed { failed self.old ≡ true → IsErr result × (shelf.new ≡ shelf.old) }
+        ensures cause { failed self.old ≡ false → IsErr result → Failed (S.disk shelf.old) (S.disk shelf.new) }
+        ensures kept { Counted (S.disk shelf.old) (S.disk shelf.new) };
+
+    // The store works where it holds subscriptions, and they are its content.
+    ghost holds_works: { (store : Self) (entries : ℕ) (image : Image) (kept : Kept) → holds store entries image kept → failed store ≡ false };
+
+    ghost holds_content: { (store : Self) (entries : ℕ) (image : Image) (kept : Kept) → holds store entries image kept → content store ≡ kept };
+
+    ghost holds_stands: { (store : Self) (entries : ℕ) (image : Image) (kept : Kept) → holds store entries image kept → stands (topic_of store) entries image kept };
+
+    // Its files stand for one map of subscriptions, and a longer ledger changes nothing.
+    ghost stands_one: { (t entries : ℕ) (image : Image) (one other : Kept) → entries ≤ 2 ^ 62 → stands t entries image one → stands t entries image other → one ≡ other };
+
+    ghost stands_longer: { (t entries more : ℕ) (image : Image) (kept : Kept) → entries ≤ more → stands t entries image kept → stands t more image kept };
+
+    ghost holds_longer: { (store : Self) (entries more : ℕ) (image : Image) (kept : Kept) → entries ≤ more → holds store entries image kept → holds store more image kept };
+
+    // It looks at its own files alone, which are slots.
+    ghost area_slots: { (t : ℕ) (f : FileId) → area t f → SlotsOf t f };
+
+    ghost stands_local: { (t entries : ℕ) (a b : Image) (kept : Kept) → Agree (area t) a b → stands t entries a kept → stands t entries b kept };
+
+    ghost holds_local: { (store : Self) (entries : ℕ) (a b : Image) (kept : Kept) → Agree (area (topic_of store)) a b → holds store entries a kept → holds store entries b kept };
+
+    ghost written_local: { (store : Self) (a b : Image) → Agree (area (topic_of store)) a b → written store b ≡ written store a };
+}
