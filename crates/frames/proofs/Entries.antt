@@ -1,5 +1,5 @@
 -- Reading what stands behind a command, and what an entry is, say the same.
-use Rattle.std.proofs.Common.{◌≡◌, ◌≤◌, ℕ, ◌+◌, ◌-◌, List, [], ◌∷◌, ◌++◌, length, take, drop, Result, Ok, Err, Bool, true, false, cond, nat_lt, nat_eq, ◌⊎◌, inl, inr, refl, ap, ◌∙◌, sym, subst, arith, append_assoc, length-append, length-drop}
+use Rattle.std.proofs.Common.{◌≡◌, ◌≤◌, ℕ, ◌+◌, ◌-◌, List, [], ◌∷◌, ◌++◌, length, take, drop, Result, Ok, Err, Bool, true, false, cond, nat_lt, nat_eq, ◌⊎◌, inl, inr, refl, ap, ◌∙◌, sym, subst, arith, append_assoc, append-nil, length-append, length-drop}
 use Rattle.std.proofs.lemmas.Bool.{cases_Bool, ltb-false, le-ltb, and_parts, eqb-true, false≢true}
 use Rattle.std.proofs.lemmas.List.{take-append-drop, length-take-le}
 use Rattle.std.proofs.Math.Seq.{take-append_seam, drop-append_seam}
@@ -14,7 +14,10 @@ use Rattle.frames.specs.declared.fault.Fault.TheVariants.{BadPayload}
 use Rattle.frames.specs.declared.frame.FrameEntry.{FrameEntry}
 use Rattle.frames.specs.declared.frame.FrameEntry.TheVariants.{Nothing, Checksummed, Entry}
 use Rattle.frames.specs.Frames.{IsChecksummed, HasMetadata, IsSendEntry, IsNothing, IsEntry}
-use Rattle.frames.specs.Reading.{◌>>=◌, read_as_metadata, is_checksummed, send_entry_of, nothing_of, entry_behind}
+use Rattle.frames.specs.declared.plain_entry.PlainEntry.{PlainEntry}
+use Rattle.frames.specs.Reading.{◌>>=◌, read_as_metadata, is_checksummed, plain_of, send_entry_of, nothing_of, entry_behind}
+use Rattle.std.specs.Result.{is_ok}
+use Rattle.std.proofs.Props.{props}
 
 -- which way a choice went
 pub chosen : {A : Type 0} (b : Bool) (x y z : A) → cond b x y ≡ z → ((b ≡ true) × (x ≡ z)) ⊎ ((b ≡ false) × (y ≡ z))
@@ -86,12 +89,47 @@ metadata-to bytes metadata h =
     let part : take (size_at bytes) (drop 4 bytes) ≡ h.meta = rw (size_is, behind) (take_front _ h.meta h.payload refl) in
     rw (a, b) (rw part h.meta_is)
 
+-- a plain entry has the bytes and the metadata that is read of them
+plain-from : (bytes : List ℕ) (r : Result MessageMeta CommandFault) (is : entry_of bytes ≡ r) (entry : FrameEntry) → plain_of bytes r is ≡ Ok entry →
+    (plain : PlainEntry) × (let left : Result FrameEntry Fault = Ok (Entry plain) in left ≡ Ok entry) × (plain.bytes ≡ bytes) × (entry_of bytes ≡ Ok plain.metadata)
+plain-from bytes (Ok metadata) is entry h = (record { bytes = bytes; metadata = metadata; readable = ap is_ok is }, h, refl, is)
+plain-from bytes (Err e) is entry h = cc
+
+abbrev plain : (bytes : List ℕ) (metadata : MessageMeta) → is_ok (entry_of bytes) ≡ true → Result FrameEntry Fault
+plain bytes metadata readable = Ok (Entry (record { bytes = bytes; metadata = metadata; readable = readable }))
+
+-- it is one with its bytes and its metadata
+same_plain : (b : List ℕ) (m : MessageMeta) (b' : List ℕ) (m' : MessageMeta) (r : is_ok (entry_of b) ≡ true) (r' : is_ok (entry_of b') ≡ true) → b ≡ b' → m ≡ m' → plain b m r ≡ plain b' m' r'
+same_plain b m b' m' r r' bytes metadata =
+    let one : IsProp (is_ok (entry_of b) ≡ true) = hlevel props in
+    let P : List ℕ → Type 0 = λ x. (q : is_ok (entry_of x) ≡ true) → plain b m r ≡ plain x m q in
+    let here : P b = λ q. ap (λ (z : is_ok (entry_of b) ≡ true). plain b m z) (one r q) in
+    subst P bytes here r' ∙ ap (λ (x : MessageMeta). plain b' x r') metadata
+
+-- and there is one of these bytes and this metadata
+pub plain-to : (bytes : List ℕ) (r : Result MessageMeta CommandFault) (is : entry_of bytes ≡ r) (p : PlainEntry) → p.bytes ≡ bytes → entry_of bytes ≡ Ok p.metadata →
+    plain_of bytes r is ≡ Ok (Entry p)
+plain-to bytes (Ok metadata) is p same read =
+    let e : metadata ≡ p.metadata = let k = sym is ∙ read in cc in
+    same_plain bytes metadata p.bytes p.metadata (ap is_ok is) p.readable (sym same) e
+plain-to bytes (Err e) is p same read = let k = sym is ∙ read in cc
+
+same_entry : (e f : FrameEntry) → (let left : Result FrameEntry Fault = Ok e in left ≡ Ok f) → e ≡ f
+same_entry e f h = cc
+
 read_as_metadata-ok : (r : Result MessageMeta CommandFault) (metadata : MessageMeta) → read_as_metadata r ≡ Ok metadata → r ≡ Ok metadata
 read_as_metadata-ok (Ok x) metadata h = let e : x ≡ metadata = cc in ap (λ z. Ok z) e
 read_as_metadata-ok (Err e) metadata h = cc
 
-same_entry : (e f : FrameEntry) → (let left : Result FrameEntry Fault = Ok e in left ≡ Ok f) → e ≡ f
-same_entry e f h = cc
+-- a slice up to the end is what is left
+pub behind-is : (n : ℕ) (xs ys : List ℕ) → xs ≡ ys → take (length xs - n) (drop n xs) ≡ drop n ys
+behind-is n xs ys e =
+    ap (λ l. take (length xs - n) l) (sym (append-nil (drop n xs))) ∙ take_front (length xs - n) (drop n xs) [] (length-drop n xs) ∙ ap (drop n) e
+
+-- so it is what stands behind a SEND
+pub plain-sent : (bytes : List ℕ) (p : PlainEntry) → is_checksummed bytes ≡ false → p.bytes ≡ bytes → read_as_metadata (entry_of bytes) ≡ Ok p.metadata → send_entry_of bytes ≡ Ok (Entry p)
+unfolding send_entry_of
+plain-sent bytes p plain same read = rw plain (plain-to bytes (entry_of bytes) refl p same (read_as_metadata-ok (entry_of bytes) p.metadata read))
 
 send-from : (bytes : List ℕ) (entry : FrameEntry) → send_entry_of bytes ≡ Ok entry → IsSendEntry bytes entry
 unfolding send_entry_of
@@ -100,19 +138,18 @@ send-from bytes entry h =
     elim (chosen (is_checksummed bytes) _ _ _ h) [
       | inl p ↦ subst P (same_entry Checksummed entry p.1) (checksum-from bytes p.0)
       | inr p ↦
-          let metadata = bind_ok (read_as_metadata (entry_of bytes)) _ _ p.1 in
-          let found = metadata-from bytes metadata.0 (read_as_metadata-ok (entry_of bytes) metadata.0 metadata.1) in
-          subst P (same_entry (Entry bytes metadata.0) entry metadata.2) (λ k. false≢true (sym p.0 ∙ checksum-to bytes k), refl, found)
+          let found = plain-from bytes (entry_of bytes) refl entry p.1 in
+          subst P (same_entry (Entry found.0) entry found.1) (λ k. false≢true (sym p.0 ∙ checksum-to bytes k), found.2, metadata-from bytes found.0.metadata found.3)
     ]
 
 send-to : (bytes : List ℕ) (entry : FrameEntry) → IsSendEntry bytes entry → send_entry_of bytes ≡ Ok entry
 unfolding send_entry_of
 send-to bytes Nothing h = absurd h
 send-to bytes Checksummed h = rw (checksum-to bytes h) refl
-send-to bytes (Entry content metadata) h =
+send-to bytes (Entry entry) h =
     elim (cases_Bool (is_checksummed bytes)) [
       | inl so ↦ absurd (h.0 (checksum-from bytes so))
-      | inr not_so ↦ rw not_so (rw (metadata-to bytes metadata h.2) (ap (λ b. Ok (Entry b metadata)) (sym h.1)))
+      | inr not_so ↦ rw not_so (plain-to bytes (entry_of bytes) refl entry h.1 (metadata-to bytes entry.metadata h.2))
     ]
 
 send-fault : (bytes : List ℕ) (fault : Fault) → send_entry_of bytes ≡ Err fault → fault ≡ BadPayload
@@ -120,12 +157,12 @@ unfolding send_entry_of
 send-fault bytes fault h =
     elim (chosen (is_checksummed bytes) _ _ _ h) [
       | inl p ↦ cc
-      | inr p ↦ read (entry_of bytes) p.1
+      | inr p ↦ read (entry_of bytes) refl p.1
     ]
   where
-    read : (r : Result MessageMeta CommandFault) → (read_as_metadata r >>= λ metadata. Ok (Entry bytes metadata)) ≡ Err fault → fault ≡ BadPayload
-    read (Ok x) k = cc
-    read (Err e) k = cc
+    read : (r : Result MessageMeta CommandFault) (is : entry_of bytes ≡ r) → plain_of bytes r is ≡ Err fault → fault ≡ BadPayload
+    read (Ok x) is k = cc
+    read (Err e) is k = cc
 
 no_bytes : (bytes : List ℕ) → length bytes ≡ 0 → bytes ≡ []
 no_bytes [] h = refl

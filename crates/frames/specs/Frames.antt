@@ -43,7 +43,7 @@ pub record HasMetadata (entry : List ℕ) (metadata : MessageMeta) : Type 0 wher
 abbrev pub IsSendEntry : List ℕ → FrameEntry → Type 0
 IsSendEntry behind Nothing = ⊥
 IsSendEntry behind Checksummed = IsChecksummed behind
-IsSendEntry behind (Entry bytes metadata) = ¬ IsChecksummed behind × (bytes ≡ behind) × HasMetadata behind metadata
+IsSendEntry behind (Entry entry) = ¬ IsChecksummed behind × (entry.bytes ≡ behind) × HasMetadata behind entry.metadata
 
 -- behind another client command there is nothing
 abbrev pub IsNothing : List ℕ → FrameEntry → Type 0

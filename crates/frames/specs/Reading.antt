@@ -1,9 +1,12 @@
 -- How a frame is read, step by step.
 use Rattle.std.specs.Prelude.{◌≡◌, ◌≢◌, ◌≤◌, ℕ, ◌+◌, List, length, take, drop, Result, Ok, Err, Bool, nat_lt, ◌==◌, ◌&&◌, slice_index, if◌then◌else◌}
 use Rattle.std.specs.Bool.{MatchBool}
+use Rattle.std.specs.Result.{is_ok}
+use Rattle.std.proofs.Common.{refl, ap}
 use Rattle.commands.specs.declared.command.Command.{Command}
 use Rattle.commands.specs.declared.command.Command.TheVariants.{Connect, Subscribe, Producer, Send, Ack, Flow, Ping, Pong, Other}
 use Rattle.commands.specs.declared.fault.CommandFault.{CommandFault}
+use Rattle.commands.specs.declared.metadata.MessageMeta.{MessageMeta}
 use Rattle.commands.specs.declared.fault.CommandFault.TheVariants as command
 use Rattle.commands.specs.Commands.{command_of}
 use Rattle.commands.specs.Metadata.{size_at, entry_of}
@@ -51,9 +54,14 @@ Reads (Err NoMemory) read = Unit {0}
 abbrev pub is_checksummed : List ℕ → Bool
 is_checksummed bytes = slice_index bytes 0 == 14 && slice_index bytes 1 == 1
 
+-- an entry that isn't checksummed, where its metadata is read
+abbrev pub plain_of : (behind : List ℕ) (read : Result MessageMeta CommandFault) → entry_of behind ≡ read → Result FrameEntry Fault
+plain_of behind (Ok metadata) is = Ok (Entry (record { bytes = behind; metadata = metadata; readable = ap is_ok is }))
+plain_of behind (Err e) is = Err BadPayload
+
 -- what stands behind a SEND
 unfoldable pub send_entry_of : List ℕ → Result FrameEntry Fault
-send_entry_of behind = if is_checksummed behind then Ok Checksummed else (read_as_metadata (entry_of behind) >>= λ metadata. Ok (Entry behind metadata))
+send_entry_of behind = if is_checksummed behind then Ok Checksummed else plain_of behind (entry_of behind) refl
 
 -- what stands behind another client command
 abbrev pub nothing_of : List ℕ → Result FrameEntry Fault

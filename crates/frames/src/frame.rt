@@ -1,5 +1,5 @@
-use bytes::Bytes;
-use commands::{Command, MessageMeta};
+use crate::plain_entry::PlainEntry;
+use commands::Command;
 
 /// What stands behind a command in its frame.
 #[derive(Drop)]
@@ -8,9 +8,8 @@ pub enum FrameEntry {
     Nothing,
     /// An entry with a checksum, which isn't read.
     Checksummed,
-    /// Metadata size, metadata and payload as they stand, and the metadata that was read. The
-    /// bytes share their memory with no other frame.
-    Entry { bytes: Bytes, metadata: MessageMeta },
+    /// An entry, and the metadata that was read of it.
+    Entry(PlainEntry),
 }
 
 /// A whole frame of a client (Pulsar binary protocol, Framing).

@@ -7,6 +7,7 @@ mod fault;
 mod frame;
 mod laws;
 mod parser;
+mod plain_entry;
 mod reading;
 mod writing;
 
@@ -14,4 +15,5 @@ pub use fault::Fault;
 pub use frame::{Frame, FrameEntry};
 pub use laws::{any_cut, one_reading, written_frames};
 pub use parser::Parser;
+pub use plain_entry::PlainEntry;
 pub use writing::write_frame;

@@ -1,10 +1,11 @@
 ghost use Rattle.std.specs.Prelude.{◌≡◌, ◌≤◌, ◌<◌, ◌+◌, length, drop};
 ghost use Rattle.commands.specs.Metadata.{size_at, entry_of};
 ghost use Rattle.frames.specs.Streams.{IsUnfinished};
-ghost use Rattle.frames.specs.Reading.{Reads, Judges, IsWhole, EndsWithin, needed, read_as_metadata, send_entry_of, nothing_of, entry_behind, frame_of};
+ghost use Rattle.frames.specs.Reading.{Reads, Judges, IsWhole, EndsWithin, needed, read_as_metadata, is_checksummed, send_entry_of, nothing_of, entry_behind, frame_of};
 
 use crate::fault::Fault;
 use crate::frame::{Frame, FrameEntry};
+use crate::plain_entry::PlainEntry;
 use bytes::Bytes;
 use commands::{Command, CommandFault, MessageMeta, read_command, read_entry, size_at};
 use std::alloc::Global;
@@ -61,6 +62,13 @@ fn entry_metadata(alloc: Global, entry: &[u8]) -> Result<MessageMeta, Fault>
     }
 }
 
+/// Whether two bytes tell that a checksum comes.
+fn is_checksummed(behind: &[u8]) -> bool
+    ensures { result ≡ is_checksummed behind.now }
+{
+    behind.len() >= 2 && behind[0] == 0x0e && behind[1] == 0x01
+}
+
 /// The entry that begins at `start`, over the memory of the frame.
 #[tactic(auto, unfolding(crate::specs::Reading::send_entry_of))]
 fn send_entry(alloc: Global, frame: Vec<u8>, start: usize) -> Result<FrameEntry, Fault>
@@ -68,13 +76,13 @@ fn send_entry(alloc: Global, frame: Vec<u8>, start: usize) -> Result<FrameEntry,
     ensures { Reads result (send_entry_of (drop start frame.items)) }
 {
     let behind = &frame[start..];
-    if behind.len() >= 2 && behind[0] == 0x0e && behind[1] == 0x01 {
+    if is_checksummed(behind) {
         return Ok(FrameEntry::Checksummed);
     }
     let metadata = entry_metadata(alloc, behind)?;
     let mut bytes = Bytes::from_vec(frame)?;
     bytes.advance(start);
-    Ok(FrameEntry::Entry { bytes, metadata })
+    Ok(FrameEntry::Entry(PlainEntry { bytes, metadata }))
 }
 
 fn nothing(behind: &[u8]) -> Result<FrameEntry, Fault>

@@ -1,5 +1,5 @@
 use commands::{Command, MessageId, Reply, ReplyText, ServerError};
-use frames::{Fault, Frame, FrameEntry, Parser, write_frame};
+use frames::{Fault, Frame, FrameEntry, Parser, PlainEntry, write_frame};
 use std::alloc::{AllocError, Global};
 use std::process::Abort;
 use std::test::Fail;
@@ -115,7 +115,7 @@ fn is_plain(frame: &Frame, kind: u8, behind: &[u8]) -> bool {
     let same_entry = match &frame.entry {
         FrameEntry::Nothing => behind.is_empty(),
         FrameEntry::Checksummed => behind.starts_with(&[0x0e, 0x01]),
-        FrameEntry::Entry { bytes, .. } => bytes.as_slice() == behind,
+        FrameEntry::Entry(entry) => entry.bytes.as_slice() == behind,
     };
     same_kind && same_entry
 }
@@ -242,7 +242,7 @@ fn entry_as_it_stands(rt: HostRuntime) -> Result<(), Fail> {
         return Ok(());
     };
     assert_eq!(rt; send.producer_id, 1);
-    let FrameEntry::Entry { bytes, metadata } = &frames[0].entry else {
+    let FrameEntry::Entry(PlainEntry { bytes, metadata }) = &frames[0].entry else {
         assert!(rt; false, "no entry");
         return Ok(());
     };

@@ -1,29 +1,33 @@
--- A run of a new node accounts for what it wrote.
-use Rattle.std.proofs.Common.{◌≡◌, ℕ, zero, suc, ◌<◌, ◌+◌, ◌≤◌, List, length, refl, sym, subst}
-use Rattle.topic_core.specs.Core.{Topic, next_position, receipts_due}
+-- Each life of a node accounts for what its sessions were told.
+use Rattle.std.proofs.Common.{◌≡◌, ℕ, zero, suc, ◌<◌, ◌+◌, ◌≤◌, false, List, length, refl, sym, subst}
+use Rattle.std.specs.List.{AllByRecursion}
+use Rattle.topic_core.specs.Core.{Topic, receipts_due}
 use Rattle.topic_core.specs.Soundness.{IsSoundTopic}
 use Rattle.session.specs.Broker.{fresh, topic_at}
-use Rattle.node.specs.State.{State, fresh_broker, fresh_state}
-use Rattle.node.specs.Runs.{Run}
-use Rattle.node.specs.Moves.{Handed}
-use Rattle.node.specs.Telling.{Course, receipts_told, from_topic, bytes_of}
+use Rattle.node.specs.State.{fresh_broker}
+use Rattle.node.specs.Runs.{Life, AllowedRun}
+use Rattle.node.specs.Moves.{Handed, is_crash}
+use Rattle.node.specs.Telling.{Course, receipts_told, from_topic}
 use Rattle.node.specs.Finding.{sends_by, FindsEach, IsQuiet}
 use Rattle.node.specs.Delivering.{DeliversEach}
-use Rattle.node.specs.Laws.{Account, Accounts}
-use Rattle.node.specs.declared.event.Event.{Event}
+use Rattle.node.specs.Laws.{Account, Accounts, IsAtStart}
+use Rattle.node.specs.declared.event.Happening.{Happening}
 use Rattle.node.specs.declared.event.Output.{Output}
 use Rattle.node.proofs.Sound.{moves_sound, fresh_broker_sound}
-use Rattle.node.proofs.Publishing.{moves_publish, moves_covered}
-use Rattle.node.proofs.Finding.{moves_found}
+use Rattle.node.proofs.Covering.{moves_covered}
+use Rattle.node.proofs.Finding.{moves_found, moves_publish}
 use Rattle.node.proofs.Delivering.{moves_delivered}
-use Rattle.node.proofs.Unfolding.{run_unfolds}
+use Rattle.node.proofs.Unfolding.{life_unfolds}
 
 fresh_quiet : (n : ℕ) → IsQuiet (fresh n)
-fresh_quiet n = record { queues = refl; counted = refl }
+fresh_quiet n = record { queues = refl; waiting = refl; counted = refl }
 
 quiet_at : (n number : ℕ) → IsQuiet (topic_at (fresh_broker n) number)
 quiet_at n zero = fresh_quiet n
 quiet_at n (suc number) = fresh_quiet n
+
+pub fresh_at_start : (n : ℕ) → 0 < n → IsAtStart (fresh_broker n)
+fresh_at_start n some = record { sound = fresh_broker_sound n some; quiet = quiet_at n }
 
 account : (t : Topic) (told : List Handed) (u : Topic) → Course t told u → IsSoundTopic t → IsQuiet t → Account t told u
 account t told u course sound quiet = record {
@@ -31,18 +35,21 @@ account t told u course sound quiet = record {
   steps = course.steps;
   tells = course.tells;
   sound = moves_sound t course.moves u course.steps sound;
-  published = moves_publish t course.moves u course.steps;
-  covered = subst (λ (hs : List Handed). receipts_told hs + receipts_due u.core.queues ≤ length u.ledger) (sym course.tells) (moves_covered t course.moves u course.steps sound);
-  found = subst (λ (hs : List Handed). FindsEach (sends_by t.core.per_ledger (next_position t.core) course.moves) u.ledger hs) (sym course.tells) (moves_found t course.moves u course.steps quiet);
+  published = moves_publish t course.moves u course.steps quiet;
+  covered = λ (none : AllByRecursion (λ move. is_crash move ≡ false) course.moves).
+      subst (λ (hs : List Handed). receipts_told hs + receipts_due u.core.queues ≤ length u.ledger) (sym course.tells) (moves_covered t course.moves u course.steps none sound);
+  found = subst (λ (hs : List Handed). FindsEach (sends_by t course.moves u course.steps) u.ledger hs) (sym course.tells) (moves_found t course.moves u course.steps quiet);
   delivered = subst (λ (hs : List Handed). DeliversEach t course.moves u.ledger hs) (sym course.tells) (moves_delivered t course.moves u course.steps quiet);
 }
 
-pub new_nodes_account : (n : ℕ) (events : List Event) (outputs : List Output) (new : State) → 0 < n → Run (fresh_state n) events outputs new → Accounts (fresh_broker n) (bytes_of outputs) new.broker
-new_nodes_account n events outputs new some run =
-    let u = run_unfolds (fresh_state n) events outputs new run in
+pub life_accounts : (old : Life) (happenings : List Happening) (outputs : List Output) (new : Life) → AllowedRun old happenings outputs new → IsAtStart old.state.broker
+    → Accounts old.state.broker happenings outputs new.state.broker
+life_accounts old happenings outputs new run start =
+    let u = life_unfolds old happenings outputs new run in
     record {
       said = u.said;
-      written = u.written;
+      spells = u.spells;
       at_once = u.at_once;
-      each = λ number. account (topic_at (fresh_broker n) number) (from_topic number u.said) (topic_at new.broker number) (u.each number) (fresh_broker_sound n some number) (quiet_at n number);
+      each = λ number.
+          account (topic_at old.state.broker number) (from_topic number u.said) (topic_at new.state.broker number) (u.each number) (start.sound number) (start.quiet number);
     }

@@ -1,5 +1,5 @@
 -- What every move respects, every run of moves respects.
-use Rattle.std.proofs.Common.{◌≡◌, List, [], ◌∷◌, sym, subst}
+use Rattle.std.proofs.Common.{List, [], ◌∷◌, sym, subst}
 use Rattle.topic_core.specs.Core.{Topic}
 use Rattle.node.specs.Moves.{Move, MoveStep, Moves}
 

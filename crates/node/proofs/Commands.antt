@@ -1,8 +1,9 @@
 -- What a command leaves of a core, by its answer.
-use Rattle.std.proofs.Common.{◌≡◌, ◌⊎◌, inl, inr, ◌∙◌, ℕ, Bool, true, false, cond, Option, Some, None, Result, Ok, Err, List, refl, sym, ap, subst}
+use Rattle.std.proofs.Common.{◌≡◌, ◌⊎◌, inl, inr, ℕ, Bool, true, false, cond, Option, Some, None, Result, Ok, Err, List, refl, sym, subst}
 use Rattle.commands.specs.declared.reply.Reply.{Reply}
 use Rattle.commands.specs.declared.reply.Reply.TheVariants.{ProducerSuccess, SendError, Success, Error, AckResponse}
 use Rattle.commands.specs.declared.server_error.ServerError.{ServerError}
+use Rattle.commands.specs.declared.server_error.ServerError.TheVariants.{PersistenceError}
 use Rattle.topic_core.specs.declared.command.Answer.{Answer}
 use Rattle.topic_core.specs.declared.command.Answer.TheVariants.{Now, Later, Nothing, NoMemory}
 use Rattle.topic_core.specs.declared.command.Send.{Send}
@@ -10,13 +11,15 @@ use Rattle.topic_core.specs.declared.command.TopicCommand.TheVariants as asked
 use Rattle.topic_core.specs.declared.command.Subscribe.{Subscribe}
 use Rattle.topic_core.specs.declared.command.Ack.{Ack}
 use Rattle.topic_core.specs.Core.{Core}
-use Rattle.topic_core.specs.Replies.{SessionReplies, queued}
+use Rattle.reply_queues.specs.Replies.{queued}
 use Rattle.holds.specs.declared.consumer.ConsumerKey.{ConsumerKey}
 use Rattle.subscriptions.specs.State.{Subscriptions}
 use Rattle.subscriptions.specs.Steps as subscriptions
 use Rattle.subscriptions.specs.declared.consumer.TooManyPermits.{TooManyPermits}
 use Rattle.topic_core.specs.Dispatch.{sent}
-use Rattle.topic_core.specs.Steps.{Outcome, GrantStep, key_of, CoreStep, Meets, refused_or, first_standing, producer_refusals, send_refusals, subscribe_refusal, ack_refusals, ack_refused, ack_accepted, with_producer, accepted, subscribed, bytes_of}
+use Rattle.topic_core.specs.Steps.{Outcome, GrantStep, key_of, CoreStep, Meets, refused_or, first_standing, producer_refusals, send_refusals, subscribe_refusal, attach_refusal, ack_refusals, ack_refused, ack_accepted, with_producer, accepted, subscribed, bytes_of}
+use Rattle.topic_core.proofs.Sends.{takes_entry}
+use Rattle.topic_core.proofs.Subscribing.{accepts}
 use Rattle.node.specs.Telling.{IsAtOnce}
 
 not_later : (r : Reply) → Now r ≡ Later → ⊥
@@ -61,23 +64,27 @@ refused_core t who send r u step = now_cases (first_standing (send_refusals t wh
 later_cases : (o : Option ServerError) (t : Core) (who : ℕ) (send : Send) (u : Core)
     → Later ≡ (refused_or o (λ error. Now (SendError send.producer_id send.sequence_id error)) t (record { answer = Later; core = accepted t who send.producer_id send.sequence_id (bytes_of send.entry) })).answer
     → u ≡ (refused_or o (λ error. Now (SendError send.producer_id send.sequence_id error)) t (record { answer = Later; core = accepted t who send.producer_id send.sequence_id (bytes_of send.entry) })).core
-    → u ≡ accepted t who send.producer_id send.sequence_id (bytes_of send.entry)
-later_cases None t who send u answer is = is
+    → (o ≡ None) × (u ≡ accepted t who send.producer_id send.sequence_id (bytes_of send.entry))
+later_cases None t who send u answer is = (refl, is)
 later_cases (Some e) t who send u answer is = absurd (not_now (SendError send.producer_id send.sequence_id e) answer)
 
-pub accepted_core : (t : Core) (who : ℕ) (send : Send) (u : Core) → CoreStep t who (asked.Send send) Later u → u ≡ accepted t who send.producer_id send.sequence_id (bytes_of send.entry)
-accepted_core t who send u step = later_cases (first_standing (send_refusals t who send)) t who send u step.0 step.1
+-- a SEND is accepted by a topic that works
+pub accepted_core : (t : Core) (who : ℕ) (send : Send) (u : Core) → CoreStep t who (asked.Send send) Later u → (t.failed ≡ false) × (u ≡ accepted t who send.producer_id send.sequence_id (bytes_of send.entry))
+accepted_core t who send u step =
+    let cases = later_cases (first_standing (send_refusals t who send)) t who send u step.0 step.1 in
+    ((takes_entry t who send cases.0).0, cases.1)
 
--- a session's command leaves the entries as they are, and may leave it one more reply that awaits a flush
+-- a session's command leaves the entries as they are; a topic that works may then owe the session one more reply
 pub record Awaits (who : ℕ) (t u : Core) : Type 0 where
   pub per_ledger : u.per_ledger ≡ t.per_ledger
   pub committed : u.committed ≡ t.committed
   pub waiting : u.waiting ≡ t.waiting
   pub handed : u.handed ≡ t.handed
-  pub queues : (u.queues ≡ t.queues) ⊎ ((r : Reply) × IsAtOnce r × (u.queues ≡ queued who r t.queues))
+  pub failed : u.failed ≡ t.failed
+  pub queues : (u.queues ≡ t.queues) ⊎ ((r : Reply) × IsAtOnce r × (t.failed ≡ false) × (u.queues ≡ queued who r t.queues))
 
 awaits_nothing : (who : ℕ) (t : Core) → Awaits who t t
-awaits_nothing who t = record { per_ledger = refl; committed = refl; waiting = refl; handed = refl; queues = inl refl }
+awaits_nothing who t = record { per_ledger = refl; committed = refl; waiting = refl; handed = refl; failed = refl; queues = inl refl }
 
 -- by its outcome
 awaits_by : (who : ℕ) (outcome : Outcome) (t : Core) (a : Answer) (u : Core) → Awaits who t outcome.core → Meets outcome t a u → Awaits who t u
@@ -86,34 +93,53 @@ awaits_by who outcome t Nothing u h step = subst (λ (x : Core). Awaits who t x)
 awaits_by who outcome t (Now r) u h step = subst (λ (x : Core). Awaits who t x) (sym step.1) h
 awaits_by who outcome t Later u h step = subst (λ (x : Core). Awaits who t x) (sym step.1) h
 
-refused_awaits : (who : ℕ) (o : Option ServerError) (refused : ServerError → Answer) (t : Core) (effect : Outcome) → Awaits who t effect.core → Awaits who t (refused_or o refused t effect).core
-refused_awaits who None refused t effect h = h
+refused_awaits : (who : ℕ) (o : Option ServerError) (refused : ServerError → Answer) (t : Core) (effect : Outcome) → (o ≡ None → Awaits who t effect.core) → Awaits who t (refused_or o refused t effect).core
+refused_awaits who None refused t effect h = h refl
 refused_awaits who (Some e) refused t effect h = awaits_nothing who t
 
-pub subscribe_core : (a : Answer) (t : Core) (who : ℕ) (subscribe : Subscribe) (u : Core) → CoreStep t who (asked.Subscribe subscribe) a u → Awaits who t u
-subscribe_core a t who subscribe u step = awaits_by who _ t a u
-    (refused_awaits who (subscribe_refusal t subscribe) (λ error. Now (Error subscribe.request_id error)) t (record { answer = Later; core = subscribed t who subscribe })
-    (record { per_ledger = refl; committed = refl; waiting = refl; handed = refl; queues = inr (Success subscribe.request_id, record { no_receipt = refl; no_message = refl }, refl) }))
-    step
+not_none : (e : ServerError) → Some e ≡ None → ⊥
+not_none e is = cc
 
-accepted_awaits : (request : Option ℕ) (t : Core) (who : ℕ) (ack : Ack) → Awaits who t (ack_accepted t who ack request).core
-accepted_awaits None t who ack = record { per_ledger = refl; committed = refl; waiting = refl; handed = refl; queues = inl refl }
-accepted_awaits (Some request) t who ack = record {
+no_first : (b : Bool) (e : ServerError) (o : Option ServerError) → cond b (Some e) o ≡ None → b ≡ false
+no_first true e o h = absurd (not_none e h)
+no_first false e o h = refl
+
+subscribed_awaits : (t : Core) (who : ℕ) (subscribe : Subscribe) → t.failed ≡ false → Awaits who t (subscribed t who subscribe)
+subscribed_awaits t who subscribe works = record {
   per_ledger = refl;
   committed = refl;
   waiting = refl;
   handed = refl;
-  queues = inr (AckResponse ack.consumer_id None request, record { no_receipt = refl; no_message = refl }, refl);
+  failed = refl;
+  queues = inr (Success subscribe.request_id, record { no_receipt = refl; no_message = refl }, works, refl);
+}
+
+pub subscribe_core : (a : Answer) (t : Core) (who : ℕ) (subscribe : Subscribe) (u : Core) → CoreStep t who (asked.Subscribe subscribe) a u → Awaits who t u
+subscribe_core a t who subscribe u step = awaits_by who _ t a u
+    (refused_awaits who (subscribe_refusal t subscribe) (λ error. Now (Error subscribe.request_id error)) t (record { answer = Later; core = subscribed t who subscribe })
+    (λ none. subscribed_awaits t who subscribe (no_first t.failed PersistenceError (attach_refusal t subscribe) none)))
+    step
+
+accepted_awaits : (request : Option ℕ) (t : Core) (who : ℕ) (ack : Ack) → t.failed ≡ false → Awaits who t (ack_accepted t who ack request).core
+accepted_awaits None t who ack works = record { per_ledger = refl; committed = refl; waiting = refl; handed = refl; failed = refl; queues = inl refl }
+accepted_awaits (Some request) t who ack works = record {
+  per_ledger = refl;
+  committed = refl;
+  waiting = refl;
+  handed = refl;
+  failed = refl;
+  queues = inr (AckResponse ack.consumer_id None request, record { no_receipt = refl; no_message = refl }, works, refl);
 }
 
 pub ack_core : (a : Answer) (t : Core) (who : ℕ) (ack : Ack) (u : Core) → CoreStep t who (asked.Ack ack) a u → Awaits who t u
 ack_core a t who ack u step = awaits_by who _ t a u
-    (refused_awaits who (first_standing (ack_refusals t who ack)) (ack_refused ack.consumer_id ack.request_id) t (ack_accepted t who ack ack.request_id) (accepted_awaits ack.request_id t who ack))
+    (refused_awaits who (first_standing (ack_refusals t who ack)) (ack_refused ack.consumer_id ack.request_id) t (ack_accepted t who ack ack.request_id)
+    (λ none. accepted_awaits ack.request_id t who ack (accepts t who ack none).works))
     step
 
 granted_by : (failed : Bool) (who : ℕ) (t : Core) (subs : Subscriptions) → Awaits who t (cond failed t (record t { subs = subs }))
 granted_by true who t subs = awaits_nothing who t
-granted_by false who t subs = record { per_ledger = refl; committed = refl; waiting = refl; handed = refl; queues = inl refl }
+granted_by false who t subs = record { per_ledger = refl; committed = refl; waiting = refl; handed = refl; failed = refl; queues = inl refl }
 
 -- so do permits
 pub granted_core : (result : Result (Unit {0}) TooManyPermits) (t : Core) (who id permits : ℕ) (u : Core) → GrantStep t who id permits result u → Awaits who t u
@@ -122,4 +148,4 @@ granted_core (Err why) t who id permits u step = subst (λ (x : Core). Awaits wh
 
 -- and a message
 pub sent_core : (who : ℕ) (t : Core) (key : ConsumerKey) (i : ℕ) (u : Core) → u ≡ sent t key i → Awaits who t u
-sent_core who t key i u is = subst (λ (x : Core). Awaits who t x) (sym is) (record { per_ledger = refl; committed = refl; waiting = refl; handed = refl; queues = inl refl })
+sent_core who t key i u is = subst (λ (x : Core). Awaits who t x) (sym is) (record { per_ledger = refl; committed = refl; waiting = refl; handed = refl; failed = refl; queues = inl refl })

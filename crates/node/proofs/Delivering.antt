@@ -1,25 +1,24 @@
 -- Each message that goes out was admitted, and is the entry of its position ever after.
-use Rattle.std.proofs.Common.{◌≡◌, ◌⊎◌, ⊎_elim, ◌∙◌, ℕ, Bool, true, false, not, Some, Result, Ok, Err, is_some, List, [], ◌∷◌, ◌++◌, map, filter, slice_get, refl, sym, ap, subst}
+use Rattle.std.proofs.Common.{◌≡◌, ◌⊎◌, inl, inr, ⊎_elim, ◌∙◌, ℕ, true, false, not, Some, List, [], ◌∷◌, ◌++◌, slice_get, refl, sym, ap, subst}
 use Rattle.commands.specs.declared.reply.Reply.{Reply}
+use Rattle.commands.specs.declared.reply.Reply.TheVariants.{Connected, ProducerSuccess, SendReceipt, SendError, Message, Success, Error, AckResponse, Pong}
 use Rattle.topic_core.specs.declared.command.Answer.{Answer}
 use Rattle.topic_core.specs.declared.command.Answer.TheVariants.{Now, Later, Nothing, NoMemory}
 use Rattle.topic_core.specs.declared.command.TopicCommand.{TopicCommand}
 use Rattle.topic_core.specs.declared.command.TopicCommand.TheVariants as asked
-use Rattle.topic_core.specs.declared.refusal.Refusal.{Refusal}
-use Rattle.topic_core.specs.declared.refusal.Refusal.TheVariants as refusal
 use Rattle.topic_core.specs.Core.{Core, Topic}
-use Rattle.topic_core.specs.Replies.{SessionReplies, is_for, due_to, queued, collected_from, make_all_due}
-use Rattle.topic_core.specs.Steps.{CoreStep, accepted, receipt, bytes_of}
-use Rattle.topic_core.specs.Flush.{FlushIn, FlushEnds}
+use Rattle.reply_queues.specs.Replies.{SessionReplies, is_for, due_to, refused}
+use Rattle.topic_core.specs.Steps.{CoreStep, receipt}
+use Rattle.topic_core.specs.Flush.{flushed_topic, failed_topic}
 use Rattle.topic_core.proofs.Keeps.{dispatch-admits}
-use Rattle.node.specs.Moves.{Handed, outgoing, Move, Command, Tell, Lose, Grant, Deliver, Miss, Leave, Flush, MoveStep, Moves, Takes, told_on, told_by}
+use Rattle.node.specs.Moves.{Handed, outgoing, Move, Command, Tell, Lose, Grant, Deliver, Miss, Leave, Flush, Reopen, Crash, MoveStep, Moves, Takes, told_on, told_by}
 use Rattle.node.specs.Telling.{is_message}
 use Rattle.node.specs.Finding.{IsQuiet}
-use Rattle.node.specs.Delivering.{IsDelivered, Delivers, DeliversEach}
-use Rattle.node.proofs.Carrying.{Respected, respects}
+use Rattle.node.specs.Delivering.{Delivers, DeliversEach}
 use Rattle.node.proofs.Commands.{Awaits, producer_core, refused_core, silent_core, accepted_core, subscribe_core, ack_core, granted_core, sent_core}
-use Rattle.node.proofs.Finding.{AllOwed, same_handed, stays, queued_owed, due_owed, collected_owed, filter_owed, all_due_owed}
-use Rattle.node.proofs.Publishing.{moves_publish}
+use Rattle.node.proofs.Endings.{flush_cases, reopen_cases, moves_grow}
+use Rattle.node.proofs.Owed.{AllOwed, queued_owed, due_owed, collected_owed, filter_owed, all_due_owed, all_refused_owed}
+use Rattle.node.proofs.Finding.{stays}
 
 -- no message is owed: those go out at once
 abbrev IsNoMessage : Handed → Type 0
@@ -34,7 +33,7 @@ same_queues t u is none = subst (λ (x : Core). OwesNone x.queues) (sym is) none
 awaits : (who : ℕ) (t u : Core) → Awaits who t u → OwesNone t.queues → OwesNone u.queues
 awaits who t u a none = ⊎_elim
     (λ same. subst OwesNone (sym same) none)
-    (λ more. subst OwesNone (sym more.2) (queued_owed IsNoMessage IsNoMessage who more.0 t.queues more.1.no_message none))
+    (λ more. subst OwesNone (sym more.3) (queued_owed IsNoMessage IsNoMessage who more.0 t.queues more.1.no_message none))
     a.queues
 
 commanded : (t : Core) (who : ℕ) (c : TopicCommand) (a : Answer) (u : Core) → CoreStep t who c a u → OwesNone t.queues → OwesNone u.queues
@@ -44,7 +43,7 @@ commanded t who (asked.Producer id request name) a u s none = ⊎_elim
     (producer_core a t who id request name u s)
 commanded t who (asked.Send send) (Now r) u s none = same_queues t u (refused_core t who send r u s) none
 commanded t who (asked.Send send) Later u s none =
-    subst (λ (x : Core). OwesNone x.queues) (sym (accepted_core t who send u s))
+    subst (λ (x : Core). OwesNone x.queues) (sym (accepted_core t who send u s).1)
     (queued_owed IsNoMessage IsNoMessage who (receipt t send.producer_id send.sequence_id) t.queues refl none)
 commanded t who (asked.Send send) Nothing u s none = same_queues t u (silent_core t who send u s) none
 commanded t who (asked.Send send) NoMemory u s none = same_queues t u s none
@@ -54,17 +53,25 @@ commanded t who (asked.Ack ack) a u s none = awaits who t u (ack_core a t who ac
 takes : (t u : Topic) (h : Handed) → Takes t h u → OwesNone t.core.queues → OwesNone u.core.queues
 takes t u h s none = subst (λ (x : Topic). OwesNone x.core.queues) (sym s.taken) (collected_owed IsNoMessage IsNoMessage h.session t.core.queues none)
 
-flush_ends : (t : Topic) (result : Result ℕ Refusal) (u : Topic) → FlushEnds t result u → OwesNone t.core.queues → OwesNone u.core.queues
-flush_ends t (Ok count) u s none =
-    subst (λ (x : Topic). OwesNone x.core.queues) (sym s.1) (all_due_owed IsNoMessage IsNoMessage IsNoMessage (λ h n. n) (λ h n. n) IsNoMessage t.core.queues none)
-flush_ends t (Err refusal.NoMemory) u s none = subst (λ (x : Topic). OwesNone x.core.queues) (sym s) none
-flush_ends t (Err refusal.Device) u s none = absurd s
+-- what a failure makes of a reply that is no message is none
+refused_none : (r : Reply) → is_message r ≡ false → is_message (refused r) ≡ false
+refused_none Connected isnt = refl
+refused_none (ProducerSuccess request_id name) isnt = refl
+refused_none (SendReceipt producer_id sequence_id id) isnt = refl
+refused_none (SendError producer_id sequence_id error) isnt = refl
+refused_none (Message consumer_id id redelivery_count) isnt = isnt
+refused_none (Success request_id) isnt = refl
+refused_none (Error request_id error) isnt = refl
+refused_none (AckResponse consumer_id error request_id) isnt = refl
+refused_none Pong isnt = refl
 
-flush_in : (failed under_way : Bool) (t : Topic) (result : Result ℕ Refusal) (u : Topic) → FlushIn failed under_way t result u → OwesNone t.core.queues → OwesNone u.core.queues
-flush_in true true t result u s none = subst (λ (x : Topic). OwesNone x.core.queues) (sym s.1) none
-flush_in true false t result u s none = subst (λ (x : Topic). OwesNone x.core.queues) (sym s.1) none
-flush_in false true t result u s none = subst (λ (x : Topic). OwesNone x.core.queues) (sym s.1) none
-flush_in false false t result u s none = flush_ends t result u s none
+flushes : (t u : Topic) → (u ≡ t) ⊎ ((u ≡ flushed_topic t) ⊎ (u ≡ failed_topic t)) → OwesNone t.core.queues → OwesNone u.core.queues
+flushes t u (inl is) none = subst (λ (x : Topic). OwesNone x.core.queues) (sym is) none
+flushes t u (inr (inl is)) none =
+    subst (λ (x : Topic). OwesNone x.core.queues) (sym is) (all_due_owed IsNoMessage IsNoMessage IsNoMessage (λ h n. n) (λ h n. n) IsNoMessage t.core.queues none)
+flushes t u (inr (inr is)) none =
+    subst (λ (x : Topic). OwesNone x.core.queues) (sym is)
+    (all_refused_owed IsNoMessage IsNoMessage IsNoMessage IsNoMessage (λ h n. n) (λ who r n. refused_none r n) t.core.queues none)
 
 moved : (t : Topic) (m : Move) (u : Topic) → MoveStep t m u → OwesNone t.core.queues → OwesNone u.core.queues
 moved t (Command who c a) u s none = commanded t.core who c a u.core s.core none
@@ -76,7 +83,12 @@ moved t (Deliver id h) u s none = awaits h.session t.core u.core (sent_core h.se
 moved t (Miss id h) u s none = awaits h.session t.core u.core (sent_core h.session t.core _ s.core.0 u.core s.core.1.sent) none
 moved t (Leave who) u s none =
     subst (λ (x : Topic). OwesNone x.core.queues) (sym s) (filter_owed IsNoMessage IsNoMessage (λ q. not (is_for who q)) t.core.queues none)
-moved t (Flush result) u s none = flush_in t.core.failed (is_some t.core.doubt) t result u s none
+moved t (Flush result) u s none = flushes t u (flush_cases t result u s) none
+moved t (Reopen result) u s none = ⊎_elim
+    (λ is. subst (λ (x : Topic). OwesNone x.core.queues) (sym is) none)
+    (λ again. subst (λ (x : Core). OwesNone x.queues) (sym again.core) none)
+    (reopen_cases t result u s)
+moved t Crash u s none = subst (λ (x : Core). OwesNone x.queues) (sym s.core) tt
 
 not_message : (r : Reply) → is_message r ≡ false → is_message r ≡ true → ⊥
 not_message r isnt is = cc
@@ -93,7 +105,7 @@ told_first t (Grant who id permits result) u ms v s rest none = tt
 told_first t (Deliver id h) u ms v s rest none = (
   λ is.
       let a = dispatch-admits t h.session id (outgoing h) u s in
-      let p = moves_publish u ms v rest in
+      let p = moves_grow u ms v rest in
       record {
         consumer = id;
         before = [];
@@ -112,6 +124,8 @@ told_first t (Deliver id h) u ms v s rest none = (
 told_first t (Miss id h) u ms v s rest none = tt
 told_first t (Leave who) u ms v s rest none = tt
 told_first t (Flush result) u ms v s rest none = tt
+told_first t (Reopen result) u ms v s rest none = tt
+told_first t Crash u ms v s rest none = tt
 
 -- one move before
 later : (t : Topic) (m : Move) (u : Topic) (ms : List Move) (ledger : List (List ℕ)) (h : Handed) → MoveStep t m u → Delivers u ms ledger h → Delivers t (m ∷ ms) ledger h

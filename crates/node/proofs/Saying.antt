@@ -1,14 +1,14 @@
 -- What unfolds one after another.
-use Rattle.std.proofs.Common.{◌≡◌, ◌⊎◌, ⊎_elim, ◌∙◌, ℕ, ◌<◌, Bool, true, false, cond, nat_eq, List, [], ◌∷◌, ◌++◌, length, get_or, set, get_or-set_other, get_or-set_same, refl, sym, ap, subst, append_assoc, append-nil}
+use Rattle.std.proofs.Common.{◌≡◌, ⊎_elim, ◌∙◌, ℕ, ◌<◌, Bool, true, false, cond, nat_eq, List, [], ◌∷◌, ◌++◌, length, get_or, set, get_or-set_other, get_or-set_same, refl, sym, ap, subst, append_assoc, append-nil}
 use Rattle.std.proofs.lemmas.Bool.Decides.{eqb_tells}
 use Rattle.std.proofs.lemmas.Grind.{flat_map-append}
 use Rattle.commands.specs.declared.reply.Reply.{Reply}
 use Rattle.topic_core.specs.declared.dispatch.Outgoing.{Outgoing}
 use Rattle.topic_core.specs.Core.{Topic}
-use Rattle.session.specs.Broker.{Broker, topic_at, with_topic, fresh}
+use Rattle.session.specs.Broker.{Broker, topic_at}
 use Rattle.session.specs.Client.{plain, frame_of, frames_of}
 use Rattle.node.specs.Moves.{Handed, Move, MoveStep, Moves, told_on, told_by}
-use Rattle.node.specs.Telling.{Said, AtOnce, From, outgoing_of, all_outgoing, from_topic, IsAtOnce, AnswersAreAtOnce, Course, Unfolds}
+use Rattle.node.specs.Telling.{Said, AtOnce, From, outgoing_of, all_outgoing, from_topic, IsAtOnce, AnswersAreAtOnce, AreFor, Course, Unfolds}
 
 -- moves, and then others
 pub Moves-append : (t : Topic) (first : List Move) (u : Topic) (then : List Move) (v : Topic) → Moves t first u → Moves u then v → Moves t (first ++ then) v
@@ -67,34 +67,40 @@ from_topic-append number (From other handed ∷ xs) ys =
     ap (λ (l : List Handed). cond (nat_eq other number) (handed ∷ l) l) (from_topic-append number xs ys)
     ∙ cond-append (nat_eq other number) handed (from_topic number xs) (from_topic number ys)
 
--- nothing goes out
-pub silently : (b c : Broker) → ((number : ℕ) → Course (topic_at b number) [] (topic_at c number)) → Unfolds b [] c
-silently b c each = record { said = []; written = refl; at_once = tt; each = each }
+pub for-append : (who : ℕ) (xs ys : List Said) → AreFor who xs → AreFor who ys → AreFor who (xs ++ ys)
+for-append who [] ys a b = b
+for-append who (AtOnce reply ∷ xs) ys a b = for-append who xs ys a b
+for-append who (From number handed ∷ xs) ys a b = (a.0, for-append who xs ys a.1 b)
 
-pub silent : (b : Broker) → Unfolds b [] b
-silent b = silently b b (λ number. still_course (topic_at b number))
+-- nothing goes out
+pub silently : (who : ℕ) (b c : Broker) → ((number : ℕ) → Course (topic_at b number) [] (topic_at c number)) → Unfolds who b [] c
+silently who b c each = record { said = []; written = refl; heard = tt; at_once = tt; each = each }
+
+pub silent : (who : ℕ) (b : Broker) → Unfolds who b [] b
+silent who b = silently who b b (λ number. still_course (topic_at b number))
 
 -- the same, of an equal broker and equal bytes
-pub becomes : (b c c' : Broker) (x y : List ℕ) → Unfolds b x c → y ≡ x → c' ≡ c → Unfolds b y c'
-becomes b c c' x y s bytes is = subst (λ (l : List ℕ). Unfolds b l c') (sym bytes) (subst (λ (d : Broker). Unfolds b x d) (sym is) s)
+pub becomes : (who : ℕ) (b c c' : Broker) (x y : List ℕ) → Unfolds who b x c → y ≡ x → c' ≡ c → Unfolds who b y c'
+becomes who b c c' x y s bytes is = subst (λ (l : List ℕ). Unfolds who b l c') (sym bytes) (subst (λ (d : Broker). Unfolds who b x d) (sym is) s)
 
-pub alike : (b c : Broker) (bytes : List ℕ) → bytes ≡ [] → c ≡ b → Unfolds b bytes c
-alike b c bytes none is = becomes b b c [] bytes (silent b) none is
+pub alike : (who : ℕ) (b c : Broker) (bytes : List ℕ) → bytes ≡ [] → c ≡ b → Unfolds who b bytes c
+alike who b c bytes none is = becomes who b b c [] bytes (silent who b) none is
 
 pub one_frame : (outgoing : Outgoing) → frame_of outgoing ≡ frames_of (outgoing ∷ [])
 one_frame outgoing = sym (append-nil (frame_of outgoing))
 
 -- a reply that is neither a receipt nor a message goes out
-pub at_once : (b c : Broker) (reply : Reply) → IsAtOnce reply → c ≡ b → Unfolds b (frame_of (plain reply)) c
-at_once b c reply may is = becomes b b c (frame_of (plain reply)) (frame_of (plain reply))
-    (record { said = AtOnce reply ∷ []; written = one_frame (plain reply); at_once = (may, tt); each = λ number. still_course (topic_at b number) }) refl is
+pub at_once : (who : ℕ) (b c : Broker) (reply : Reply) → IsAtOnce reply → c ≡ b → Unfolds who b (frame_of (plain reply)) c
+at_once who b c reply may is = becomes who b b c (frame_of (plain reply)) (frame_of (plain reply))
+    (record { said = AtOnce reply ∷ []; written = one_frame (plain reply); heard = tt; at_once = (may, tt); each = λ number. still_course (topic_at b number) }) refl is
 
-pub then : (a b c : Broker) (x y : List ℕ) → Unfolds a x b → Unfolds b y c → Unfolds a (x ++ y) c
-then a b c x y p q = record {
+pub then : (who : ℕ) (a b c : Broker) (x y : List ℕ) → Unfolds who a x b → Unfolds who b y c → Unfolds who a (x ++ y) c
+then who a b c x y p q = record {
   said = p.said ++ q.said;
   written =
       ap (λ (l : List ℕ). l ++ y) p.written ∙ ap (λ (l : List ℕ). frames_of (all_outgoing p.said) ++ l) q.written
       ∙ sym (flat_map-append (λ one. frame_of one) (all_outgoing p.said) (all_outgoing q.said)) ∙ ap (λ (l : List Outgoing). frames_of l) (sym (all_outgoing-append p.said q.said));
+  heard = for-append who p.said q.said p.heard q.heard;
   at_once = at_once-append p.said q.said p.at_once q.at_once;
   each = λ number.
       subst (λ (l : List Handed). Course (topic_at a number) l (topic_at c number)) (sym (from_topic-append number p.said q.said))

@@ -1,18 +1,26 @@
 -- Moves keep a topic sound.
-use Rattle.std.proofs.Common.{◌≡◌, ◌∙◌, ℕ, ◌<◌, ◌+◌, ◌≤◌, zero, suc, Some, Ok, List, [], ◌∷◌, ◌++◌, length, get_or, refl, sym, ap, subst, arith}
+use Rattle.std.proofs.Common.{◌≡◌, ◌∙◌, ℕ, ◌<◌, zero, suc, true, Option, None, Some, is_some, Ok, List, ◌∷◌, refl, sym, ap, subst, arith}
 use Rattle.std.specs.Ordering.{nat_cmp}
 use Rattle.std.specs.Cmp.Lexicographic.{slice_cmp}
 use Rattle.std.specs.FinMap as map
-use Rattle.topic_core.specs.Core.{Core, Topic, opened, receipts_due}
-use Rattle.topic_core.specs.Replies.{due_to}
-use Rattle.topic_core.specs.Steps.{Collects, collected, left, receipts_of}
+use Rattle.topic_core.specs.Core.{Topic}
+use Rattle.reply_queues.specs.Replies.{due_to}
+use Rattle.topic_core.specs.Steps.{Collects, collected}
 use Rattle.topic_core.specs.Soundness.{IsSoundTopic}
-use Rattle.topic_core.proofs.Keeps.{command-sound, grant-sound, dispatch-sound, flush-sound, collected-sound, leave-sound}
+use Rattle.topic_core.proofs.Keeps.{command-sound, grant-sound, dispatch-sound, flush-sound, reopen-sound, crash-sound, collected-sound, leave-sound}
 use Rattle.topic_core.proofs.Openings.{sound-opened, receipts-opened}
-use Rattle.session.specs.Broker.{Broker, fresh, topic_at, with_core, left_topic}
-use Rattle.node.specs.State.{fresh_broker}
-use Rattle.node.specs.Moves.{Handed, outgoing, Move, Command, Tell, Lose, Grant, Deliver, Miss, Leave, Flush, MoveStep, Moves, Takes, told_by}
-use Rattle.node.specs.Telling.{Unfolds, receipts_told}
+use Rattle.session.specs.Broker.{Broker, fresh, topic_at}
+use Rattle.subscriptions.specs.Laws.{AreDurable}
+use Rattle.subscriptions.proofs.Durable.{are_kept}
+use Rattle.cursor.specs.Positions.{Positions}
+use Rattle.node.specs.State.{State, fresh_broker}
+use Rattle.node.specs.Runs.{Run, Life, AllowedRun}
+use Rattle.node.specs.declared.event.Event.{Event}
+use Rattle.node.specs.declared.event.Happening.{Happening}
+use Rattle.node.specs.declared.event.Output.{Output}
+use Rattle.node.proofs.Unfolding.{run_unfolds, life_unfolds}
+use Rattle.node.specs.Moves.{Handed, outgoing, Move, Command, Tell, Lose, Grant, Deliver, Miss, Leave, Flush, Reopen, Crash, MoveStep, Moves, Takes}
+use Rattle.node.specs.Telling.{RunUnfolds}
 use Rattle.node.specs.Laws.{IsSoundBroker}
 use Rattle.node.proofs.Carrying.{Respected, respects}
 
@@ -34,6 +42,8 @@ move_sound t (Deliver id h) u step s = dispatch-sound t h.session id (Ok (Some (
 move_sound t (Miss id h) u step s = dispatch-sound t h.session id (Ok (Some (outgoing h))) u step s
 move_sound t (Leave who) u step s = subst (λ (x : Topic). IsSoundTopic x) (sym step) (leave-sound t who s)
 move_sound t (Flush result) u step s = flush-sound t result u step s
+move_sound t (Reopen result) u step s = reopen-sound t result u step s
+move_sound t Crash u step s = crash-sound t u step s
 
 keeps_sound : Respected KeepsSound
 keeps_sound = record {
@@ -44,11 +54,33 @@ keeps_sound = record {
 pub moves_sound : (t : Topic) (moves : List Move) (u : Topic) → Moves t moves u → IsSoundTopic t → IsSoundTopic u
 moves_sound t moves u steps = respects KeepsSound keeps_sound t moves u steps
 
+not_some : {X : Type 0} (o : Option X) → o ≡ None → is_some o ≡ true → ⊥
+not_some None is some = cc
+not_some (Some x) is some = cc
+
+-- no durable subscription is there yet
+durable_empty : AreDurable map.empty
+durable_empty = record {
+  few = omega (arith, map.len-empty (slice_cmp nat_cmp) Positions);
+  named = λ name there. absurd (not_some _ (map.get-empty (slice_cmp nat_cmp) name) there);
+}
+
 pub fresh_sound : (n : ℕ) → 0 < n → IsSoundTopic (fresh n)
-fresh_sound n some = record { core = sound-opened n 0 some (omega arith); receipts = receipts-opened n 0; counted = refl; kept = λ name. map.get-empty (slice_cmp nat_cmp) name }
+fresh_sound n some = record {
+  core = sound-opened n 0 map.empty some (omega arith) durable_empty;
+  receipts = receipts-opened n 0 map.empty;
+  counted = refl;
+  kept = are_kept.opened 0 map.empty durable_empty;
+}
 
 pub fresh_broker_sound : (n : ℕ) → 0 < n → IsSoundBroker (fresh_broker n)
 fresh_broker_sound n some = λ number. elim number as (λ k. IsSoundTopic (topic_at (fresh_broker n) k)) [ zero ↦ fresh_sound n some | suc k ↦ fresh_sound n some ]
 
-pub unfolds_sound : (b : Broker) (bytes : List ℕ) (c : Broker) → Unfolds b bytes c → IsSoundBroker b → IsSoundBroker c
-unfolds_sound b bytes c u sound = λ number. let course = u.each number in moves_sound (topic_at b number) course.moves (topic_at c number) course.steps (sound number)
+pub unfolds_sound : (b : Broker) (hearers : List (Option ℕ)) (outputs : List Output) (c : Broker) → RunUnfolds b hearers outputs c → IsSoundBroker b → IsSoundBroker c
+unfolds_sound b hearers outputs c u sound = λ number. let course = u.each number in moves_sound (topic_at b number) course.moves (topic_at c number) course.steps (sound number)
+
+pub run_sound : (old : State) (events : List Event) (outputs : List Output) (new : State) → Run old events outputs new → IsSoundBroker old.broker → IsSoundBroker new.broker
+run_sound old events outputs new run sound = unfolds_sound old.broker _ outputs new.broker (run_unfolds old events outputs new run) sound
+
+pub life_sound : (old : Life) (happenings : List Happening) (outputs : List Output) (new : Life) → AllowedRun old happenings outputs new → IsSoundBroker old.state.broker → IsSoundBroker new.state.broker
+life_sound old happenings outputs new run sound = unfolds_sound old.state.broker _ outputs new.state.broker (life_unfolds old happenings outputs new run) sound

@@ -1,16 +1,17 @@
 -- What receipts promise, and where it is found.
-use Rattle.std.specs.Prelude.{◌≡◌, ℕ, ◌+◌, true, Some, List, [], ◌∷◌, ◌++◌, length, slice_get}
+use Rattle.std.specs.Prelude.{◌≡◌, ◌≢◌, ◌≤◌, ℕ, true, Some, List, [], ◌∷◌, ◌++◌, length, slice_get}
+use Rattle.std.specs.List.{AllByRecursion}
 use Rattle.commands.specs.declared.reply.Reply.TheVariants.{SendReceipt}
 use Rattle.topic_core.specs.declared.command.Answer.{Answer}
 use Rattle.topic_core.specs.declared.command.Answer.TheVariants.{Now, Later, Nothing, NoMemory}
 use Rattle.topic_core.specs.declared.command.Send.{Send}
 use Rattle.topic_core.specs.declared.command.TopicCommand.{TopicCommand}
 use Rattle.topic_core.specs.declared.command.TopicCommand.TheVariants as asked
-use Rattle.topic_core.specs.Core.{Topic}
+use Rattle.topic_core.specs.Core.{Core, Topic, next_position}
 use Rattle.ids.specs.Ids.{message_id_at}
-use Rattle.topic_core.specs.Replies.{is_receipt}
+use Rattle.reply_queues.specs.Replies.{is_receipt}
 use Rattle.topic_core.specs.Steps.{bytes_of}
-use Rattle.node.specs.Moves.{Handed, Move, Command, Tell, Lose, Grant, Deliver, Miss, Leave, Flush}
+use Rattle.node.specs.Moves.{Handed, Move, Command, Tell, Lose, Grant, Deliver, Miss, Leave, Flush, Reopen, Crash, Moves}
 
 -- an accepted SEND: where its entry will stand, and the receipt that its session is promised
 pub record Sent : Type 0 where
@@ -36,27 +37,35 @@ sent_by per_ledger position who (asked.Send send) NoMemory = []
 sent_by per_ledger position who (asked.Subscribe subscribe) answer = []
 sent_by per_ledger position who (asked.Ack ack) answer = []
 
-abbrev pub sends_on : ℕ → ℕ → Move → List Sent
-sends_on per_ledger position (Command who command answer) = sent_by per_ledger position who command answer
-sends_on per_ledger position (Tell handed) = []
-sends_on per_ledger position (Lose handed) = []
-sends_on per_ledger position (Grant who id permits result) = []
-sends_on per_ledger position (Deliver id handed) = []
-sends_on per_ledger position (Miss id handed) = []
-sends_on per_ledger position (Leave who) = []
-sends_on per_ledger position (Flush result) = []
+-- a SEND that a topic accepts gets the next position
+abbrev pub sends_on : Core → Move → List Sent
+sends_on t (Command who command answer) = sent_by t.per_ledger (next_position t) who command answer
+sends_on t (Tell handed) = []
+sends_on t (Lose handed) = []
+sends_on t (Grant who id permits result) = []
+sends_on t (Deliver id handed) = []
+sends_on t (Miss id handed) = []
+sends_on t (Leave who) = []
+sends_on t (Flush result) = []
+sends_on t (Reopen result) = []
+sends_on t Crash = []
 
--- the accepted SENDs of moves, in order; their positions count on from this one
-abbrev pub sends_by : ℕ → ℕ → List Move → List Sent
-sends_by per_ledger position [] = []
-sends_by per_ledger position (move ∷ moves) =
-    sends_on per_ledger position move ++ sends_by per_ledger (position + length (sends_on per_ledger position move)) moves
+-- The accepted SENDs of a topic's moves, in order. A position comes again where the entry that had it was lost in a crash.
+abbrev pub sends_by : (old : Topic) (moves : List Move) (new : Topic) → Moves old moves new → List Sent
+sends_by old [] new steps = []
+sends_by old (move ∷ moves) new steps = sends_on old.core move ++ sends_by steps.0 moves new steps.2
 
--- it is the receipt of one of these SENDs, to the session that sent, and the ledger has the SEND's entry at its position
+-- the latest of these SENDs for a position is this one
+pub record IsLatest (sends : List Sent) (send : Sent) : Type 0 where
+  pub before : List Sent
+  pub after : List Sent
+  pub splits : sends ≡ before ++ send ∷ after
+  pub latest : AllByRecursion (λ (other : Sent). other.position ≢ send.position) after
+
+-- it is the receipt of the latest SEND for its position, to the session that sent, and the ledger has that SEND's entry there
 pub record IsFound (sends : List Sent) (ledger : List (List ℕ)) (handed : Handed) : Type 0 where
   pub send : Sent
-  pub place : ℕ
-  pub sent : slice_get sends place ≡ Some send
+  pub sent : IsLatest sends send
   pub promised : handed ≡ send.receipt
   pub stands : slice_get ledger send.position ≡ Some send.entry
 
@@ -68,7 +77,14 @@ abbrev pub FindsEach : List Sent → List (List ℕ) → List Handed → Type 0
 FindsEach sends ledger [] = Unit {0}
 FindsEach sends ledger (handed ∷ more) = Finds sends ledger handed × FindsEach sends ledger more
 
--- a topic that owes no reply, and whose core counts its ledger
+-- The ledger only grows, and each entry behind the old ones is that of the latest SEND for its position.
+pub record IsPublished (sends : List Sent) (old new : List (List ℕ)) : Type 0 where
+  pub more : List (List ℕ)
+  pub grown : new ≡ old ++ more
+  pub each : (i : ℕ) (entry : List ℕ) → length old ≤ i → slice_get new i ≡ Some entry → (send : Sent) × IsLatest sends send × (send.position ≡ i) × (send.entry ≡ entry)
+
+-- a topic that owes no reply, with no entry that waits, whose core counts its ledger
 pub record IsQuiet (t : Topic) : Type 0 where
   pub queues : t.core.queues ≡ []
+  pub waiting : t.core.waiting ≡ []
   pub counted : length t.ledger ≡ t.core.committed

@@ -1,54 +1,53 @@
 -- What holds of every step and every run.
-use Rattle.std.specs.Prelude.{◌≡◌, ◌<◌, ◌≤◌, ℕ, ◌+◌, List, ◌++◌, length}
-use Rattle.topic_core.specs.Core.{Topic, next_position, receipts_due}
+use Rattle.std.specs.Prelude.{◌≡◌, ◌<◌, ◌≤◌, ℕ, ◌+◌, false, List, length, map}
+use Rattle.std.specs.List.{AllByRecursion}
+use Rattle.topic_core.specs.Core.{Topic, receipts_due}
 use Rattle.topic_core.specs.Soundness.{IsSoundTopic}
 use Rattle.session.specs.Broker.{Broker, topic_at}
-use Rattle.session.specs.Client.{frames_of}
-use Rattle.node.specs.State.{State, fresh_broker, fresh_state}
-use Rattle.node.specs.Steps.{BrokerStep}
-use Rattle.node.specs.Runs.{Run}
-use Rattle.node.specs.Moves.{Handed, Move, Moves, told_by, entries_by}
-use Rattle.node.specs.Telling.{Said, all_outgoing, from_topic, AnswersAreAtOnce, receipts_told, Unfolds, bytes_of}
-use Rattle.node.specs.Finding.{sends_by, FindsEach, IsQuiet}
+use Rattle.node.specs.State.{State, fresh_broker}
+use Rattle.node.specs.Runs.{Run, Life, AllowedRun}
+use Rattle.node.specs.Moves.{Handed, Move, Moves, told_by, is_crash}
+use Rattle.node.specs.Telling.{Said, hearer, hearer_of, Spells, from_topic, AnswersAreAtOnce, receipts_told, RunUnfolds}
+use Rattle.node.specs.Finding.{sends_by, FindsEach, IsPublished, IsQuiet}
 use Rattle.node.specs.Delivering.{DeliversEach}
 use Rattle.node.specs.declared.event.Event.{Event}
+use Rattle.node.specs.declared.event.Happening.{Happening}
 use Rattle.node.specs.declared.event.Output.{Output}
 
--- each step writes whole frames, and moves each topic
-abbrev pub StepsUnfold : Type 0
-StepsUnfold = (old : State) (event : Event) (output : Output) (new : State) → BrokerStep old event output new → Unfolds old.broker output.bytes new.broker
-
+-- what each output of a run tells is heard by the session of its event, and each topic moves
 abbrev pub RunsUnfold : Type 0
-RunsUnfold = (old : State) (events : List Event) (outputs : List Output) (new : State) → Run old events outputs new → Unfolds old.broker (bytes_of outputs) new.broker
+RunsUnfold = (old : State) (events : List Event) (outputs : List Output) (new : State) → Run old events outputs new
+    → RunUnfolds old.broker (map (λ event. hearer event) events) outputs new.broker
+
+-- so it is with crashes in between
+abbrev pub LivesUnfold : Type 0
+LivesUnfold = (old : Life) (happenings : List Happening) (outputs : List Output) (new : Life) → AllowedRun old happenings outputs new
+    → RunUnfolds old.state.broker (map (λ happening. hearer_of happening) happenings) outputs new.state.broker
 
 -- each topic is sound
 abbrev pub IsSoundBroker : Broker → Type 0
 IsSoundBroker b = (number : ℕ) → IsSoundTopic (topic_at b number)
 
--- a new node is sound, and each step keeps that
+-- a new node is sound, and each step and each happening keeps that
 pub record StaysSound : Type 0 where
   pub fresh : (per_ledger : ℕ) → 0 < per_ledger → IsSoundBroker (fresh_broker per_ledger)
-  pub step : (old : State) (event : Event) (output : Output) (new : State) → BrokerStep old event output new → IsSoundBroker old.broker → IsSoundBroker new.broker
   pub run : (old : State) (events : List Event) (outputs : List Output) (new : State) → Run old events outputs new → IsSoundBroker old.broker → IsSoundBroker new.broker
+  pub life : (old : Life) (happenings : List Happening) (outputs : List Output) (new : Life) → AllowedRun old happenings outputs new → IsSoundBroker old.state.broker → IsSoundBroker new.state.broker
 
--- the ledger only grows; it and what waits are what was there, and then the entries of the accepted SENDs, in their order
-pub record IsPublished (old : Topic) (moves : List Move) (new : Topic) : Type 0 where
-  pub more : List (List ℕ)
-  pub grown : new.ledger ≡ old.ledger ++ more
-  pub entries : new.ledger ++ new.core.waiting ≡ (old.ledger ++ old.core.waiting) ++ entries_by moves
-
+-- the ledger of a topic that was quiet only grows, by entries of accepted SENDs at their positions
 abbrev pub MovesPublish : Type 0
-MovesPublish = (old : Topic) (moves : List Move) (new : Topic) → Moves old moves new → IsPublished old moves new
+MovesPublish = (old : Topic) (moves : List Move) (new : Topic) (steps : Moves old moves new) → IsQuiet old
+    → IsPublished (sends_by old moves new steps) old.ledger new.ledger
 
--- the receipts that were told on moves from a sound topic, and those that are due, never outnumber the committed entries
+-- between two crashes the receipts that were told on moves from a sound topic, and those that are due, never outnumber the committed entries
 abbrev pub ReceiptsAreCovered : Type 0
-ReceiptsAreCovered = (old : Topic) (moves : List Move) (new : Topic) → Moves old moves new → IsSoundTopic old
+ReceiptsAreCovered = (old : Topic) (moves : List Move) (new : Topic) → Moves old moves new → AllByRecursion (λ move. is_crash move ≡ false) moves → IsSoundTopic old
     → receipts_told (told_by moves) + receipts_due new.core.queues ≤ length new.ledger
 
 -- each receipt that was told on moves from a quiet topic is that of an accepted SEND, whose entry stands in the ledger
 abbrev pub ReceiptsAreFound : Type 0
-ReceiptsAreFound = (old : Topic) (moves : List Move) (new : Topic) → Moves old moves new → IsQuiet old
-    → FindsEach (sends_by old.core.per_ledger (next_position old.core) moves) new.ledger (told_by moves)
+ReceiptsAreFound = (old : Topic) (moves : List Move) (new : Topic) (steps : Moves old moves new) → IsQuiet old
+    → FindsEach (sends_by old moves new steps) new.ledger (told_by moves)
 
 -- each message that was told on moves from a quiet topic was open and admitted where it went out, and is the entry that
 -- stands in the ledger at its position
@@ -62,18 +61,26 @@ pub record Account (old : Topic) (told : List Handed) (new : Topic) : Type 0 whe
   pub steps : Moves old moves new
   pub tells : told ≡ told_by moves
   pub sound : IsSoundTopic new
-  pub published : IsPublished old moves new
-  pub covered : receipts_told told + receipts_due new.core.queues ≤ length new.ledger
-  pub found : FindsEach (sends_by old.core.per_ledger (next_position old.core) moves) new.ledger told
+  pub published : IsPublished (sends_by old moves new steps) old.ledger new.ledger
+  pub covered : AllByRecursion (λ move. is_crash move ≡ false) moves → receipts_told told + receipts_due new.core.queues ≤ length new.ledger
+  pub found : FindsEach (sends_by old moves new steps) new.ledger told
   pub delivered : DeliversEach old moves new.ledger told
 
--- the bytes that a run of a new node writes are frames, each whole; receipts and messages come from topics alone, and each topic can account for them
-pub record Accounts (old : Broker) (bytes : List ℕ) (new : Broker) : Type 0 where
+-- what goes out to each session are frames, each whole; receipts and messages come from topics alone, and each topic can account for them
+pub record Accounts (old : Broker) (happenings : List Happening) (outputs : List Output) (new : Broker) : Type 0 where
   pub said : List Said
-  pub written : bytes ≡ frames_of (all_outgoing said)
+  pub spells : Spells (map (λ happening. hearer_of happening) happenings) outputs said
   pub at_once : AnswersAreAtOnce said
   pub each : (number : ℕ) → Account (topic_at old number) (from_topic number said) (topic_at new number)
 
-abbrev pub NewNodesAccount : Type 0
-NewNodesAccount = (per_ledger : ℕ) (events : List Event) (outputs : List Output) (new : State) → 0 < per_ledger
-    → Run (fresh_state per_ledger) events outputs new → Accounts (fresh_broker per_ledger) (bytes_of outputs) new.broker
+-- a broker that is sound, and whose topics owe nothing and have nothing waiting
+pub record IsAtStart (b : Broker) : Type 0 where
+  pub sound : IsSoundBroker b
+  pub quiet : (number : ℕ) → IsQuiet (topic_at b number)
+
+-- The headline: whatever happens to a node from such a start, with device failures and crashes anywhere, it can account
+-- for all that its sessions were told.
+pub record LivesAccount : Type 0 where
+  pub fresh : (per_ledger : ℕ) → 0 < per_ledger → IsAtStart (fresh_broker per_ledger)
+  pub life : (old : Life) (happenings : List Happening) (outputs : List Output) (new : Life) → AllowedRun old happenings outputs new → IsAtStart old.state.broker
+      → Accounts old.state.broker happenings outputs new.state.broker

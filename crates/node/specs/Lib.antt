@@ -1,8 +1,10 @@
-pub mod Holding
-pub mod Topics
 pub mod State
+pub mod Matching
 pub mod Steps
+pub mod Standing
+pub mod Passing
 pub mod Runs
+pub mod Driving
 pub mod Moves
 pub mod Telling
 pub mod Finding

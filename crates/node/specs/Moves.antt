@@ -1,17 +1,17 @@
 -- The moves of a topic, and what it hands to sessions on them.
-use Rattle.std.specs.Prelude.{◌≡◌, ℕ, Result, Ok, Some, List, [], ◌∷◌, ◌++◌}
+use Rattle.std.specs.Prelude.{◌≡◌, ℕ, Bool, true, false, Result, Ok, Some, List, [], ◌∷◌, ◌++◌}
 use Rattle.commands.specs.declared.reply.Reply.{Reply}
 use Rattle.topic_core.specs.declared.command.Answer.{Answer}
 use Rattle.topic_core.specs.declared.command.TopicCommand.{TopicCommand}
 use Rattle.topic_core.specs.declared.dispatch.Outgoing.{Outgoing}
-use Rattle.topic_core.specs.declared.refusal.Refusal.{Refusal}
+use Rattle.gated_log.specs.declared.refusal.Refusal.{Refusal}
 use Rattle.subscriptions.specs.declared.consumer.TooManyPermits.{TooManyPermits}
 use Rattle.topic_core.specs.Core.{Core, Topic}
-use Rattle.topic_core.specs.Replies.{due_to}
+use Rattle.reply_queues.specs.Replies.{due_to}
 use Rattle.topic_core.specs.Steps.{TopicStep, GrantStep, collected}
 use Rattle.topic_core.specs.Dispatch.{DispatchStep}
 use Rattle.topic_core.specs.Flush.{FlushStep}
-use Rattle.topic_core.specs.Laws.{entries_added}
+use Rattle.topic_core.specs.Crashes.{ReopenStep, TopicCrash}
 use Rattle.session.specs.Broker.{with_core, left_topic}
 
 -- what a session takes from a topic: a reply, and behind a MESSAGE its entry
@@ -32,6 +32,8 @@ pub data Move : Type 0 where
   Miss : ℕ → Handed → Move  -- it gets it, and there is no memory to write it
   Leave : ℕ → Move
   Flush : Result ℕ Refusal → Move
+  Reopen : Result (Unit {0}) Refusal → Move
+  Crash : Move  -- the power was cut, and the topic was opened again
 
 -- a session takes its first due reply, behind which nothing stands
 pub record Takes (old : Topic) (handed : Handed) (new : Topic) : Type 0 where
@@ -58,6 +60,8 @@ MoveStep old (Deliver id handed) new = Sends old id handed new
 MoveStep old (Miss id handed) new = Sends old id handed new
 MoveStep old (Leave who) new = new ≡ left_topic old who
 MoveStep old (Flush result) new = FlushStep old result new
+MoveStep old (Reopen result) new = ReopenStep old result new
+MoveStep old Crash new = TopicCrash old new
 
 -- moves, one after another
 abbrev pub Moves : Topic → List Move → Topic → Type 0
@@ -74,22 +78,21 @@ told_on (Deliver id handed) = handed ∷ []
 told_on (Miss id handed) = []
 told_on (Leave who) = []
 told_on (Flush result) = []
+told_on (Reopen result) = []
+told_on Crash = []
 
 abbrev pub told_by : List Move → List Handed
 told_by [] = []
 told_by (move ∷ moves) = told_on move ++ told_by moves
 
--- the entry of an accepted SEND
-abbrev pub entries_on : Move → List (List ℕ)
-entries_on (Command who command answer) = entries_added command answer
-entries_on (Tell handed) = []
-entries_on (Lose handed) = []
-entries_on (Grant who id permits result) = []
-entries_on (Deliver id handed) = []
-entries_on (Miss id handed) = []
-entries_on (Leave who) = []
-entries_on (Flush result) = []
-
-abbrev pub entries_by : List Move → List (List ℕ)
-entries_by [] = []
-entries_by (move ∷ moves) = entries_on move ++ entries_by moves
+abbrev pub is_crash : Move → Bool
+is_crash (Command who command answer) = false
+is_crash (Tell handed) = false
+is_crash (Lose handed) = false
+is_crash (Grant who id permits result) = false
+is_crash (Deliver id handed) = false
+is_crash (Miss id handed) = false
+is_crash (Leave who) = false
+is_crash (Flush result) = false
+is_crash (Reopen result) = false
+is_crash Crash = true

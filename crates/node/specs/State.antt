@@ -1,6 +1,12 @@
 -- The abstract node.
-use Rattle.std.specs.Prelude.{◌≡◌, ℕ, ◌+◌, ◌^◌, ◌||◌, Option, Some, None, Bool, List, [], ◌∷◌, ◌++◌, length, nat_le, nat_eq, remove, position, codes}
+use Rattle.std.specs.Prelude.{ℕ, ◌+◌, ◌^◌, ◌||◌, Option, Some, None, Result, Ok, Err, Bool, List, [], ◌∷◌, ◌++◌, length, nat_lt, nat_le, nat_eq, cond, remove, position, codes}
+use Rattle.gated_log.specs.declared.refusal.Refusal.{Refusal}
+use Rattle.gated_log.specs.declared.refusal.Refusal.TheVariants as refusal
+use Rattle.topic_core.specs.Core.{Topic}
 use Rattle.session.specs.declared.fault.Fault.{Fault}
+use Rattle.session.specs.declared.pumping.More.{More}
+use Rattle.session.specs.declared.pumping.PumpFault.{PumpFault}
+use Rattle.session.specs.declared.pumping.PumpFault.TheVariants.{Ended, Device, Damaged}
 use Rattle.session.specs.Broker.{Broker, fresh}
 use Rattle.session.specs.Client.{Client, new_client}
 use Rattle.node.specs.declared.event.Verdict.{Verdict}
@@ -10,13 +16,19 @@ pub record State : Type 0 where
   pub broker : Broker
   pub sessions : List Client  -- those that are open
   pub used : ℕ  -- how many numbers of sessions were given out
+  pub faults : ℕ  -- how often the device has failed
 
--- one topic, number 0, and nothing happened yet
+-- a broker of one topic, number 0
+abbrev pub broker_with : ℕ → Topic → Broker
+broker_with per_ledger topic = record { per_ledger = per_ledger; names = codes "persistent://a/b/c" ∷ []; topics = topic ∷ [] }
+
+-- nothing happened to it yet
 abbrev pub fresh_broker : ℕ → Broker
-fresh_broker per_ledger = record { per_ledger = per_ledger; names = codes "persistent://a/b/c" ∷ []; topics = fresh per_ledger ∷ [] }
+fresh_broker per_ledger = broker_with per_ledger (fresh per_ledger)
 
-abbrev pub fresh_state : ℕ → State
-fresh_state per_ledger = record { broker = fresh_broker per_ledger; sessions = []; used = 0 }
+-- the place of a topic's number, where there is one
+abbrev pub place_in : List Topic → ℕ → Option ℕ
+place_in topics number = cond (nat_lt number (length topics)) (Some number) None
 
 -- where a session stands
 abbrev pub place_of : List Client → ℕ → Option ℕ
@@ -37,3 +49,15 @@ verdict_of (Some why) = verdict.Ended why
 abbrev pub settled : Option Fault → List Client → ℕ → List Client
 settled None sessions place = sessions
 settled (Some why) sessions place = remove sessions place
+
+-- what a pump's end makes of an event
+abbrev pub verdict_of_pump : Result More PumpFault → Verdict
+verdict_of_pump (Ok more) = verdict.Done
+verdict_of_pump (Err (Ended why)) = verdict.Ended why
+verdict_of_pump (Err Device) = verdict.Refused refusal.Device
+verdict_of_pump (Err (Damaged file offset)) = verdict.Refused (refusal.Damaged file offset)
+
+-- what the end of a topic's flush or opening makes of an event
+abbrev pub verdict_for : {A : Type 0} → Result A Refusal → Verdict
+verdict_for (Ok done) = verdict.Done
+verdict_for (Err why) = verdict.Refused why

@@ -1,17 +1,20 @@
 -- What each event does to the abstract node.
-use Rattle.std.specs.Prelude.{◌≡◌, ℕ, Option, Some, None, Result, Bool, true, false, List, [], slice_get, slice_set, remove}
+use Rattle.std.specs.Prelude.{◌≡◌, ◌<◌, ◌≤◌, ℕ, Option, Some, None, Result, Err, Bool, true, false, List, [], slice_get, slice_set, remove}
+use Rattle.gated_log.specs.declared.refusal.Refusal.{Refusal}
+use Rattle.gated_log.specs.declared.refusal.Refusal.TheVariants as refusal
 use Rattle.topic_core.specs.Core.{Topic}
+use Rattle.topic_core.specs.Flush as topics
+use Rattle.topic_core.specs.Crashes as topics_again
 use Rattle.session.specs.declared.fault.Fault.{Fault}
 use Rattle.session.specs.declared.pumping.More.{More}
 use Rattle.session.specs.declared.pumping.PumpFault.{PumpFault}
-use Rattle.session.specs.Broker.{topic_at, with_topic, left_all}
+use Rattle.session.specs.Broker.{Broker, topic_at, with_topic, left_all}
 use Rattle.session.specs.Client.{Client, Play, play}
 use Rattle.session.specs.Working.{FeedStep}
 use Rattle.session.specs.Pumping as pumping
-use Rattle.node.specs.Topics.{place_in, Flushes}
-use Rattle.node.specs.State.{State, place_of, is_full, with_session, verdict_of, settled}
+use Rattle.node.specs.State.{State, place_in, place_of, is_full, with_session, verdict_of, verdict_of_pump, verdict_for, settled}
 use Rattle.node.specs.declared.event.Event.{Event}
-use Rattle.node.specs.declared.event.Event.TheVariants.{Open, Bytes, Pump, Close, Flush}
+use Rattle.node.specs.declared.event.Event.TheVariants.{Open, Bytes, Pump, Close, Flush, Reopen}
 use Rattle.node.specs.declared.event.Verdict.{Verdict}
 use Rattle.node.specs.declared.event.Verdict.TheVariants as verdict
 use Rattle.node.specs.declared.event.Output.{Output}
@@ -27,7 +30,7 @@ Becomes output new next = (output ≡ record { bytes = []; result = verdict.Done
 -- a session opens, or memory was refused
 abbrev pub OpensAs : Verdict → State → Output → State → Type 0
 OpensAs verdict.Done old output new = Becomes output new (with_session old)
-OpensAs verdict.NoMemory old output new = Only verdict.NoMemory old output new
+OpensAs (verdict.Refused why) old output new = Only (verdict.Refused refusal.NoMemory) old output new
 OpensAs verdict.Full old output new = ⊥
 OpensAs verdict.Unknown old output new = ⊥
 OpensAs (verdict.Ended why) old output new = ⊥
@@ -37,12 +40,13 @@ abbrev pub OpenStep : Bool → State → Output → State → Type 0
 OpenStep true old output new = Only verdict.Full old output new
 OpenStep false old output new = OpensAs output.result old output new
 
--- what a session wrote goes out; one that ended is open no more
-pub record Settles (old : State) (place : ℕ) (played : Play) (output : Output) (new : State) : Type 0 where
-  pub answer : output ≡ record { bytes = played.out; result = verdict_of played.client.fault }
+-- What a session wrote goes out; one that ended is open no more. The device may have failed in between.
+pub record Settles (old : State) (place : ℕ) (played : Play) (result : Verdict) (output : Output) (new : State) : Type 0 where
+  pub answer : output ≡ record { bytes = played.out; result = result }
   pub broker : new.broker ≡ played.broker
   pub sessions : new.sessions ≡ settled played.client.fault (slice_set old.sessions place played.client) place
   pub used : new.used ≡ old.used
+  pub faults : old.faults ≤ new.faults
 
 -- bytes come to an open session
 pub record Feeds (old : State) (place : ℕ) (bytes : List ℕ) (output : Output) (new : State) : Type 0 where
@@ -51,16 +55,16 @@ pub record Feeds (old : State) (place : ℕ) (bytes : List ℕ) (output : Output
   pub result : Result (Unit {0}) Fault
   pub played : Play
   pub step : FeedStep (play client old.broker []) bytes result played
-  pub settles : Settles old place played output new
+  pub settles : Settles old place played (verdict_of played.client.fault) output new
 
--- an open session collects
+-- an open session collects, and gets messages
 pub record Pumps (old : State) (place : ℕ) (output : Output) (new : State) : Type 0 where
   pub client : Client
   pub stands : slice_get old.sessions place ≡ Some client
   pub result : Result More PumpFault
   pub played : Play
   pub step : pumping.PumpStep (play client old.broker []) result played
-  pub settles : Settles old place played output new
+  pub settles : Settles old place played (verdict_of_pump result) output new
 
 -- an open session leaves each topic
 pub record Closes (old : State) (place : ℕ) (output : Output) (new : State) : Type 0 where
@@ -70,13 +74,32 @@ pub record Closes (old : State) (place : ℕ) (output : Output) (new : State) : 
   pub broker : new.broker ≡ left_all old.broker client.number
   pub sessions : new.sessions ≡ remove old.sessions place
   pub used : new.used ≡ old.used
+  pub faults : old.faults ≤ new.faults
 
--- a topic is flushed
-pub record FlushesAt (old : State) (topic : ℕ) (output : Output) (new : State) : Type 0 where
+-- one topic becomes another, and the device may have failed in between
+pub record Moves (old : State) (topic : ℕ) (next : Topic) (new : State) : Type 0 where
+  pub broker : new.broker ≡ with_topic old.broker topic next
+  pub sessions : new.sessions ≡ old.sessions
+  pub used : new.used ≡ old.used
+  pub faults : old.faults ≤ new.faults
+
+-- a topic is flushed; a failure of one that worked is told only where the device failed
+pub record Flushes (old : State) (topic : ℕ) (output : Output) (new : State) : Type 0 where
   pub flushed : Topic
-  pub step : Flushes (topic_at old.broker topic) output.result flushed
-  pub bytes : output.bytes ≡ []
-  pub broker : new ≡ record old { broker = with_topic old.broker topic flushed }
+  pub result : Result ℕ Refusal
+  pub step : topics.FlushStep (topic_at old.broker topic) result flushed
+  pub answer : output ≡ record { bytes = []; result = verdict_for result }
+  pub moves : Moves old topic flushed new
+  pub cause : (topic_at old.broker topic).core.failed ≡ false → result ≡ Err refusal.Device → old.faults < new.faults
+
+-- a failed topic is opened again; a failure is told only where the device failed
+pub record Reopens (old : State) (topic : ℕ) (output : Output) (new : State) : Type 0 where
+  pub again : Topic
+  pub result : Result (Unit {0}) Refusal
+  pub step : topics_again.ReopenStep (topic_at old.broker topic) result again
+  pub answer : output ≡ record { bytes = []; result = verdict_for result }
+  pub moves : Moves old topic again new
+  pub cause : result ≡ Err refusal.Device → old.faults < new.faults
 
 abbrev pub BytesStep : Option ℕ → State → List ℕ → Output → State → Type 0
 BytesStep None old bytes output new = Only verdict.Unknown old output new
@@ -92,7 +115,11 @@ CloseStep (Some place) old output new = Closes old place output new
 
 abbrev pub FlushStep : Option ℕ → State → Output → State → Type 0
 FlushStep None old output new = Only verdict.Unknown old output new
-FlushStep (Some topic) old output new = FlushesAt old topic output new
+FlushStep (Some topic) old output new = Flushes old topic output new
+
+abbrev pub ReopenStep : Option ℕ → State → Output → State → Type 0
+ReopenStep None old output new = Only verdict.Unknown old output new
+ReopenStep (Some topic) old output new = Reopens old topic output new
 
 -- one event
 abbrev pub BrokerStep : State → Event → Output → State → Type 0
@@ -101,3 +128,18 @@ BrokerStep old (Bytes who bytes) output new = BytesStep (place_of old.sessions w
 BrokerStep old (Pump who) output new = PumpStep (place_of old.sessions who) old output new
 BrokerStep old (Close who) output new = CloseStep (place_of old.sessions who) old output new
 BrokerStep old (Flush topic) output new = FlushStep (place_in old.broker.topics topic) old output new
+BrokerStep old (Reopen topic) output new = ReopenStep (place_in old.broker.topics topic) old output new
+
+-- a topic while a flush of it goes on: all that waits is in doubt; one that has failed isn't written
+abbrev pub flushing : Bool → Topic → Topic
+flushing true t = t
+flushing false t = topics.in_flush t
+
+-- the broker while an event goes on
+abbrev pub during : Broker → Event → Broker
+during old Open = old
+during old (Bytes who bytes) = old
+during old (Pump who) = old
+during old (Close who) = old
+during old (Flush topic) = with_topic old topic (flushing (topic_at old topic).core.failed (topic_at old topic))
+during old (Reopen topic) = old

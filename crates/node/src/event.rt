@@ -1,19 +1,22 @@
 use crate::octets::Octets;
+use gated_log::Refusal;
 use session::Fault;
 
-/// What happens to a node. Sessions and topics go by their numbers, which count from 0.
+/// What comes to a node. Sessions and topics go by their numbers, which count from 0.
 #[derive(Drop)]
 pub enum Event {
     /// A client connects, and its session takes the next number.
     Open,
     /// Bytes of a session's client come, cut anywhere.
     Bytes(u64, Octets),
-    /// A session collects the replies that are due to it.
+    /// A session collects the replies that are due to it, and then messages.
     Pump(u64),
     /// A session's client is gone.
     Close(u64),
     /// What waits on a topic is to be committed.
     Flush(u64),
+    /// A failed topic is to be opened again.
+    Reopen(u64),
 }
 
 /// How an event went.
@@ -22,8 +25,8 @@ pub enum Verdict {
     Done,
     /// The session ended by this fault, and has left.
     Ended(Fault),
-    /// Memory was refused, and nothing changed.
-    NoMemory,
+    /// A store refused. For want of memory nothing changed; a failure of the device fails the topic that was flushed.
+    Refused(Refusal),
     /// No session can be opened, and nothing changed.
     Full,
     /// There is no such session or topic, and nothing changed.
@@ -36,4 +39,11 @@ pub struct Output {
     /// For the client of the event's session.
     pub bytes: Octets,
     pub result: Verdict,
+}
+
+/// What happens to a machine: an event of its node, or the power is cut and comes back.
+#[derive(Drop)]
+pub enum Happening {
+    Event(Event),
+    Crash,
 }

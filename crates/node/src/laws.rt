@@ -1,33 +1,35 @@
-ghost use Rattle.node.specs.Laws.{StepsUnfold, RunsUnfold, StaysSound, MovesPublish, ReceiptsAreCovered, ReceiptsAreFound, MessagesAreAdmitted, NewNodesAccount};
+ghost use Rattle.node.specs.Laws.{RunsUnfold, LivesUnfold, StaysSound, MovesPublish, ReceiptsAreCovered, ReceiptsAreFound, MessagesAreAdmitted, LivesAccount};
 
-/// The bytes of a step are frames, each whole, and the step moves each topic by allowed moves, on which it
+/// The bytes that go out to each session are frames, each whole, and each topic moves by allowed moves, on which it
 /// hands out just those replies that don't answer a command at once.
-pub fn steps_unfold()
-    ensures { StepsUnfold }
-{}
-
-/// The same of every run.
 pub fn runs_unfold()
     ensures { RunsUnfold }
 {}
 
-/// Each step keeps every topic sound.
+/// The same with crashes and openings in between.
+pub fn lives_unfold()
+    ensures { LivesUnfold }
+{}
+
+/// Each step and each crash keeps every topic sound.
 pub fn stays_sound()
     ensures { StaysSound }
 {}
 
-/// Every entry of a ledger was there at the start, or was the entry of an accepted SEND; and ledgers only grow.
+/// Ledgers only grow, through crashes too, and each entry that came is that of the latest SEND that was accepted for its
+/// position.
 pub fn moves_publish()
     ensures { MovesPublish }
 {}
 
-/// Receipts never outnumber the committed entries.
+/// Between two crashes receipts never outnumber the committed entries.
 pub fn receipts_are_covered()
     ensures { ReceiptsAreCovered }
 {}
 
-/// A receipt is told to the session that sent, and names the entry that stands at its position. Since this holds of every
-/// run, also of the one that ends with the receipt, a receipt comes after the flush that committed its entry.
+/// A receipt is told to the session that sent, and names the entry that stands at its position, ever after: also in each run
+/// that goes on behind it, through failures, openings and crashes. Since this holds of the run that ends with the receipt too, a
+/// receipt comes after the flush that committed its entry.
 pub fn receipts_are_found()
     ensures { ReceiptsAreFound }
 {}
@@ -38,7 +40,7 @@ pub fn messages_are_admitted()
     ensures { MessagesAreAdmitted }
 {}
 
-/// All of this, of every run of a new node, from its bytes out.
-pub fn new_nodes_account()
-    ensures { NewNodesAccount }
+/// All of this, of every life of a node, from the bytes of each session.
+pub fn lives_account()
+    ensures { LivesAccount }
 {}

@@ -1,21 +1,26 @@
-//! A broker of one node in memory: each event moves an abstract broker by one allowed step, and its output is the whole
-//! frames of what that step says. A run works the events in order, one output each; where memory is refused, the
-//! events from there on weren't worked. Receipts follow the flush that committed their entries, which stay where they are.
+//! A broker of one node over its device: each event moves an abstract broker by one allowed step, and its output is the whole
+//! frames of what that step says, to the session that hears it. Receipts follow the flush that committed their entries; whatever
+//! the device fails in, and wherever the power is cut, each opening finds every entry that a receipt was told for.
 #![tactic(auto)]
 
 mod event;
-mod held;
 mod laws;
 mod node;
 mod octets;
+mod open;
 mod port;
+mod power;
+mod status;
 mod topics;
 
-pub use event::{Event, Output, Verdict};
+pub use event::{Event, Happening, Output, Verdict};
+pub use gated_log::Refusal;
 pub use laws::{
-    messages_are_admitted, moves_publish, new_nodes_account, receipts_are_covered,
-    receipts_are_found, runs_unfold, stays_sound, steps_unfold,
+    lives_account, lives_unfold, messages_are_admitted, moves_publish, receipts_are_covered,
+    receipts_are_found, runs_unfold, stays_sound,
 };
 pub use node::Node;
 pub use octets::Octets;
+pub use power::{Machine, drive};
 pub use session::Fault;
+pub use status::TopicStatus;

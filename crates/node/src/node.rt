@@ -1,15 +1,22 @@
-ghost use Rattle.std.specs.Prelude.{◌≡◌, ◌<◌, ◌≤◌, [], length, IfOk, IfSome, vec_len};
-ghost use Rattle.node.specs.State.{State, fresh_state, is_full, place_of, verdict_of, settled};
-ghost use Rattle.node.specs.Topics.{place_in};
-ghost use Rattle.node.specs.Steps.{OpenStep, BytesStep, PumpStep, CloseStep, FlushStep, BrokerStep};
-ghost use Rattle.node.specs.Runs.{Ran};
+ghost use Rattle.std.specs.Prelude.{◌≡◌, ◌<◌, ◌≤◌, [], length, IfSome, vec_len};
+ghost use Rattle.disk.specs.Disk.{Leaves};
+ghost use Rattle.session.specs.Broker.{Broker};
+ghost use Rattle.node.specs.State.{is_full, place_in, place_of, verdict_of, verdict_of_pump, settled};
+ghost use Rattle.node.specs.Standing.{state_of, disk_of, Stands, StandsForBroker, Passes};
+ghost use Rattle.node.specs.Steps.{OpenStep, BytesStep, PumpStep, CloseStep, FlushStep, ReopenStep, BrokerStep, during};
+ghost use Rattle.node.specs.Runs.{Ran, Reached};
+ghost use Rattle.node.specs.declared.event.Event.TheVariants as event;
 
 use crate::event::{Event, Output, Verdict};
 use crate::octets::Octets;
 use crate::topics::Topics;
-use session::{Fault, Session};
+use cursor_store::SubStore;
+use disk::Shelf;
+use gated_log::Refusal;
+use managed_ledger::EntryStore;
+use session::{Fault, More, PumpFault, Session};
 use std::alloc::{AllocError, Global};
-use std::marker::Model;
+use topic_core::{Stores, TopicStores};
 
 /// The most sessions that are open. Our own rule.
 const MOST_SESSIONS: usize = 256;
@@ -17,38 +24,17 @@ const MOST_SESSIONS: usize = 256;
 /// The most numbers of sessions that are given out. Our own rule.
 const MOST_NUMBERS: u64 = 1 << 62;
 
-/// The topic that is there from the first.
-const SERVED_TOPIC: &str = "persistent://a/b/c";
-
-/// A broker of one node.
+/// A broker of one node, over its device.
 #[derive(Drop)]
-pub struct Node {
-    alloc: Global,
-    topics: Topics,
-    sessions: Vec<Session>,
-    used: u64,
-}
-
-impl Model for Node {
-    ghost use Rattle.std.specs.Coded.{codes, coded_ℕ, coded_list};
-    ghost use Rattle.std.specs.Ordering.{nat_cmp};
-    ghost use Rattle.std.specs.Cmp.Lexicographic.{slice_cmp};
-    ghost use Rattle.std.specs.FinMap as map;
-    ghost use Rattle.cursor.specs.Positions.{positions_code};
-    ghost use Rattle.holds.specs.Deliveries.{deliveries_code};
-    ghost use Rattle.node.specs.State.{State};
-
-    ghost Value = { State };
-
-    ghost coded = { Prim.hlevel (codes, positions_code, deliveries_code, map.code {R = slice_cmp nat_cmp} (coded_list coded_ℕ) positions_code) };
-
-    ghost use Rattle.node.specs.Topics.{broker_of};
-
-    ghost view = { λ n. record { broker = broker_of n.topics; sessions = n.sessions.items; used = n.used } };
+pub struct Node<E: EntryStore, C: SubStore, S> {
+    pub(crate) alloc: Global,
+    pub(crate) topics: Topics<E, C, S>,
+    pub(crate) sessions: Vec<Session>,
+    pub(crate) used: u64,
 }
 
 /// An answer without bytes.
-fn only(alloc: Global, verdict: Verdict) -> Output
+pub(crate) fn only(alloc: Global, verdict: Verdict) -> Output
     ensures { result ≡ record { bytes = []; result = verdict } }
 {
     Output {
@@ -74,6 +60,19 @@ fn verdict_of(fault: Option<Fault>) -> Verdict
     }
 }
 
+fn verdict_of_pump(pumped: Result<More, PumpFault>) -> Verdict
+    ensures { result ≡ verdict_of_pump pumped }
+{
+    match pumped {
+        Ok(_) => Verdict::Done,
+        Err(PumpFault::Ended(why)) => Verdict::Ended(why),
+        Err(PumpFault::Device) => Verdict::Refused(Refusal::Device),
+        Err(PumpFault::Damaged { file, offset }) => {
+            Verdict::Refused(Refusal::Damaged { file, offset })
+        }
+    }
+}
+
 /// Drops a session that ended.
 fn settle(sessions: &mut Vec<Session>, place: usize, fault: Option<Fault>)
     requires { place < vec_len sessions.old }
@@ -84,26 +83,10 @@ fn settle(sessions: &mut Vec<Session>, place: usize, fault: Option<Fault>)
     }
 }
 
-impl Node {
-    /// A node with the topic `persistent://a/b/c`, number 0, in which nothing happened yet. A ledger id has `per_ledger`
-    /// entry ids.
-    pub fn new(alloc: Global, per_ledger: u32) -> Result<Node, AllocError>
-        requires numbered { 1 ≤ per_ledger }
-        requires most { per_ledger ≤ 50000 }
-        ensures { IfOk result (λ node. node ≡ fresh_state per_ledger) }
-    {
-        let mut topics = Topics::new(alloc, per_ledger);
-        topics.make(SERVED_TOPIC)?;
-        Ok(Node {
-            alloc,
-            topics,
-            sessions: Vec::new(alloc),
-            used: 0,
-        })
-    }
-
-    fn open(&mut self) -> Output
-        ensures { OpenStep (is_full self.old) self.old result self.new }
+impl<E: EntryStore, C: SubStore, S: Shelf> Node<E, C, S> {
+    fn open_session(&mut self) -> Output
+        ensures step { OpenStep (is_full (state_of S.disk self.old)) (state_of S.disk self.old) result (state_of S.disk self.new) }
+        ensures passes { Passes S.disk self.old.topics self.new.topics }
     {
         if self.sessions.len() >= MOST_SESSIONS || self.used >= MOST_NUMBERS {
             return only(self.alloc, Verdict::Full);
@@ -113,14 +96,16 @@ impl Node {
             .push(Session::new(self.alloc, self.used))
             .is_err()
         {
-            return only(self.alloc, Verdict::NoMemory);
+            return only(self.alloc, Verdict::Refused(Refusal::NoMemory));
         }
         self.used += 1;
         only(self.alloc, Verdict::Done)
     }
 
     fn bytes(&mut self, who: u64, bytes: &[u8]) -> Output
-        ensures { BytesStep (place_of self.old.sessions who) self.old bytes.now result self.new }
+        ensures step { Stands S.disk self.old →
+            BytesStep (place_of self.old.sessions.items who) (state_of S.disk self.old) bytes.now result (state_of S.disk self.new) }
+        ensures passes { Passes S.disk self.old.topics self.new.topics }
     {
         let Some(place) = place_of(self.sessions.as_slice(), who) else {
             return only(self.alloc, Verdict::Unknown);
@@ -137,24 +122,28 @@ impl Node {
     }
 
     fn pump(&mut self, who: u64) -> Output
-        ensures { PumpStep (place_of self.old.sessions who) self.old result self.new }
+        ensures step { Stands S.disk self.old →
+            PumpStep (place_of self.old.sessions.items who) (state_of S.disk self.old) result (state_of S.disk self.new) }
+        ensures passes { Passes S.disk self.old.topics self.new.topics }
     {
         let Some(place) = place_of(self.sessions.as_slice(), who) else {
             return only(self.alloc, Verdict::Unknown);
         };
         let mut out = Vec::new(self.alloc);
         let session = &mut self.sessions[place];
-        let _ = session.pump(&mut self.topics, &mut out);
+        let pumped = session.pump(&mut self.topics, &mut out);
         let fault = session.fault();
         settle(&mut self.sessions, place, fault);
         Output {
             bytes: Octets::new(out),
-            result: verdict_of(fault),
+            result: verdict_of_pump(pumped),
         }
     }
 
     fn close(&mut self, who: u64) -> Output
-        ensures { CloseStep (place_of self.old.sessions who) self.old result self.new }
+        ensures step { Stands S.disk self.old →
+            CloseStep (place_of self.old.sessions.items who) (state_of S.disk self.old) result (state_of S.disk self.new) }
+        ensures passes { Passes S.disk self.old.topics self.new.topics }
     {
         let Some(place) = place_of(self.sessions.as_slice(), who) else {
             return only(self.alloc, Verdict::Unknown);
@@ -165,32 +154,80 @@ impl Node {
     }
 
     fn flush(&mut self, topic: u64) -> Output
-        ensures { FlushStep (place_in self.old.broker.topics topic) self.old result self.new }
+        ensures step { Stands S.disk self.old →
+            FlushStep (place_in (state_of S.disk self.old).broker.topics topic) (state_of S.disk self.old) result (state_of S.disk self.new) }
+        ensures stands { Stands S.disk self.old → Stands S.disk self.new }
+        ensures any_moment { Stands S.disk self.old →
+            Leaves (StandsForBroker E.stands C.stands (during (state_of S.disk self.old).broker (event.Flush topic))) (disk_of S.disk self.old) (disk_of S.disk self.new) }
+        ensures numbered { self.new.topics.core.per_ledger ≡ self.old.topics.core.per_ledger }
     {
-        let Some(place) = self.topics.at(topic) else {
+        if topic != 0 {
             return only(self.alloc, Verdict::Unknown);
-        };
-        let held = &mut self.topics.held[place];
-        let verdict = held.flush();
-        only(self.alloc, verdict)
+        }
+        let Topics {
+            core,
+            stores,
+            shelf,
+            ..
+        } = &mut self.topics;
+        match core.flush(stores, shelf) {
+            Ok(_) => only(self.alloc, Verdict::Done),
+            Err(why) => only(self.alloc, Verdict::Refused(why)),
+        }
     }
 
-    /// Works one event.
+    fn reopen(&mut self, topic: u64) -> Output
+        ensures step { Stands S.disk self.old →
+            ReopenStep (place_in (state_of S.disk self.old).broker.topics topic) (state_of S.disk self.old) result (state_of S.disk self.new) }
+        ensures stands { Stands S.disk self.old → Stands S.disk self.new }
+        ensures any_moment { Stands S.disk self.old →
+            Leaves (StandsForBroker E.stands C.stands (state_of S.disk self.old).broker) (disk_of S.disk self.old) (disk_of S.disk self.new) }
+        ensures numbered { self.new.topics.core.per_ledger ≡ self.old.topics.core.per_ledger }
+    {
+        if topic != 0 {
+            return only(self.alloc, Verdict::Unknown);
+        }
+        let Topics {
+            core,
+            stores,
+            shelf,
+            ..
+        } = &mut self.topics;
+        match core.reopen(stores, shelf) {
+            Ok(()) => only(self.alloc, Verdict::Done),
+            Err(why) => only(self.alloc, Verdict::Refused(why)),
+        }
+    }
+
+    /// Works one event. A crash at any moment of it leaves what a crash leaves of the broker; within a flush all that waits is
+    /// in doubt.
     pub fn step(&mut self, event: Event) -> Output
-        ensures { BrokerStep self.old event result self.new }
+        ensures step { Stands S.disk self.old →
+            BrokerStep (state_of S.disk self.old) event result (state_of S.disk self.new) }
+        ensures stands { Stands S.disk self.old → Stands S.disk self.new }
+        ensures any_moment { Stands S.disk self.old →
+            Leaves (StandsForBroker E.stands C.stands (during (state_of S.disk self.old).broker event)) (disk_of S.disk self.old) (disk_of S.disk self.new) }
+        ensures numbered { Stands S.disk self.old → self.new.topics.core.per_ledger ≡ self.old.topics.core.per_ledger }
     {
         match event {
-            Event::Open => self.open(),
+            Event::Open => self.open_session(),
             Event::Bytes(who, bytes) => self.bytes(who, bytes.as_slice()),
             Event::Pump(who) => self.pump(who),
             Event::Close(who) => self.close(who),
             Event::Flush(topic) => self.flush(topic),
+            Event::Reopen(topic) => self.reopen(topic),
         }
     }
 
-    /// Works events in order, one output each. Where memory is refused, the events from that one on weren't worked.
+    /// Works events in order, one output each. Where memory is refused for an output, the events from that one on weren't
+    /// worked. A crash at any moment leaves what a crash leaves of a broker that a front of the events reaches.
     pub fn run(&mut self, events: Vec<Event>, outputs: &mut Vec<Output>) -> Result<(), AllocError>
-        ensures { Ran self.old events.items outputs.old.items result outputs.new.items self.new }
+        ensures ran { Stands S.disk self.old →
+            Ran (state_of S.disk self.old) events.items outputs.old.items result outputs.new.items (state_of S.disk self.new) }
+        ensures stands { Stands S.disk self.old → Stands S.disk self.new }
+        ensures any_moment { Stands S.disk self.old →
+            Leaves (λ files. (broker : Broker) × Reached (state_of S.disk self.old) events.items broker × StandsForBroker E.stands C.stands broker files)
+            (disk_of S.disk self.old) (disk_of S.disk self.new) }
     {
         for event in events {
             outputs.reserve(1)?;

@@ -1,148 +1,83 @@
-ghost use Rattle.std.specs.Prelude.{◌≡◌, ◌<◌, [], length, position, IfSome, OnOk, OnErr};
-ghost use Rattle.std.specs.Str.{bytes_eq};
-ghost use Rattle.session.specs.Broker.{made};
-ghost use Rattle.node.specs.Topics.{broker_of, place_in};
+ghost use Rattle.std.specs.Prelude.{◌≡◌};
 
-use crate::held::Held;
 use crate::topics::Topics;
-use commands::{Reply, Text};
+use commands::Reply;
+use cursor_store::SubStore;
+use disk::Shelf;
+use gated_log::Refusal;
+use managed_ledger::EntryStore;
 use session::{Found, Port};
-use std::alloc::{AllocError, Global};
-use topic_core::{Answer, Outgoing, Refusal, TooManyPermits, TopicCommand};
+use topic_core::{Answer, Outgoing, Stores, TooManyPermits, TopicCommand, TopicStores};
 
-/// The most topics of a node. Our own rule.
-const MOST_TOPICS: usize = 64;
+impl<E: EntryStore, C: SubStore, S: Shelf> Port for Topics<E, C, S> {
+    ghost use Rattle.node.specs.Standing.{broker_of, TopicsStand, Passes};
 
-/// Where a name stands.
-fn place_of_name(names: &[Text], name: &str) -> Option<usize>
-    ensures place { result ≡ position (λ other. bytes_eq other name.now) names.now }
-    ensures within { IfSome result (λ place. place < length names.now) }
-{
-    names.iter().position(|other| other.as_str() == name)
-}
+    ghost broker = { broker_of S.disk };
 
-impl Topics {
-    /// No topic.
-    pub(crate) fn new(alloc: Global, per_ledger: u32) -> Topics
-        requires { 0 < per_ledger }
-        ensures { broker_of result ≡ record { per_ledger = per_ledger; names = []; topics = [] } }
-    {
-        Topics {
-            alloc,
-            per_ledger,
-            names: Vec::new(alloc),
-            held: Vec::new(alloc),
-        }
-    }
+    ghost count = { λ _. 1 };
 
-    /// The place of a topic's number.
-    pub(crate) fn at(&self, topic: u64) -> Option<usize>
-        ensures { result ≡ place_in self.now.held.items topic }
-    {
-        let place = topic as usize;
-        (place < self.held.len()).then_some(place)
-    }
+    ghost sole = { TopicsStand S.disk };
 
-    /// One topic more, to which nothing happened yet. Where memory is refused, nothing changes.
-    pub(crate) fn make(&mut self, name: &str) -> Result<(), AllocError>
-        ensures ok { OnOk result (broker_of self.new ≡ made (broker_of self.old) name.now) }
-        ensures err { OnErr result (broker_of self.new ≡ broker_of self.old) }
-    {
-        let text = Text::new(String::from_str(self.alloc, name)?);
-        self.names.reserve(1)?;
-        self.held.reserve(1)?;
-        self.names.push(text).unwrap();
-        let held = Held::new(self.alloc, self.per_ledger);
-        self.held.push(held).unwrap();
-        Ok(())
-    }
-}
-
-impl Port for Topics {
-    ghost use Rattle.std.specs.Prelude.{◌≡◌, ◌≤◌, length};
-    ghost use Rattle.node.specs.Topics.{broker_of};
-
-    ghost broker = { broker_of };
-
-    ghost count = { λ topics. length topics.held.items };
-
-    ghost sole = { λ _. Unit {0} };
-
-    ghost passes = { λ old new. length old.held.items ≤ length new.held.items };
+    ghost passes = { Passes S.disk };
 
     fn topics(&self) -> u64 {
-        self.held.len() as u64
+        1
     }
 
-    fn has_producer(&self, topic: u64, who: u64, producer_id: u64) -> bool {
-        let held = &self.held[topic as usize];
-        held.has_producer(who, producer_id)
+    fn has_producer(&self, _topic: u64, who: u64, producer_id: u64) -> bool {
+        self.core.has_producer(who, producer_id)
     }
 
-    fn has_consumer(&self, topic: u64, who: u64, consumer_id: u64) -> bool {
-        let held = &self.held[topic as usize];
-        held.has_consumer(who, consumer_id)
+    fn has_consumer(&self, _topic: u64, who: u64, consumer_id: u64) -> bool {
+        self.core.has_consumer(who, consumer_id)
     }
 
-    fn find(&mut self, name: &str) -> Found {
-        if let Some(place) = place_of_name(self.names.as_slice(), name) {
-            return Found::Topic(place as u64);
-        }
-        if self.held.len() >= MOST_TOPICS {
-            return Found::TooMany;
-        }
-        let number = self.held.len() as u64;
-        match self.make(name) {
-            Ok(()) => Found::Topic(number),
-            Err(_) => Found::NoMemory,
-        }
+    fn find(&mut self, _name: &str) -> Found {
+        Found::Topic(0)
     }
 
-    fn command(&mut self, topic: u64, who: u64, command: TopicCommand) -> Answer {
-        let held = &mut self.held[topic as usize];
-        held.command(who, command)
+    fn command(&mut self, _topic: u64, who: u64, command: TopicCommand) -> Answer {
+        self.core.command(who, command)
     }
 
     fn grant(
         &mut self,
-        topic: u64,
+        _topic: u64,
         who: u64,
         consumer_id: u64,
         permits: u32,
     ) -> Result<(), TooManyPermits> {
-        let held = &mut self.held[topic as usize];
-        held.grant(who, consumer_id, permits)
+        self.core.grant(who, consumer_id, permits)
     }
 
     fn dispatch(
         &mut self,
-        topic: u64,
+        _topic: u64,
         who: u64,
         consumer_id: u64,
     ) -> Result<Option<Outgoing>, Refusal> {
-        let held = &mut self.held[topic as usize];
-        held.dispatch(who, consumer_id)
+        self.core
+            .dispatch(&self.stores.entries, &mut self.shelf, who, consumer_id)
     }
 
-    fn collect(&mut self, topic: u64, who: u64) -> Option<Reply> {
-        let held = &mut self.held[topic as usize];
-        held.collect(who)
+    fn collect(&mut self, _topic: u64, who: u64) -> Option<Reply> {
+        self.core.collect(who)
     }
 
-    fn leave(&mut self, topic: u64, who: u64) {
-        let held = &mut self.held[topic as usize];
-        held.leave(who)
+    fn leave(&mut self, _topic: u64, who: u64) {
+        self.core.leave(who)
     }
 
-    ghost use Rattle.std.proofs.Common.{rules};
+    ghost use Rattle.std.proofs.Common.{refl, lit≤};
+    ghost use Rattle.node.specs.Passing.{passes_nothing, passes_both};
 
-    ghost passes_nothing = { λ port. Prim.search rules };
+    ghost passes_nothing = { passes_nothing S.disk };
 
-    ghost passes_both = { λ a b c h k. Prim.search rules };
+    ghost passes_both = { passes_both S.disk };
 
-    ghost passes_sole = { λ a b h s. s };
+    ghost passes_sole = { λ old new passes standing. (passes standing).standing };
 
-    ghost passes_count = { λ a b h. h };
+    ghost passes_count = { λ a b h. lit≤ tt };
 
-    ghost counts_topics = { λ port s. Prim.search rules };
+    ghost counts_topics = { λ port s. refl };
 }

@@ -1,5 +1,5 @@
-//! A node, tried on events and on the outputs that they must have.
-//! They stand in a crate of their own, so that the check of the node is short. Nothing is promised here.
+//! A node and a machine over a device in memory, tried on events and a crash, and on the outputs that they must have. Failures
+//! and crashes within calls are tried by scripts, in the program's own tests. They stand in a crate of their own, so that the check of the node is short.
 #![tactic(auto)]
 
 #[cfg(test)]

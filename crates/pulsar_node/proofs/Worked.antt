@@ -1,41 +1,32 @@
 -- Lines that were worked, and one more.
-use Rattle.std.proofs.Common.{◌≡◌, ℕ, suc, ◌+◌, List, [], ◌∷◌, ◌++◌, length, take, Option, Some, None, Result, Err, refl, sym, ap, ◌∙◌, subst, append_assoc, append-nil, add-zero, inl, inr, arith}
+use Rattle.std.proofs.Common.{◌≡◌, ℕ, suc, ◌+◌, Bool, true, false, codes, List, [], ◌∷◌, ◌++◌, length, take, Option, Some, None, Result, Ok, Err, refl, sym, ap, ◌∙◌, subst, append_assoc, append-nil, inl, inr, ⊎_elim, arith}
 use Rattle.std.specs.Io.KnownBytes.{Appends, Keeps}
 use Rattle.std.proofs.KnownBytes.{Appends-trans, Appends-kept, Keeps-refl}
 use Rattle.std.proofs.Math.Seq.{take-append_seam}
 use Rattle.std.proofs.lemmas.List.{take_all}
-use Rattle.node.specs.State.{State, fresh_state}
-use Rattle.node.specs.declared.event.Output.{Output}
+use Rattle.node.specs.Runs.{Life}
+use Rattle.node.specs.State.{State}
+use Rattle.node.specs.Driving as node
+use Rattle.node.specs.declared.status.TopicStatus.{TopicStatus}
+use Rattle.script.specs.Output.{topic_line}
 use Rattle.script.specs.declared.line.Line.{Line}
 use Rattle.script.specs.declared.script.Script.{Script}
-use Rattle.script.specs.declared.output.Outcome.TheVariants.{Done}
 use Rattle.script.specs.Script.{IsScript}
-use Rattle.script.specs.Output.{output_line}
+use Rattle.pulsar_node.specs.declared.event.Task.{Task}
 use Rattle.pulsar_node.specs.declared.fault.ProgramFault.{ProgramFault}
 use Rattle.pulsar_node.specs.declared.fault.ProgramFault.TheVariants.{Device, NoMemory, ScriptLine}
-use Rattle.pulsar_node.specs.Replay.{Answers, LineStep, printed_output, printed_from, printed, IsFront, Writes, WorksFront, WorksLines, Replays, ReplaysAll, ReplaysFront, IsAllOf, IsOutage}
+use Rattle.pulsar_node.specs.Replay.{TaskStep, WorksTask, Begun, StatusOf, Tells, LineStep, Prints, Begins, Plays, IsFront, Writes, WorksFront, WorksLines, Replays, ReplaysAll, ReplaysFront, IsAllOf, IsOutage}
 
-pub Answers-more : (old : State) (lines : List Line) (outputs : List Output) (mid new : State) (line : Line) (output : Output)
-    → Answers old lines outputs mid → LineStep mid line output new → Answers old (lines ++ line ∷ []) (outputs ++ output ∷ []) new
-Answers-more old [] [] mid new line output h step = (new, subst (λ (s : State). LineStep s line output new) h step, refl)
-Answers-more old [] (o ∷ outputs) mid new line output h step = absurd h
-Answers-more old (l ∷ lines) [] mid new line output h step = absurd h
-Answers-more old (l ∷ lines) (o ∷ outputs) mid new line output h step = (h.0, h.1, Answers-more h.0 lines outputs mid new line output h.2 step)
-
-pub Answers-length : (old : State) (lines : List Line) (outputs : List Output) (new : State) → Answers old lines outputs new → length outputs ≡ length lines
-Answers-length old [] [] new h = refl
-Answers-length old [] (o ∷ outputs) new h = absurd h
-Answers-length old (l ∷ lines) [] new h = absurd h
-Answers-length old (l ∷ lines) (o ∷ outputs) new h = ap suc (Answers-length h.0 lines outputs new h.2)
-
-pub printed_from-more : (number : ℕ) (outputs : List Output) (output : Output)
-    → printed_from number (outputs ++ output ∷ []) ≡ printed_from number outputs ++ printed_output (number + length outputs) output
-printed_from-more number [] output = append-nil (printed_output number output) ∙ ap (λ (k : ℕ). printed_output k output) (sym (add-zero number))
-printed_from-more number (o ∷ outputs) output =
-    let next : number + 1 + length outputs ≡ number + suc (length outputs) = omega arith in
-    ap (λ (rest : List ℕ). printed_output number o ++ rest) (printed_from-more (number + 1) outputs output)
-    ∙ sym (append_assoc (printed_output number o) (printed_from (number + 1) outputs) (printed_output (number + 1 + length outputs) output))
-    ∙ ap (λ (k : ℕ). printed_output number o ++ printed_from (number + 1) outputs ++ printed_output k output) next
+-- one line more
+pub Prints-more : (number : ℕ) (old : Life) (lines : List Line) (text : List ℕ) (mid : Life) (line : Line) (more : List ℕ) (new : Life)
+    → Prints number old lines text mid → LineStep (number + length lines) mid line more new → Prints number old (lines ++ line ∷ []) (text ++ more) new
+Prints-more number old [] text mid line more new h step =
+    let at : LineStep number old line more new = subst (λ (s : Life). LineStep number s line more new) h.1 (subst (λ (k : ℕ). LineStep k mid line more new) (let e : number + 0 ≡ number = omega arith in e) step) in
+    (more, [], new, at, (refl, refl), ap (λ (t : List ℕ). t ++ more) h.0 ∙ sym (append-nil more))
+Prints-more number old (l ∷ lines) text mid line more new h step =
+    let place : number + suc (length lines) ≡ number + 1 + length lines = omega arith in
+    let rest = Prints-more (number + 1) h.2 lines h.1 mid line more new h.4 (subst (λ (k : ℕ). LineStep k mid line more new) place step) in
+    (h.0, h.1 ++ more, h.2, h.3, rest, ap (λ (t : List ℕ). t ++ more) h.5 ∙ append_assoc h.0 h.1 more)
 
 -- what was written before a line, and of it
 pub front_more : (a b c : Option (List ℕ)) (before text : List ℕ) (fault : ProgramFault) → Appends a b before → Writes {X = Unit {0}} text b c (Err fault)
@@ -46,42 +37,58 @@ front_more a b c before text NoMemory p q = (before, (text, refl), Appends-kept 
 front_more a b c before text (ScriptLine k) p q = absurd q
 
 -- a front of the lines, by how the last of them ended
-pub works_front : (old : State) (lines : List Line) (a : Option (List ℕ)) (new : State) (c : Option (List ℕ)) (text : List ℕ) (b : Option (List ℕ)) (fault : ProgramFault)
-    → Writes {X = Unit {0}} text b c (Err fault) → WorksFront old lines a new c → WorksLines {X = Unit {0}} old lines a new c (Err fault)
-works_front old lines a new c text b Device q h = h
-works_front old lines a new c text b NoMemory q h = h
-works_front old lines a new c text b (ScriptLine k) q h = absurd q
+works_front : (number : ℕ) (old : Life) (lines : List Line) (a c : Option (List ℕ)) (text : List ℕ) (b : Option (List ℕ)) (fault : ProgramFault)
+    → Writes {X = Unit {0}} text b c (Err fault) → WorksFront number old lines a c → WorksLines {X = Unit {0}} number old lines a c (Err fault)
+works_front number old lines a c text b Device q h = h
+works_front number old lines a c text b NoMemory q h = h
+works_front number old lines a c text b (ScriptLine k) q h = absurd q
 
-module _ (old : State) (yielded : List Line) (outputs : List Output) (mid new : State) (line : Line) (output : Output) (number : ℕ) (a b c : Option (List ℕ))
-    (answers : Answers old yielded outputs mid) (step : LineStep mid line output new) (count : number ≡ length yielded + 1)
-    (so_far : Appends a b (printed_from 2 outputs)) where
-  answered : Answers old (yielded ++ line ∷ []) (outputs ++ output ∷ []) new
-  answered = Answers-more old yielded outputs mid new line output answers step
+-- one more line was worked, and a front of its line was written
+pub one_more_fails : (number : ℕ) (old mid new : Life) (yielded rest lines : List Line) (line : Line) (text more : List ℕ) (a b c : Option (List ℕ)) (fault : ProgramFault)
+    → Prints number old yielded text mid → LineStep (number + length yielded) mid line more new → Appends a b text → Writes {X = Unit {0}} more b c (Err fault)
+    → (yielded ++ line ∷ []) ++ rest ≡ lines → WorksLines {X = Unit {0}} number old lines a c (Err fault)
+one_more_fails number old mid new yielded rest lines line text more a b c fault prints step so_far written whole =
+    let worked : take (length (yielded ++ line ∷ [])) lines ≡ yielded ++ line ∷ [] = ap (take (length (yielded ++ line ∷ []))) (sym whole) ∙ take-append_seam (yielded ++ line ∷ []) rest in
+    let front = front_more a b c text more fault so_far written in
+    works_front number old lines a c more b fault written (
+      length (yielded ++ line ∷ []),
+      text ++ more,
+      new,
+      subst (λ (ls : List Line). Prints number old ls (text ++ more) new) (sym worked) (Prints-more number old yielded text mid line more new prints step),
+      front.0,
+      front.1,
+      front.2,
+    )
 
-  text : printed_from 2 (outputs ++ output ∷ []) ≡ printed_from 2 outputs ++ printed_output (number + 1) output
-  text =
-      let same = Answers-length old yielded outputs mid answers in
-      let place : 2 + length outputs ≡ number + 1 = omega arith in
-      printed_from-more 2 outputs output ∙ ap (λ (k : ℕ). printed_from 2 outputs ++ printed_output k output) place
+-- which value there would have been is nothing to a fault
+pub writes_fault : (X Y : Type 0) (text : List ℕ) (a b : Option (List ℕ)) (fault : ProgramFault) → Writes {X = X} text a b (Err fault) → Writes {X = Y} text a b (Err fault)
+writes_fault X Y text a b Device w = w
+writes_fault X Y text a b NoMemory w = w
+writes_fault X Y text a b (ScriptLine k) w = absurd w
 
-  -- one more line was worked, and its line was written
-  pub one_more : Appends b c (printed_output (number + 1) output)
-      → (all : List Output) × Answers old (yielded ++ line ∷ []) all new × Appends a c (printed_from 2 all)
-  one_more written = (outputs ++ output ∷ [], answered, subst (Appends a c) (sym text) (Appends-trans a b c _ _ so_far written))
+-- a task was worked, and what it prints couldn't be written
+pub task_fails : {R : Type 0} (lives : R → Life → Type 0) (number : ℕ) (old : Life) (task : Task) (text : List ℕ) (new : Life) (a b : Option (List ℕ)) (fault : ProgramFault)
+    → TaskStep number old task text new → Writes {X = Unit {0}} text a b (Err fault) → WorksTask lives number old task a b (Err fault)
+task_fails {R} lives number old task text new a b fault step writes = record { text = text; new = new; step = step; writes = writes_fault (Unit {0}) R text a b fault writes; goes_on = tt }
 
-  -- one more line was worked, and a front of its line was written
-  pub one_more_front : (fault : ProgramFault) (lines rest : List Line) → Writes {X = Unit {0}} (printed_output (number + 1) output) b c (Err fault)
-      → (yielded ++ line ∷ []) ++ rest ≡ lines → WorksFront old lines a new c
-  one_more_front fault lines rest written whole =
-      let worked : take (length (yielded ++ line ∷ [])) lines ≡ yielded ++ line ∷ [] = ap (take (length (yielded ++ line ∷ []))) (sym whole) ∙ take-append_seam (yielded ++ line ∷ []) rest in
-      let front = front_more a b c (printed_from 2 outputs) (printed_output (number + 1) output) fault so_far written in (
-        length (yielded ++ line ∷ []),
-        outputs ++ output ∷ [],
-        subst (λ (ls : List Line). Answers old ls (outputs ++ output ∷ []) new) (sym worked) answered,
-        front.0,
-        subst (IsFront front.0) (sym text) front.1,
-        front.2,
-      )
+-- the first line was worked, and couldn't be written
+pub begin_fails : {R : Type 0} (lives : R → Life → Type 0) (per_ledger : ℕ) (text : List ℕ) (life : Life) (a b : Option (List ℕ)) (fault : ProgramFault)
+    → Begins per_ledger text life → Writes {X = Unit {0}} text a b (Err fault) → Begun lives per_ledger a b (Err fault)
+begin_fails lives per_ledger text life a b Device begins w = inr (text, life, begins, w.0, w.1, w.2)
+begin_fails lives per_ledger text life a b NoMemory begins w = w
+begin_fails lives per_ledger text life a b (ScriptLine k) begins w = absurd w
+
+-- what a status tells of a machine, as a line
+status_line : (up : Bool) (state : State) (status : TopicStatus) → node.StatusOf up state (Some status) → StatusOf up state (topic_line status.number status.entries status.segments (codes "persistent://a/b/c"))
+status_line true state status h = (
+  status.segments,
+  ap (λ (n : ℕ). topic_line n status.entries status.segments (codes "persistent://a/b/c")) h.0
+      ∙ ap (λ (n : ℕ). topic_line 0 n status.segments (codes "persistent://a/b/c")) h.1,
+)
+status_line false state status h = absurd (let no : ⊥ = cc in no)
+
+pub tells : (old : Life) (status : TopicStatus) → node.StatusOf old.up old.state (Some status) → Tells old (topic_line status.number status.entries status.segments (codes "persistent://a/b/c")) old
+tells old status h = record { same = refl; printed = status_line old.up old.state status h }
 
 -- the lines that were worked, the next one and the others are the whole
 pub next_of_whole : (yielded rest after lines : List Line) (line : Line) → yielded ++ rest ≡ lines → rest ≡ line ∷ after → (yielded ++ line ∷ []) ++ after ≡ lines
@@ -97,36 +104,41 @@ worked_all yielded rest lines whole none = sym (append-nil yielded) ∙ ap (λ (
 
 -- ---- a whole script
 
--- the line of `init`
-abbrev pub first_line : List ℕ
-first_line = output_line 1 [] Done
-
 module _ (bytes : List ℕ) (script : Script) (is : IsScript bytes script) (a : Option (List ℕ)) where
-  -- the first line failed
-  pub start_fails : (b : Option (List ℕ)) (fault : ProgramFault) → Writes {X = Unit {0}} first_line a b (Err fault) → Replays {X = Unit {0}} bytes a b (Err fault)
-  start_fails b Device w =
-      let whole : printed [] ≡ w.0 ++ w.1.0 = append-nil first_line ∙ w.1.1 in
-      inr (script, is, 0, [], fresh_state script.per_ledger, refl, w.0, (w.1.0, whole), w.2)
-  start_fails b NoMemory w = inl w
-  start_fails b (ScriptLine k) w = absurd w
+  -- only the first line was worked
+  begun_alone : (text : List ℕ) (life : Life) → Begins script.per_ledger text life → Plays script.per_ledger (take 0 script.lines) text
+  begun_alone text life begins = record { begun = life; first = text; begins = begins; rest = []; last = life; prints = (refl, refl); printed = sym (append-nil text) }
 
-  works_front_from : (b c : Option (List ℕ)) (node : State) → Appends a b first_line → WorksFront (fresh_state script.per_ledger) script.lines b node c → ReplaysFront bytes a c
-  works_front_from b c node p h =
-      let whole : printed h.1 ≡ (first_line ++ h.3) ++ h.4.0 = ap (λ (x : List ℕ). first_line ++ x) h.4.1 ∙ sym (append_assoc first_line h.3 h.4.0) in
-      (script, is, h.0, h.1, node, h.2, first_line ++ h.3, (h.4.0, whole), Appends-trans a b c _ _ p h.5)
+  -- the first line failed
+  pub begun_fails : {R : Type 0} (lives : R → Life → Type 0) (c : Option (List ℕ)) (fault : ProgramFault) → Begun lives script.per_ledger a c (Err fault) → Replays {X = Unit {0}} bytes a c (Err fault)
+  begun_fails lives c Device h = ⊎_elim (λ (k : Keeps a c). let r : Replays {X = Unit {0}} bytes a c (Err Device) = inl k in r)
+      (λ (f : (text : List ℕ) × (life : Life) × Begins script.per_ledger text life × (front : List ℕ) × IsFront front text × Appends a c front). inr (script, is, 0, f.0, begun_alone f.0 f.1 f.2, f.3, f.4, f.5)) h
+  begun_fails lives c NoMemory h = inl h
+  begun_fails lives c (ScriptLine k) h = absurd h
+
+  works_front_from : (b c : Option (List ℕ)) (text : List ℕ) (life : Life) → Begins script.per_ledger text life → Appends a b text → WorksFront 2 life script.lines b c → ReplaysFront bytes a c
+  works_front_from b c text life begins p h =
+      let plays : Plays script.per_ledger (take h.0 script.lines) (text ++ h.1) = record { begun = life; first = text; begins = begins; rest = h.1; last = h.2; prints = h.3; printed = refl } in
+      (script, is, h.0, text ++ h.1, plays, text ++ h.4, (h.5.0, ap (λ (x : List ℕ). text ++ x) h.5.1 ∙ sym (append_assoc text h.4 h.5.0)), Appends-trans a b c text h.4 p h.6)
 
   -- a further line failed
-  pub run_fails : (b c : Option (List ℕ)) (node : State) (fault : ProgramFault) → Appends a b first_line
-      → WorksLines {X = Unit {0}} (fresh_state script.per_ledger) script.lines b node c (Err fault) → Replays {X = Unit {0}} bytes a c (Err fault)
-  run_fails b c node Device p h = inr (works_front_from b c node p h)
-  run_fails b c node NoMemory p h = inr (works_front_from b c node p h)
-  run_fails b c node (ScriptLine k) p h = absurd h
+  pub run_fails : (b c : Option (List ℕ)) (text : List ℕ) (life : Life) (fault : ProgramFault) → Begins script.per_ledger text life → Appends a b text
+      → WorksLines {X = Unit {0}} 2 life script.lines b c (Err fault) → Replays {X = Unit {0}} bytes a c (Err fault)
+  run_fails b c text life Device begins p h = inr (works_front_from b c text life begins p h)
+  run_fails b c text life NoMemory begins p h = inr (works_front_from b c text life begins p h)
+  run_fails b c text life (ScriptLine k) begins p h = absurd h
 
-  module _ (b c d : Option (List ℕ)) (node : State) (p : Appends a b first_line) (outputs : List Output)
-      (answers : Answers (fresh_state script.per_ledger) script.lines outputs node) (q : Appends b c (printed_from 2 outputs)) (kept : Keeps c d) where
+  module _ (b c d : Option (List ℕ)) (text rest : List ℕ) (life last : Life) (begins : Begins script.per_ledger text life) (p : Appends a b text)
+      (prints : Prints 2 life script.lines rest last) (q : Appends b c rest) (kept : Keeps c d) where
     -- all went well
     pub run_ends : ReplaysAll bytes a d
-    run_ends = (script, is, outputs, node, answers, Appends-kept a c d _ (Appends-trans a b c _ _ p q) kept)
+    run_ends = (
+      script,
+      is,
+      text ++ rest,
+      record { begun = life; first = text; begins = begins; rest = rest; last = last; prints = prints; printed = refl },
+      Appends-kept a c d _ (Appends-trans a b c _ _ p q) kept,
+    )
 
     -- all was written, but for what a flush may have lost
     pub flush_fails : Replays {X = Unit {0}} bytes a d (Err Device)
@@ -136,11 +148,10 @@ module _ (bytes : List ℕ) (script : Script) (is : IsScript bytes script) (a : 
           script,
           is,
           length script.lines,
-          outputs,
-          node,
-          subst (λ (ls : List Line). Answers (fresh_state script.per_ledger) ls outputs node) (sym all) answers,
-          printed outputs,
-          ([], sym (append-nil (printed outputs))),
+          text ++ rest,
+          subst (λ (ls : List Line). Plays script.per_ledger ls (text ++ rest)) (sym all) (record { begun = life; first = text; begins = begins; rest = rest; last = last; prints = prints; printed = refl }),
+          text ++ rest,
+          ([], sym (append-nil (text ++ rest))),
           Appends-kept a c d _ (Appends-trans a b c _ _ p q) kept,
         )
 
@@ -151,9 +162,3 @@ read_fails None a NoMemory h = ([], tt, inl (Keeps-refl a))
 read_fails (Some left) a Device h = (left, refl, inl (Keeps-refl a))
 read_fails (Some left) a NoMemory h = (left, refl, inl (Keeps-refl a))
 read_fails known a (ScriptLine k) h = absurd h
-
--- the same, from an equal node and equal lines
-pub works_same : {X : Type 0} (start old : State) (given lines : List Line) (b : Option (List ℕ)) (node : State) (c : Option (List ℕ)) (result : Result X ProgramFault)
-    → start ≡ old → given ≡ lines → WorksLines start given b node c result → WorksLines old lines b node c result
-works_same start old given lines b node c result e f h =
-    subst (λ (s : State). WorksLines s lines b node c result) e (subst (λ (ls : List Line). WorksLines start ls b node c result) f h)

@@ -1,39 +1,87 @@
 -- What a replay reads and writes.
-use Rattle.std.specs.Prelude.{◌≡◌, ℕ, ◌+◌, List, [], ◌∷◌, ◌++◌, map, take, ◌⊎◌, Option, Some, None, Result, Ok, Err}
+use Rattle.std.specs.Prelude.{◌≡◌, ℕ, ◌+◌, Bool, true, false, List, [], ◌∷◌, ◌++◌, length, take, codes, ◌⊎◌, Option, Some, None, Result, Ok, Err, IfOk}
 use Rattle.std.specs.Io.KnownBytes.{Appends, Keeps}
-use Rattle.node.specs.State.{State, fresh_state}
-use Rattle.node.specs.Steps.{BrokerStep}
-use Rattle.node.specs.Runs.{Run}
+use Rattle.session.specs.Broker.{topic_at}
+use Rattle.node.specs.State.{State, fresh_broker}
+use Rattle.node.specs.Runs.{Life, OpeningStep, HappeningStep}
 use Rattle.node.specs.declared.event.Output.{Output}
+use Rattle.node.specs.declared.event.Happening.{Happening}
+use Rattle.node.specs.declared.event.Happening.TheVariants as happening
 use Rattle.script.specs.declared.line.Line.{Line}
 use Rattle.script.specs.declared.script.Script.{Script}
-use Rattle.script.specs.declared.output.Outcome.TheVariants.{Done}
+use Rattle.script.specs.declared.output.Outcome.TheVariants.{Done, Refused}
+use Rattle.script.specs.declared.output.StorageRefusal.TheVariants as refusal
 use Rattle.script.specs.Script.{IsScript, IsFirstBad}
-use Rattle.script.specs.Output.{output_line}
-use Rattle.pulsar_node.specs.Event.{event_of, outcome_of}
+use Rattle.script.specs.Output.{output_line, topic_line}
+use Rattle.pulsar_node.specs.Event.{task_of, outcome_of}
+use Rattle.pulsar_node.specs.declared.event.Task.{Task}
+use Rattle.pulsar_node.specs.declared.event.Task.TheVariants as task
 use Rattle.pulsar_node.specs.declared.fault.ProgramFault.{ProgramFault}
 use Rattle.pulsar_node.specs.declared.fault.ProgramFault.TheVariants.{Device, NoMemory, ScriptLine}
-
--- one line is one event of the broker
-abbrev pub LineStep : State → Line → Output → State → Type 0
-LineStep old line output new = BrokerStep old (event_of line) output new
-
--- the broker answers the events of these lines by these outputs, one after another
-abbrev pub Answers : State → List Line → List Output → State → Type 0
-Answers old lines outputs new = Run old (map event_of lines) outputs new
 
 -- the printed line of an output
 abbrev pub printed_output : ℕ → Output → List ℕ
 printed_output number output = output_line number output.bytes (outcome_of output.result)
 
--- the printed lines of outputs, the first of which has this number
-abbrev pub printed_from : ℕ → List Output → List ℕ
-printed_from number [] = []
-printed_from number (output ∷ outputs) = printed_output number output ++ printed_from (number + 1) outputs
+-- something happens to the machine, and its output is printed
+pub record Happens (number : ℕ) (old : Life) (happening : Happening) (text : List ℕ) (new : Life) : Type 0 where
+  pub output : Output
+  pub step : HappeningStep old happening output new
+  pub printed : text ≡ printed_output number output
 
--- all that is printed: the line of `init`, and one line for each output
-abbrev pub printed : List Output → List ℕ
-printed outputs = output_line 1 [] Done ++ printed_from 2 outputs
+-- a failure is ordered, or memory is refused for that; neither changes the life of the machine
+pub record Arms (number : ℕ) (old : Life) (text : List ℕ) (new : Life) : Type 0 where
+  pub same : new ≡ old
+  pub printed : (text ≡ output_line number [] Done) ⊎ (text ≡ output_line number [] (Refused refusal.NoMemory))
+
+-- the power is cut and comes back, or memory was refused for the order that says how, and the machine goes on
+abbrev pub Cuts : ℕ → Life → List ℕ → Life → Type 0
+Cuts number old text new =
+    Happens number old (happening.Crash) text new
+    ⊎ ((new ≡ old) × (text ≡ output_line number [] (Refused refusal.NoMemory)))
+
+-- the status line of the topic, with the entries of its ledger; a node that is down has none
+abbrev pub StatusOf : Bool → State → List ℕ → Type 0
+StatusOf true state text = (segments : ℕ) × (text ≡ topic_line 0 (length (topic_at state.broker 0).ledger) segments (codes "persistent://a/b/c"))
+StatusOf false state text = text ≡ []
+
+pub record Tells (old : Life) (text : List ℕ) (new : Life) : Type 0 where
+  pub same : new ≡ old
+  pub printed : StatusOf old.up old.state text
+
+abbrev pub TaskStep : ℕ → Life → Task → List ℕ → Life → Type 0
+TaskStep number old (task.Event event) text new = Happens number old (happening.Event event) text new
+TaskStep number old (task.Arm fuse) text new = Arms number old text new
+TaskStep number old (task.Crash form) text new = Cuts number old text new
+TaskStep number old task.Status text new = Tells old text new
+
+-- one line of a script is worked, and prints this
+abbrev pub LineStep : ℕ → Life → Line → List ℕ → Life → Type 0
+LineStep number old line text new = TaskStep number old (task_of line) text new
+
+-- lines are worked, one after another, of which the first has this number, and print this
+abbrev pub Prints : ℕ → Life → List Line → List ℕ → Life → Type 0
+Prints number old [] text new = (text ≡ []) × (new ≡ old)
+Prints number old (line ∷ lines) text new =
+    (first : List ℕ) × (rest : List ℕ) × (between : Life) × LineStep number old line first between × Prints (number + 1) between lines rest new × (text ≡ first ++ rest)
+
+-- A script is begun: the files of a new topic are made, and a node is opened over them.
+pub record Begins (per_ledger : ℕ) (text : List ℕ) (new : Life) : Type 0 where
+  pub made : State
+  pub broker : made.broker ≡ fresh_broker per_ledger
+  pub output : Output
+  pub opening : OpeningStep made output new
+  pub printed : text ≡ printed_output 1 output
+
+-- the lines of a script are worked: its first one, and then the others
+pub record Plays (per_ledger : ℕ) (lines : List Line) (text : List ℕ) : Type 0 where
+  pub begun : Life
+  pub first : List ℕ
+  pub begins : Begins per_ledger first begun
+  pub rest : List ℕ
+  pub last : Life
+  pub prints : Prints 2 begun lines rest last
+  pub printed : text ≡ first ++ rest
 
 abbrev pub IsFront : List ℕ → List ℕ → Type 0
 IsFront front whole = (rest : List ℕ) × (whole ≡ front ++ rest)
@@ -51,35 +99,43 @@ Writes text old new (Err Device) = (front : List ℕ) × IsFront front text × A
 Writes text old new (Err NoMemory) = Keeps old new
 Writes text old new (Err (ScriptLine k)) = ⊥
 
--- one line was worked, and the line of its output written
-abbrev pub WorksLine : {X : Type 0} → State → Line → ℕ → Option (List ℕ) → State → Option (List ℕ) → Result X ProgramFault → Type 0
-WorksLine old line number before new after result =
-    (output : Output) × LineStep old line output new × Writes (printed_output number output) before after result
-
 -- lines were worked in order, or the first of them, and a front of what they print was written
-abbrev pub WorksFront : State → List Line → Option (List ℕ) → State → Option (List ℕ) → Type 0
-WorksFront old lines before new after =
-    (worked : ℕ) × (outputs : List Output) × Answers old (take worked lines) outputs new
-    × (front : List ℕ) × IsFront front (printed_from 2 outputs) × Appends before after front
+abbrev pub WorksFront : ℕ → Life → List Line → Option (List ℕ) → Option (List ℕ) → Type 0
+WorksFront number old lines before after =
+    (worked : ℕ) × (text : List ℕ) × (new : Life) × Prints number old (take worked lines) text new
+    × (front : List ℕ) × IsFront front text × Appends before after front
 
-abbrev pub WorksLines : {X : Type 0} → State → List Line → Option (List ℕ) → State → Option (List ℕ) → Result X ProgramFault → Type 0
-WorksLines old lines before new after (Ok _) = (outputs : List Output) × Answers old lines outputs new × Appends before after (printed_from 2 outputs)
-WorksLines old lines before new after (Err Device) = WorksFront old lines before new after
-WorksLines old lines before new after (Err NoMemory) = WorksFront old lines before new after
-WorksLines old lines before new after (Err (ScriptLine k)) = ⊥
+abbrev pub WorksLines : {X : Type 0} → ℕ → Life → List Line → Option (List ℕ) → Option (List ℕ) → Result X ProgramFault → Type 0
+WorksLines number old lines before after (Ok _) = (text : List ℕ) × (new : Life) × Prints number old lines text new × Appends before after text
+WorksLines number old lines before after (Err Device) = WorksFront number old lines before after
+WorksLines number old lines before after (Err NoMemory) = WorksFront number old lines before after
+WorksLines number old lines before after (Err (ScriptLine k)) = ⊥
 
--- the script was worked to its end, and all its lines were written
+-- the task of a line was worked, and what it prints written; where that went well the replay lives on
+pub record WorksTask {R : Type 0} (lives : R → Life → Type 0) (number : ℕ) (old : Life) (task : Task) (before after : Option (List ℕ)) (result : Result R ProgramFault) : Type 0 where
+  pub text : List ℕ
+  pub new : Life
+  pub step : TaskStep number old task text new
+  pub writes : Writes text before after result
+  pub goes_on : IfOk result (λ replay. lives replay new)
+
+-- the first line was worked and written, or a front of it; or it couldn't be worked
+abbrev pub Begun : {R : Type 0} → (R → Life → Type 0) → ℕ → Option (List ℕ) → Option (List ℕ) → Result R ProgramFault → Type 0
+Begun lives per_ledger before after (Ok replay) = (text : List ℕ) × (life : Life) × Begins per_ledger text life × lives replay life × Appends before after text
+Begun lives per_ledger before after (Err Device) = Keeps before after ⊎ ((text : List ℕ) × (life : Life) × Begins per_ledger text life × (front : List ℕ) × IsFront front text × Appends before after front)
+Begun lives per_ledger before after (Err NoMemory) = Keeps before after
+Begun lives per_ledger before after (Err (ScriptLine k)) = ⊥
+
+-- the script was worked to its end, and all that its lines print was written
 abbrev pub ReplaysAll : List ℕ → Option (List ℕ) → Option (List ℕ) → Type 0
 ReplaysAll bytes old new =
-    (script : Script) × IsScript bytes script × (outputs : List Output) × (node : State)
-    × Answers (fresh_state script.per_ledger) script.lines outputs node × Appends old new (printed outputs)
+    (script : Script) × IsScript bytes script × (text : List ℕ) × Plays script.per_ledger script.lines text × Appends old new text
 
 -- the first lines of the script were worked, and a front of what they print was written
 abbrev pub ReplaysFront : List ℕ → Option (List ℕ) → Option (List ℕ) → Type 0
 ReplaysFront bytes old new =
-    (script : Script) × IsScript bytes script × (worked : ℕ) × (outputs : List Output) × (node : State)
-    × Answers (fresh_state script.per_ledger) (take worked script.lines) outputs node
-    × (front : List ℕ) × IsFront front (printed outputs) × Appends old new front
+    (script : Script) × IsScript bytes script × (worked : ℕ) × (text : List ℕ) × Plays script.per_ledger (take worked script.lines) text
+    × (front : List ℕ) × IsFront front text × Appends old new front
 
 -- what a replay of these bytes writes, by how it ends
 abbrev pub Replays : {X : Type 0} → List ℕ → Option (List ℕ) → Option (List ℕ) → Result X ProgramFault → Type 0

@@ -1,20 +1,51 @@
 ghost use Rattle.std.specs.Prelude.{◌≡◌};
-ghost use Rattle.pulsar_node.specs.Event.{event_of, outcome_of, fault_of};
+ghost use Rattle.pulsar_node.specs.Event.{form_of, task_of, outcome_of, fault_of, refusal_of};
 
-use node::{Event, Octets, Verdict};
-use script::{Line, Outcome, SessionFault};
+use disk::{CrashForm, Fuse};
+use node::{Event, Octets, Refusal, Verdict};
+use script::{CrashAs, Line, Outcome, SessionFault, StorageRefusal};
 use session::Fault;
 
-/// The event that a line of a script is.
-pub(crate) fn event_of(line: Line) -> Event
-    ensures { result ≡ event_of line }
+/// What a line of a script asks of the machine.
+#[derive(Drop)]
+pub(crate) enum Task {
+    /// An event of its node.
+    Event(Event),
+    /// An order for a failure of its device.
+    Arm(Fuse),
+    /// That the power is cut, which leaves files of this form, and comes back.
+    Crash(CrashForm),
+    /// Its status lines.
+    Status,
+}
+
+/// What a line asks.
+pub(crate) fn task_of(line: Line) -> Task
+    ensures { result ≡ task_of line }
 {
     match line {
-        Line::Open => Event::Open,
-        Line::Bytes { session, bytes } => Event::Bytes(session, Octets::new(bytes.into_vec())),
-        Line::Pump(session) => Event::Pump(session),
-        Line::Close(session) => Event::Close(session),
-        Line::Flush(topic) => Event::Flush(topic),
+        Line::Open => Task::Event(Event::Open),
+        Line::Bytes { session, bytes } => {
+            Task::Event(Event::Bytes(session, Octets::new(bytes.into_vec())))
+        }
+        Line::Pump(session) => Task::Event(Event::Pump(session)),
+        Line::Close(session) => Task::Event(Event::Close(session)),
+        Line::Flush(topic) => Task::Event(Event::Flush(topic)),
+        Line::Reopen(topic) => Task::Event(Event::Reopen(topic)),
+        Line::Fail(call) => Task::Arm(Fuse::Fail(call)),
+        Line::Stop(call) => Task::Arm(Fuse::Stop(call)),
+        Line::Crash(left) => Task::Crash(form_of(left)),
+        Line::Status => Task::Status,
+    }
+}
+
+fn form_of(left: CrashAs) -> CrashForm
+    ensures { result ≡ form_of left }
+{
+    match left {
+        CrashAs::Old => CrashForm::Old,
+        CrashAs::New => CrashForm::New,
+        CrashAs::Fill(byte) => CrashForm::Fill(byte),
     }
 }
 
@@ -25,9 +56,22 @@ pub(crate) fn outcome_of(verdict: Verdict) -> Outcome
     match verdict {
         Verdict::Done => Outcome::Done,
         Verdict::Ended(fault) => Outcome::Ended(fault_of(fault)),
-        Verdict::NoMemory => Outcome::NoMemory,
+        Verdict::Refused(refusal) => Outcome::Refused(refusal_of(refusal)),
         Verdict::Full => Outcome::Full,
         Verdict::Unknown => Outcome::Unknown,
+    }
+}
+
+fn refusal_of(refusal: Refusal) -> StorageRefusal
+    ensures { result ≡ refusal_of refusal }
+{
+    match refusal {
+        Refusal::Device => StorageRefusal::Device,
+        Refusal::Damaged { .. } => StorageRefusal::Damaged,
+        Refusal::NotInitialised => StorageRefusal::NotInitialised,
+        Refusal::Version => StorageRefusal::Version,
+        Refusal::NoMemory => StorageRefusal::NoMemory,
+        Refusal::TooLarge => StorageRefusal::TooLarge,
     }
 }
 

@@ -1,8 +1,9 @@
 ghost use Rattle.std.specs.Prelude.{◌≡◌};
 ghost use Rattle.script.specs.declared.script.ScriptFault.TheVariants as script_fault;
-ghost use Rattle.pulsar_node.specs.Fault.{fault_of_script};
+ghost use Rattle.pulsar_node.specs.Fault.{fault_of_script, fault_of_refusal};
 ghost use Rattle.pulsar_node.specs.declared.fault.ProgramFault.TheVariants.{NoMemory};
 
+use node::Refusal;
 use script::ScriptFault;
 use std::alloc::AllocError;
 use std::io;
@@ -29,6 +30,21 @@ impl From<ScriptFault> for ProgramFault {
         match fault {
             ScriptFault::BadLine(number) => ProgramFault::ScriptLine(number),
             ScriptFault::NoMemory => ProgramFault::NoMemory,
+        }
+    }
+}
+
+impl From<Refusal> for ProgramFault {
+    ghost from_gives = { λ refusal e. e ≡ fault_of_refusal refusal };
+
+    fn from(refusal: Refusal) -> ProgramFault {
+        match refusal {
+            Refusal::NoMemory => ProgramFault::NoMemory,
+            Refusal::Device
+            | Refusal::Damaged { .. }
+            | Refusal::NotInitialised
+            | Refusal::Version
+            | Refusal::TooLarge => ProgramFault::Device,
         }
     }
 }

@@ -7,6 +7,7 @@ mod arguments;
 mod event;
 mod fault;
 mod replay;
+mod working;
 
 use crate::arguments::{command, script_file};
 use crate::fault::{ProgramFault, exit_status, write_fault};

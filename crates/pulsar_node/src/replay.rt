@@ -1,17 +1,15 @@
 ghost use Rattle.std.specs.Prelude.{◌≡◌, ◌≤◌, ℕ, List, [], length, take, IfOk, IfErr};
 ghost use Rattle.std.specs.Io.KnownBytes.{Appends};
-ghost use Rattle.script.specs.Output.{output_line as line_of_output};
-ghost use Rattle.pulsar_node.specs.Replay.{IsAllOf, IsOutage, Replays, WorksLine, WorksLines, Writes};
+ghost use Rattle.pulsar_node.specs.Replay.{IsAllOf, IsOutage, Replays, Writes};
 
-use crate::event::{event_of, outcome_of};
 use crate::fault::ProgramFault;
-use node::Node;
-use script::{Line, Outcome, Script, output_line, read_script};
+use crate::working::Replay;
+use script::{Script, read_script};
 use std::alloc::Global;
 use std::io;
 use std::io::{ErrorKind, Read, Write};
 
-/// Runs the script that the reader holds over a broker in memory, and writes a line for each of its lines. Where the
+/// Runs the script that the reader holds over a machine whose device is in memory, and writes a line for each of its lines. Where the
 /// reader's or the writer's bytes aren't known, the contract speaks of some bytes. A reader or writer that fails is a
 /// device fault; a signal that interrupts it isn't.
 pub fn replay<R: Read, W: Write>(
@@ -53,62 +51,16 @@ fn replay_script<W: Write>(alloc: Global, bytes: &[u8], writer: &mut W) -> Resul
     ensures { Replays bytes.now (W.contents writer.old) (W.contents writer.new) result }
 {
     let Script { per_ledger, lines } = read_script(alloc, bytes)?;
-    let mut node = Node::new(alloc, per_ledger as u32)?;
-    write_output(alloc, 1, &[], Outcome::Done, writer)?;
-    work_lines(alloc, &mut node, lines.into_vec(), writer)?;
+    let replay = Replay::begin(alloc, per_ledger as u32, writer)?;
+    replay.work_lines(lines.into_vec(), writer)?;
     match writer.flush() {
         Ok(()) => Ok(()),
         Err(_) => Err(ProgramFault::Device),
     }
 }
 
-// Works the lines in order, and writes the line of each.
-fn work_lines<W: Write>(
-    alloc: Global,
-    node: &mut Node,
-    lines: Vec<Line>,
-    writer: &mut W,
-) -> Result<(), ProgramFault>
-    ensures { WorksLines node.old lines.items (W.contents writer.old) node.new (W.contents writer.new) result }
-{
-    let mut number = 1;
-    for line in lines {
-        number += 1;
-        work_line(alloc, node, number, line, writer)?;
-    }
-    Ok(())
-}
-
-fn work_line<W: Write>(
-    alloc: Global,
-    node: &mut Node,
-    number: u64,
-    line: Line,
-    writer: &mut W,
-) -> Result<(), ProgramFault>
-    ensures { WorksLine node.old line number (W.contents writer.old) node.new (W.contents writer.new) result }
-{
-    let output = node.step(event_of(line));
-    let outcome = outcome_of(output.result);
-    write_output(alloc, number, output.bytes.as_slice(), outcome, writer)
-}
-
-// Writes the line of one event, or a front of it.
-fn write_output<W: Write>(
-    alloc: Global,
-    number: u64,
-    bytes: &[u8],
-    outcome: Outcome,
-    writer: &mut W,
-) -> Result<(), ProgramFault>
-    ensures { Writes (line_of_output number bytes.now outcome) (W.contents writer.old) (W.contents writer.new) result }
-{
-    let line = output_line(alloc, number, bytes, outcome)?;
-    write_whole(line.as_bytes(), writer)
-}
-
-// Writes all the bytes, or a front of them where the writer fails.
-fn write_whole<W: Write>(bytes: &[u8], writer: &mut W) -> Result<(), ProgramFault>
+/// Writes all the bytes, or a front of them where the writer fails.
+pub(crate) fn write_whole<W: Write>(bytes: &[u8], writer: &mut W) -> Result<(), ProgramFault>
     ensures { Writes bytes.now (W.contents writer.old) (W.contents writer.new) result }
 {
     let mut written = 0;

@@ -1,4 +1,6 @@
+mod crashes;
 mod faults;
 mod rows;
 mod scripts;
 mod support;
+mod sweeps;

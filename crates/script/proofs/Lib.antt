@@ -2,3 +2,4 @@ pub mod Numbers
 pub mod Texts
 pub mod Scripts
 pub mod Readings
+pub mod Padding

@@ -1,8 +1,10 @@
 -- What is read is what the bytes spell, and a bad line is the first one.
-use Rattle.std.proofs.Common.{◌≡◌, ℕ, zero, suc, ◌+◌, ◌-◌, ◌<◌, ◌≤◌, ◌^◌, Bool, true, false, cond, ◌&&◌, ◌⊎◌, inl, inr, List, [], ◌∷◌, ◌++◌, length, take, Option, Some, None, Result, Ok, Err, refl, sym, ap, ◌∙◌, subst, arith}
-use Rattle.std.specs.Prelude.{nat_lt, codes, option_map, ◌==◌, IfOk}
+use Rattle.std.proofs.Common.{◌≡◌, ℕ, zero, suc, ◌+◌, ◌-◌, ◌*◌, ◌<◌, ◌≤◌, ◌^◌, ◌≢◌, Bool, true, false, cond, ◌&&◌, ◌⊎◌, inl, inr, List, [], ◌∷◌, ◌++◌, length, get_or, take, Option, Some, None, Result, Ok, Err, refl, sym, ap, ◌∙◌, subst, arith}
+use Rattle.std.specs.Prelude.{nat_lt, not, codes, option_map, slice_get, ◌==◌, IfOk}
 use Rattle.std.proofs.lemmas.Option.{cond_some}
 use Rattle.std.specs.Option.{option_map_or}
+use Rattle.std.specs.List.{list_all}
+use Rattle.std.proofs.lemmas.List.Folds.{list_all_at}
 use Rattle.std.specs.Result.{result_ok}
 use Rattle.std.specs.Str.{all_ascii_digits, bytes_eq}
 use Rattle.std.specs.Str.Parse.{digits_value}
@@ -12,15 +14,18 @@ use Rattle.std.specs.Io.BufRead.{strip_last}
 use Rattle.std.proofs.lemmas.List.Splits.{length-slice_split}
 use Rattle.std.proofs.lemmas.Slice.Eq.{bytes_eq-Decides}
 use Rattle.std.proofs.lemmas.Str.Parse.{not_in_digits}
-use Rattle.hex.specs.Hex.{decode_of}
+use Rattle.hex.specs.Hex.{decode_of, decode_sized}
+use Rattle.hex.proofs.HexLemmas.{decode_of-ok, decode_sized-ok, decode_sized-twice}
 use Rattle.script.specs.declared.line.Line.{Line}
-use Rattle.script.specs.declared.line.Line.TheVariants.{Open, Bytes, Pump, Close, Flush}
+use Rattle.script.specs.declared.line.Line.TheVariants.{Open, Bytes, Pump, Close, Flush, Fail, Stop, Crash, Reopen, Status}
+use Rattle.script.specs.declared.line.CrashAs.{CrashAs}
+use Rattle.script.specs.declared.line.CrashAs.TheVariants.{Old, New, Fill}
 use Rattle.script.specs.declared.script.Script.{Script}
 use Rattle.script.specs.declared.script.ScriptFault.{ScriptFault}
 use Rattle.script.specs.declared.script.ScriptFault.TheVariants.{BadLine}
-use Rattle.script.specs.Line.{IsNumber, IsHex, IsNumbered, IsInit, IsLine}
+use Rattle.script.specs.Line.{IsNumber, IsHex, IsNumbered, IsInit, IsCrashAs, IsLine}
 use Rattle.script.specs.Script.{is_line_feed, texts_of, AreLines, SpellScript, IsScript, Begin, IsFirstBad}
-use Rattle.script.specs.Reading.{after, number_of, hex_of, init_of, around, bytes_line_of, line_of, lines_from, lines_after, onto_lines, script_after, script_of_texts, script_of, ReadsScript, ◌>>=◌}
+use Rattle.script.specs.Reading.{after, number_of, hex_of, byte_of, init_of, around, bytes_line_of, crash_as_of, event_of, numbered_line_of, line_of, lines_from, lines_after, onto_lines, script_after, script_of_texts, script_of, ReadsScript, ◌>>=◌}
 use Rattle.script.proofs.Numbers.{digits_model, number_of-some}
 use Rattle.script.proofs.Texts.{after-append, after-some, around-some, around-first}
 
@@ -52,6 +57,16 @@ hex_of-only text bytes h =
     let some : (length text == 0) ≡ false = ne_eqb (length text) 0 (λ e. omega (arith, h.0, e)) in
     rw some (ap result_ok h.1)
 
+-- what a value under `>>=` shows
+bind_some : {A B : Type 0} (o : Option A) (f : A → Option B) (y : B) → (o >>= f) ≡ Some y → (x : A) × (o ≡ Some x) × (f x ≡ Some y)
+bind_some (Some x) f y h = (x, refl, h)
+bind_some None f y h = cc h
+
+-- and under `option_map`
+map_some : {A B : Type 0} (f : A → B) (o : Option A) (y : B) → option_map f o ≡ Some y → (x : A) × (o ≡ Some x) × (f x ≡ y)
+map_some f (Some x) y h = (x, refl, cc h)
+map_some f None y h = cc h
+
 ok_of_some : {A E : Type 0} (r : Result A E) (x : A) → result_ok r ≡ Some x → r ≡ Ok x
 ok_of_some (Ok y) x h = cc h
 ok_of_some (Err e) x h = cc h
@@ -64,26 +79,40 @@ hex_of-is text bytes h =
       | inr some ↦ let e : (length text == 0) ≡ false = ne_eqb (length text) 0 some in (omega arith, ok_of_some (decode_of text) bytes (rw e at h))
     ]
 
+first_of_two : (bytes : List ℕ) (byte : ℕ) → 2 * length bytes ≡ 2 → slice_get bytes 0 ≡ Some byte → bytes ≡ byte ∷ []
+first_of_two [] byte two h = absurd (omega (arith, two))
+first_of_two (x ∷ []) byte two h = ap (λ (b : ℕ). b ∷ []) (some_same x byte h)
+first_of_two (x ∷ y ∷ rest) byte two h = absurd (omega arith)
+
+pub byte_of-only : (text : List ℕ) (byte : ℕ) → IsHex text (byte ∷ []) → byte_of text ≡ Some byte
+unfolding byte_of
+byte_of-only text byte h =
+    let two = (decode_of-ok text (byte ∷ []) h.1).2 in
+    let sized : decode_sized text 1 ≡ Ok (byte ∷ []) = decode_sized-twice text 1 (omega (arith, two)) ∙ h.1 in
+    rw sized refl
+
+pub byte_of-is : (text : List ℕ) (byte : ℕ) → byte_of text ≡ Some byte → IsHex text (byte ∷ [])
+unfolding byte_of
+byte_of-is text byte h =
+    let a = bind_some (result_ok (decode_sized text 1)) _ byte h in
+    let sized = ok_of_some (decode_sized text 1) a.0 a.1 in
+    let two = decode_sized-ok text 1 a.0 sized in
+    let whole = sym (decode_sized-twice text 1 two) ∙ sized in
+    let one = first_of_two a.0 byte (omega (arith, two, (decode_of-ok text a.0 whole).2)) a.2 in
+    (omega (arith, two), whole ∙ ap Ok one)
+
 -- ---- a line
 
--- what a value under `>>=` shows
-bind_some : {A B : Type 0} (o : Option A) (f : A → Option B) (y : B) → (o >>= f) ≡ Some y → (x : A) × (o ≡ Some x) × (f x ≡ Some y)
-bind_some (Some x) f y h = (x, refl, h)
-bind_some None f y h = cc h
+-- what holds of what a choice gave, where it holds of both
+chosen : {A P : Type 0} (b : Bool) (x y : A) (o : Option A) → (b ≡ true → x ≡ y → P) → (o ≡ Some y → P) → cond b (Some x) o ≡ Some y → P
+chosen true x y o this other h = this refl (some_same x y h)
+chosen false x y o this other h = other h
 
--- and under `option_map`
-map_some : {A B : Type 0} (f : A → B) (o : Option A) (y : B) → option_map f o ≡ Some y → (x : A) × (o ≡ Some x) × (f x ≡ y)
-map_some f (Some x) y h = (x, refl, cc h)
-map_some f None y h = cc h
-
-choice_some : (b : Bool) (x : Line) (o : Option Line) (y : Line) → cond b (Some x) o ≡ Some y → ((b ≡ true) × (x ≡ y)) ⊎ (o ≡ Some y)
-choice_some true x o y h = inl (refl, cc h)
-choice_some false x o y h = inr h
-
-after_some : (o : Option (List ℕ)) (found : List ℕ → Option Line) (otherwise : Option Line) (y : Line) → option_map_or found o otherwise ≡ Some y
-    → ((rest : List ℕ) × (o ≡ Some rest) × (found rest ≡ Some y)) ⊎ (otherwise ≡ Some y)
-after_some (Some rest) found otherwise y h = inl (rest, refl, h)
-after_some None found otherwise y h = inr h
+-- the same of a choice by a front
+chosen_after : {P : Type 0} (o : Option (List ℕ)) (found : List ℕ → Option Line) (otherwise : Option Line) (y : Line)
+    → ((rest : List ℕ) → o ≡ Some rest → found rest ≡ Some y → P) → (otherwise ≡ Some y → P) → option_map_or found o otherwise ≡ Some y → P
+chosen_after (Some rest) found otherwise y this other h = this rest refl h
+chosen_after None found otherwise y this other h = other h
 
 between_some : (n m : ℕ) → cond (nat_lt n 1) None (cond (nat_lt 50000 n) None (Some n)) ≡ Some m → (n ≡ m) × (1 ≤ n) × (n ≤ 50000)
 between_some n m h =
@@ -115,13 +144,44 @@ init_of-only text n h =
     let found : after (codes "init ") text ≡ Some number = ap (after (codes "init ")) h.0.1 ∙ after-append (codes "init ") number in
     rw (found, number_of-only number n h.0.2) (between_only n h.1 h.2)
 
--- a line of a word and a number
-numbered_is : (text word rest : List ℕ) (event : ℕ → Line) (line : Line) → ((n : ℕ) → IsNumbered text word n → IsLine text (event n))
-    → text ≡ word ++ 32 ∷ rest → option_map event (number_of rest) ≡ Some line → IsLine text line
-numbered_is text word rest event line same spelled h =
-    let p = map_some event (number_of rest) line h in
-    let numbered : IsNumbered text word p.0 = (rest, spelled, number_of-is rest p.0 p.1) in
-    subst (IsLine text) p.2 (same p.0 numbered)
+-- the event of a word, where the text is the word, one space and a number
+event_is : (text number : List ℕ) (n : ℕ) (line : Line) (word : List ℕ) → text ≡ word ++ 32 ∷ number → IsNumber number n → event_of word n ≡ Some line → IsLine text line
+event_is text number n line word spelled is =
+    one_of (codes "pump") Pump (λ h. h) _ (
+    one_of (codes "close") Close (λ h. h) _ (
+    one_of (codes "flush") Flush (λ h. h) _ (
+    one_of (codes "fail") Fail (λ h. h) _ (
+    one_of (codes "stop") Stop (λ h. h) _ (
+    one_of (codes "reopen") Reopen (λ h. h) _ (λ h. cc h))))))
+  where
+    one_of : (known : List ℕ) (event : ℕ → Line) → (IsNumbered text known n → IsLine text (event n)) → (others : Option Line) → (others ≡ Some line → IsLine text line)
+        → cond (bytes_eq word known) (Some (event n)) others ≡ Some line → IsLine text line
+    one_of known event same others other =
+        chosen (bytes_eq word known) (event n) line others
+        (λ e made. subst (IsLine text) made (same (number, spelled ∙ ap (λ (w : List ℕ). w ++ 32 ∷ number) ((bytes_eq-Decides word known).0 e), is))) other
+
+numbered_line_is : (text : List ℕ) (line : Line) → numbered_line_of text ≡ Some line → IsLine text line
+unfolding numbered_line_of
+numbered_line_is text line h =
+    let a = bind_some (around 32 text) _ line h in
+    let b = bind_some (number_of a.0.1) _ line a.2 in
+    event_is text a.0.1 b.0 line a.0.0 (around-some 32 text a.0 a.1) (number_of-is a.0.1 b.0 b.1) b.2
+
+crash_as_is : (text : List ℕ) (form : CrashAs) → crash_as_of text ≡ Some form → IsCrashAs text form
+unfolding crash_as_of
+crash_as_is text form =
+    chosen _ Old form _ (λ e made. subst (IsCrashAs text) made ((bytes_eq-Decides text (codes "old")).0 e)) (
+    chosen _ New form _ (λ e made. subst (IsCrashAs text) made ((bytes_eq-Decides text (codes "new")).0 e)) (λ h.
+    let a = map_some Fill (after (codes "fill ") text >>= byte_of) form h in
+    let b = bind_some (after (codes "fill ") text) byte_of a.0 a.1 in
+    let fact : IsCrashAs text (Fill a.0) = (b.0, after-some (codes "fill ") text b.0 b.1, byte_of-is b.0 a.0 b.2) in
+    subst (IsCrashAs text) a.2 fact))
+
+crash_line_is : (text words : List ℕ) (line : Line) → text ≡ codes "crash " ++ words → option_map Crash (crash_as_of words) ≡ Some line → IsLine text line
+crash_line_is text words line spelled h =
+    let a = map_some Crash (crash_as_of words) line h in
+    let fact : IsLine text (Crash a.0) = (words, spelled, crash_as_is words a.0 a.1) in
+    subst (IsLine text) a.2 fact
 
 bytes_line_is : (text words : List ℕ) (line : Line) → text ≡ codes "bytes " ++ words → bytes_line_of words ≡ Some line → IsLine text line
 unfolding bytes_line_of
@@ -135,27 +195,11 @@ bytes_line_is text words line spelled h =
 
 pub line_of-is : (text : List ℕ) (line : Line) → line_of text ≡ Some line → IsLine text line
 unfolding line_of
-line_of-is text line h =
-    elim (choice_some (bytes_eq text (codes "open")) Open _ line h) [
-      | inl is ↦ let fact : IsLine text Open = (bytes_eq-Decides text (codes "open")).0 is.0 in subst (IsLine text) is.1 fact
-      | inr h ↦
-          elim (after_some (after (codes "bytes ") text) _ _ line h) [
-            | inl is ↦ bytes_line_is text is.0 line (after-some (codes "bytes ") text is.0 is.1) is.2
-            | inr h ↦
-                elim (after_some (after (codes "pump ") text) _ _ line h) [
-                  | inl is ↦ numbered_is text (codes "pump") is.0 Pump line (λ n h. h) (after-some (codes "pump ") text is.0 is.1) is.2
-                  | inr h ↦
-                      elim (after_some (after (codes "close ") text) _ _ line h) [
-                        | inl is ↦ numbered_is text (codes "close") is.0 Close line (λ n h. h) (after-some (codes "close ") text is.0 is.1) is.2
-                        | inr h ↦
-                            elim (after_some (after (codes "flush ") text) _ _ line h) [
-                              | inl is ↦ numbered_is text (codes "flush") is.0 Flush line (λ n h. h) (after-some (codes "flush ") text is.0 is.1) is.2
-                              | inr h ↦ cc h
-                            ]
-                      ]
-                ]
-          ]
-    ]
+line_of-is text line =
+    chosen _ Open line _ (λ e made. subst (IsLine text) made ((bytes_eq-Decides text (codes "open")).0 e)) (
+    chosen _ Status line _ (λ e made. subst (IsLine text) made ((bytes_eq-Decides text (codes "status")).0 e)) (
+    chosen_after _ _ _ line (λ words e. bytes_line_is text words line (after-some (codes "bytes ") text words e)) (
+    chosen_after _ _ _ line (λ words e. crash_line_is text words line (after-some (codes "crash ") text words e)) (numbered_line_is text line))))
 
 bytes_line_only : (number hex bytes : List ℕ) (session : ℕ) → IsNumber number session → IsHex hex bytes → bytes_line_of (number ++ 32 ∷ hex) ≡ Some (Bytes session bytes)
 unfolding bytes_line_of
@@ -167,28 +211,74 @@ line_of-bytes : (words : List ℕ) → line_of (codes "bytes " ++ words) ≡ byt
 unfolding line_of after
 line_of-bytes words = refl
 
-line_of-pump : (number : List ℕ) → line_of (codes "pump" ++ 32 ∷ number) ≡ option_map Pump (number_of number)
+line_of-crash : (words : List ℕ) → line_of (codes "crash " ++ words) ≡ option_map Crash (crash_as_of words)
+unfolding line_of after
+line_of-crash words = refl
+
+crash_as_only : (text : List ℕ) (form : CrashAs) → IsCrashAs text form → crash_as_of text ≡ Some form
+unfolding crash_as_of after
+crash_as_only text Old h = rw h refl
+crash_as_only text New h = rw h refl
+crash_as_only text (Fill byte) h = rw h.1 (ap (option_map Fill) (byte_of-only h.0 byte h.2))
+
+no_space : (word : List ℕ) → list_all (λ byte. not (byte == 32)) word ≡ true → (i : ℕ) → i < length word → get_or word i 0 ≢ 32
+no_space word all i lt e =
+    let found : not (get_or word i 0 == 32) ≡ false = ap not (eq-eqb (get_or word i 0) 32 e) in
+    cc (sym all ∙ list_all_at (λ byte. not (byte == 32)) word i 0 lt found)
+
+-- a word without a space, one space and a number
+numbered_line_only : (text word : List ℕ) (n : ℕ) → list_all (λ byte. not (byte == 32)) word ≡ true → IsNumbered text word n → numbered_line_of text ≡ event_of word n
+unfolding numbered_line_of
+numbered_line_only text word n none h = rw (h.1, around-first 32 word h.0 (no_space word none), number_of-only h.0 n h.2) refl
+
+-- a line of a known word that no earlier form begins with
+numbered_only : (text word : List ℕ) (n : ℕ) → list_all (λ byte. not (byte == 32)) word ≡ true → ((number : List ℕ) → line_of (word ++ 32 ∷ number) ≡ numbered_line_of (word ++ 32 ∷ number))
+    → IsNumbered text word n → line_of text ≡ event_of word n
+numbered_only text word n none falls h = ap line_of h.1 ∙ falls h.0 ∙ ap numbered_line_of (sym h.1) ∙ numbered_line_only text word n none h
+
+line_of-pump : (number : List ℕ) → line_of (codes "pump" ++ 32 ∷ number) ≡ numbered_line_of (codes "pump" ++ 32 ∷ number)
 unfolding line_of after
 line_of-pump number = refl
 
-line_of-close : (number : List ℕ) → line_of (codes "close" ++ 32 ∷ number) ≡ option_map Close (number_of number)
+line_of-close : (number : List ℕ) → line_of (codes "close" ++ 32 ∷ number) ≡ numbered_line_of (codes "close" ++ 32 ∷ number)
 unfolding line_of after
 line_of-close number = refl
 
-line_of-flush : (number : List ℕ) → line_of (codes "flush" ++ 32 ∷ number) ≡ option_map Flush (number_of number)
+line_of-flush : (number : List ℕ) → line_of (codes "flush" ++ 32 ∷ number) ≡ numbered_line_of (codes "flush" ++ 32 ∷ number)
 unfolding line_of after
 line_of-flush number = refl
+
+line_of-fail : (number : List ℕ) → line_of (codes "fail" ++ 32 ∷ number) ≡ numbered_line_of (codes "fail" ++ 32 ∷ number)
+unfolding line_of after
+line_of-fail number = refl
+
+line_of-stop : (number : List ℕ) → line_of (codes "stop" ++ 32 ∷ number) ≡ numbered_line_of (codes "stop" ++ 32 ∷ number)
+unfolding line_of after
+line_of-stop number = refl
+
+line_of-reopen : (number : List ℕ) → line_of (codes "reopen" ++ 32 ∷ number) ≡ numbered_line_of (codes "reopen" ++ 32 ∷ number)
+unfolding line_of after
+line_of-reopen number = refl
 
 line_of-open : line_of (codes "open") ≡ Some Open
 unfolding line_of
 line_of-open = refl
 
+line_of-status : line_of (codes "status") ≡ Some Status
+unfolding line_of
+line_of-status = refl
+
 pub line_of-only : (text : List ℕ) (line : Line) → IsLine text line → line_of text ≡ Some line
 line_of-only text Open h = ap line_of h ∙ line_of-open
 line_of-only text (Bytes session bytes) h = ap line_of h.2 ∙ line_of-bytes (h.0 ++ 32 ∷ h.1) ∙ bytes_line_only h.0 h.1 bytes session h.3 h.4
-line_of-only text (Pump session) h = ap line_of h.1 ∙ line_of-pump h.0 ∙ ap (option_map Pump) (number_of-only h.0 session h.2)
-line_of-only text (Close session) h = ap line_of h.1 ∙ line_of-close h.0 ∙ ap (option_map Close) (number_of-only h.0 session h.2)
-line_of-only text (Flush topic) h = ap line_of h.1 ∙ line_of-flush h.0 ∙ ap (option_map Flush) (number_of-only h.0 topic h.2)
+line_of-only text (Pump session) h = numbered_only text (codes "pump") session refl line_of-pump h
+line_of-only text (Close session) h = numbered_only text (codes "close") session refl line_of-close h
+line_of-only text (Flush topic) h = numbered_only text (codes "flush") topic refl line_of-flush h
+line_of-only text (Fail k) h = numbered_only text (codes "fail") k refl line_of-fail h
+line_of-only text (Stop k) h = numbered_only text (codes "stop") k refl line_of-stop h
+line_of-only text (Crash form) h = ap line_of h.1 ∙ line_of-crash h.0 ∙ ap (option_map Crash) (crash_as_only h.0 form h.2)
+line_of-only text (Reopen topic) h = numbered_only text (codes "reopen") topic refl line_of-reopen h
+line_of-only text Status h = ap line_of h ∙ line_of-status
 
 -- ---- the lines behind the first
 

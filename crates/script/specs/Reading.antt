@@ -1,14 +1,16 @@
 -- What reading gives, as functions on lists of bytes. `Line` and `Script` say what is read.
-use Rattle.std.specs.Prelude.{◌≡◌, ℕ, ◌+◌, ◌^◌, ◌&&◌, ◌==◌, nat_lt, if◌then◌else◌, List, [], ◌∷◌, length, codes, Option, Some, None, Result, Ok, Err, option_map}
+use Rattle.std.specs.Prelude.{◌≡◌, ℕ, ◌+◌, ◌^◌, ◌&&◌, ◌==◌, nat_lt, if◌then◌else◌, List, [], ◌∷◌, length, codes, Option, Some, None, Result, Ok, Err, option_map, slice_get}
 use Rattle.std.specs.List.{slice_split, before_first, after_first, position_or_len}
 use Rattle.std.specs.Option.{option_map_or}
 use Rattle.std.specs.Result.{result_ok}
 use Rattle.std.specs.Str.{all_ascii_digits, bytes_eq}
 use Rattle.std.specs.Str.Parse.{digits_value}
-use Rattle.hex.specs.Hex.{decode_of}
+use Rattle.hex.specs.Hex.{decode_of, decode_sized}
 use Rattle.script.specs.Script.{is_line_feed, texts_of}
 use Rattle.script.specs.declared.line.Line.{Line}
-use Rattle.script.specs.declared.line.Line.TheVariants.{Open, Bytes, Pump, Close, Flush}
+use Rattle.script.specs.declared.line.Line.TheVariants.{Open, Bytes, Pump, Close, Flush, Fail, Stop, Crash, Reopen, Status}
+use Rattle.script.specs.declared.line.CrashAs.{CrashAs}
+use Rattle.script.specs.declared.line.CrashAs.TheVariants.{Old, New, Fill}
 use Rattle.script.specs.declared.line.LineFault.{LineFault}
 use Rattle.script.specs.declared.line.LineFault.TheVariants as line_fault
 use Rattle.script.specs.declared.script.Script.{Script}
@@ -57,6 +59,36 @@ bytes_line_of words = do
   bytes ← hex_of parts.1
   Some (Bytes session bytes)
 
+-- the byte of two hex digits
+unfoldable pub byte_of : List ℕ → Option ℕ
+byte_of text = do
+  bytes ← result_ok (decode_sized text 1)
+  slice_get bytes 0
+
+-- what a crash leaves
+unfoldable pub crash_as_of : List ℕ → Option CrashAs
+crash_as_of text =
+    if bytes_eq text (codes "old") then Some Old else
+    if bytes_eq text (codes "new") then Some New else
+    option_map Fill (after (codes "fill ") text >>= byte_of)
+
+-- the event of a word and a number
+abbrev pub event_of : List ℕ → ℕ → Option Line
+event_of word n =
+    if bytes_eq word (codes "pump") then Some (Pump n) else
+    if bytes_eq word (codes "close") then Some (Close n) else
+    if bytes_eq word (codes "flush") then Some (Flush n) else
+    if bytes_eq word (codes "fail") then Some (Fail n) else
+    if bytes_eq word (codes "stop") then Some (Stop n) else
+    if bytes_eq word (codes "reopen") then Some (Reopen n) else None
+
+-- a word, one space and a number
+unfoldable pub numbered_line_of : List ℕ → Option Line
+numbered_line_of text = do
+  parts ← around 32 text
+  n ← number_of parts.1
+  event_of parts.0 n
+
 -- what is made of what follows a front, or else of the text
 abbrev pub where_after : List ℕ → List ℕ → (List ℕ → Option Line) → Option Line → Option Line
 where_after front text found otherwise = option_map_or found (after front text) otherwise
@@ -65,11 +97,10 @@ where_after front text found otherwise = option_map_or found (after front text) 
 unfoldable pub line_of : List ℕ → Option Line
 line_of text =
     if bytes_eq text (codes "open") then Some Open else
+    if bytes_eq text (codes "status") then Some Status else
     where_after (codes "bytes ") text bytes_line_of (
-    where_after (codes "pump ") text (λ number. option_map Pump (number_of number)) (
-    where_after (codes "close ") text (λ number. option_map Close (number_of number)) (
-    where_after (codes "flush ") text (λ number. option_map Flush (number_of number))
-    None)))
+    where_after (codes "crash ") text (λ words. option_map Crash (crash_as_of words))
+    (numbered_line_of text))
 
 -- the pieces of what is left, if anything is
 abbrev pub pieces_of : Option (List ℕ) → List (List ℕ)

@@ -1,5 +1,5 @@
 ghost use Rattle.std.specs.Prelude.{◌≡◌, IfOk, string_bytes};
-ghost use Rattle.script.specs.Output.{output_line as line_of_output, hex_or_dash as text_of_bytes, word_of_outcome, word_of_fault};
+ghost use Rattle.script.specs.Output.{output_line as line_of_output, topic_line as line_of_topic, hex_or_dash as text_of_bytes, word_of_outcome, word_of_fault, word_of_refusal};
 
 use std::alloc::{AllocError, Global};
 
@@ -17,14 +17,29 @@ pub enum SessionFault {
     NoMemory,
 }
 
+/// A refusal of the stores, `S1` to `S6` in this order.
+#[derive(Clone, Copy, Debug, PartialEq, Eq)]
+pub enum StorageRefusal {
+    /// The device failed.
+    Device,
+    /// A file holds bytes that no crash leaves.
+    Damaged,
+    NotInitialised,
+    /// A file is of another version.
+    Version,
+    /// Memory was refused, and nothing changed.
+    NoMemory,
+    /// A batch is too large, and nothing changed.
+    TooLarge,
+}
+
 /// How an event ended.
 #[derive(Clone, Copy, Debug, PartialEq, Eq)]
 pub enum Outcome {
     Done,
     /// The session of the event ended.
     Ended(SessionFault),
-    /// Memory was refused, and nothing changed.
-    NoMemory,
+    Refused(StorageRefusal),
     /// No more sessions are taken.
     Full,
     /// No such session or topic; nothing changed.
@@ -50,15 +65,31 @@ impl SessionFault {
     }
 }
 
+impl StorageRefusal {
+    /// The refusal as a printed line names it.
+    pub fn as_str(self) -> &'static str
+        ensures { result.now ≡ word_of_refusal self }
+    {
+        match self {
+            StorageRefusal::Device => "S1",
+            StorageRefusal::Damaged => "S2",
+            StorageRefusal::NotInitialised => "S3",
+            StorageRefusal::Version => "S4",
+            StorageRefusal::NoMemory => "S5",
+            StorageRefusal::TooLarge => "S6",
+        }
+    }
+}
+
 impl Outcome {
-    /// The ending as a printed line names it: `ok`, the session's fault, `S5` for want of memory, `full` or `none`.
+    /// The ending as a printed line names it: `ok`, the session's fault, the stores' refusal, `full` or `none`.
     pub fn as_str(self) -> &'static str
         ensures { result.now ≡ word_of_outcome self }
     {
         match self {
             Outcome::Done => "ok",
             Outcome::Ended(why) => why.as_str(),
-            Outcome::NoMemory => "S5",
+            Outcome::Refused(why) => why.as_str(),
             Outcome::Full => "full",
             Outcome::Unknown => "none",
         }
@@ -78,6 +109,22 @@ pub fn output_line(
     let hex = hex_or_dash(alloc, bytes)?;
     let word = outcome.as_str();
     format!(in alloc; "{number} {hex} {word}\n")
+}
+
+/// The line that a status prints of one topic. Our own rule: `T`, the topic's number in 4 places, its entries in 10, its
+/// segment files in 6, and its name, one space apart, and a line feed. A number stands right in its places, behind spaces; a
+/// wider one takes more places.
+#[tactic(auto, using(crate::proofs::Padding::right_in_is))]
+pub fn topic_line(
+    alloc: Global,
+    number: u64,
+    entries: u64,
+    segments: u64,
+    name: &str,
+) -> Result<String, AllocError>
+    ensures { IfOk result (λ line. string_bytes line ≡ line_of_topic number entries segments name.now) }
+{
+    format!(in alloc; "T {number:>4} {entries:>10} {segments:>6} {name}\n")
 }
 
 fn hex_or_dash(alloc: Global, bytes: &[u8]) -> Result<String, AllocError>

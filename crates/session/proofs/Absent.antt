@@ -1,22 +1,24 @@
 -- A topic that isn't there has no producers and nothing due.
-use Rattle.std.proofs.Common.{◌≡◌, ℕ, ◌≤◌, List, [], length, set, get_or, refl, ap, sym, ◌∙◌, subst, false, Option, Some, None, Ok}
+use Rattle.std.proofs.Common.{◌≡◌, ℕ, ◌≤◌, List, [], ◌∷◌, length, refl, ap, sym, ◌∙◌, subst, false, Option, Some, None, Ok, arith}
 use Rattle.std.proofs.lemmas.List.{get_or_past, set-get_or}
+use Rattle.std.specs.FinMap as map
+use Rattle.records.specs.Maps.{Kept}
+use Rattle.subscriptions.specs.State.{Subscriptions}
+use Rattle.subscriptions.specs.Steps as subscriptions
 use Rattle.commands.specs.declared.reply.Reply.TheVariants.{SendError, AckResponse}
 use Rattle.commands.specs.declared.server_error.ServerError.TheVariants.{NotAllowedError, ConsumerNotFound}
-use Rattle.topic_core.specs.Core.{Core, Topic}
-use Rattle.topic_core.specs.Replies.{due_to}
+use Rattle.topic_core.specs.Core.{Topic, opened}
+use Rattle.reply_queues.specs.Replies.{due_to}
 use Rattle.topic_core.specs.declared.command.Send.{Send}
-use Rattle.topic_core.specs.declared.command.TopicCommand.{TopicCommand}
 use Rattle.topic_core.specs.declared.command.TopicCommand.TheVariants as command
-use Rattle.topic_core.specs.declared.command.Answer.{Answer}
 use Rattle.topic_core.specs.declared.command.Answer.TheVariants.{Now, Nothing}
 use Rattle.commands.specs.declared.consuming.Ack.{Ack as Asked}
 use Rattle.commands.specs.declared.consuming.AckType.{AckType}
 use Rattle.ids.specs.declared.message_id.MessageIdData.{MessageIdData}
 use Rattle.holds.specs.declared.consumer.ConsumerKey.{ConsumerKey}
-use Rattle.topic_core.specs.Steps.{TopicStep, GrantStep, ack_refused}
+use Rattle.topic_core.specs.Steps.{TopicStep, GrantStep, has_consumer, ack_refused}
 use Rattle.topic_core.specs.Dispatch.{Admits}
-use Rattle.session.specs.Broker.{Broker, fresh, topic_at, with_topic, with_core, due_at, CommandStep, GrantAt}
+use Rattle.session.specs.Broker.{Broker, fresh, topic_at, with_topic, due_at, left_topic, CommandStep, GrantAt}
 use Rattle.session.specs.Client.{Play, SaysAlone}
 use Rattle.session.specs.Producing.{Asks}
 use Rattle.session.specs.Consuming.{RefusesAck, ack_command}
@@ -30,6 +32,42 @@ due_at-absent b number who h = ap (λ (t : Topic). due_to who t.core.queues) (to
 -- nothing changes where the topic of a number is set to what it is
 pub with_topic-same : (b : Broker) (number : ℕ) → with_topic b number (topic_at b number) ≡ b
 with_topic-same b number = ap (λ (ts : List Topic). let x : Broker = record b { topics = ts } in x) (set-get_or b.topics number (fresh b.per_ledger))
+
+nothing_in : {A : Type 0} (xs : List A) → length xs ≡ 0 → xs ≡ []
+nothing_in [] h = refl
+nothing_in (x ∷ xs) h = absurd (omega arith)
+
+-- no subscription is durable
+abbrev none_kept : Kept
+none_kept = map.empty
+
+none_kept-len : map.len none_kept ≡ 0
+none_kept-len = map.len-empty _ _
+
+none_kept-entries : map.entries none_kept ≡ []
+none_kept-entries = nothing_in (map.entries none_kept) (sym (map.len-entries none_kept) ∙ none_kept-len)
+
+abbrev no_subs : Subscriptions
+no_subs = record { subs = []; changes = [] }
+
+none_opened : subscriptions.opened none_kept ≡ no_subs
+none_opened = ap (λ es. subscriptions.opened_all es) none_kept-entries
+
+-- a topic over no entry and no durable subscription
+abbrev over : ℕ → Subscriptions → Topic
+over n subs = record { core = record (opened n 0 none_kept) { subs = subs }; ledger = []; kept = none_kept }
+
+-- a fresh topic has no subscription
+fresh-over : (n : ℕ) → fresh n ≡ over n no_subs
+fresh-over n = ap (λ subs. over n subs) none_opened
+
+-- nobody leaves it
+pub fresh-left : (n who : ℕ) → left_topic (fresh n) who ≡ fresh n
+fresh-left n who = let P : Topic → Type 0 = λ t. left_topic t who ≡ t in subst P (sym (fresh-over n)) refl
+
+-- nobody has a consumer on a topic that isn't there
+pub has_consumer-absent : (b : Broker) (number who id : ℕ) → length b.topics ≤ number → has_consumer (topic_at b number).core who id ≡ false
+has_consumer-absent b number who id h = ap (λ (t : Topic). has_consumer t.core who id) (topic_at-absent b number h ∙ fresh-over b.per_ledger)
 
 -- a fresh topic refuses a SEND
 pub fresh-refuses : (n who : ℕ) (send : Send) → TopicStep (fresh n) who (command.Send send) (Now (SendError send.producer_id send.sequence_id NotAllowedError)) (fresh n)
@@ -53,11 +91,18 @@ asks-absent old number send new h s = record {
   answered = s.0;
 }
 
--- a fresh topic refuses an ACK
-pub fresh-acks : (n who id : ℕ) (kind : AckType) (ids : List MessageIdData) (request : Option ℕ) →
+-- a topic without subscriptions refuses an ACK
+over-acks : (n who id : ℕ) (kind : AckType) (ids : List MessageIdData) (request : Option ℕ) →
+    TopicStep (over n no_subs) who (command.Ack (record { consumer_id = id; ack_type = kind; ids = ids; request_id = request })) (ack_refused id request ConsumerNotFound) (over n no_subs)
+over-acks n who id kind ids None = record { core = (refl, refl); ledger = refl; kept = refl }
+over-acks n who id kind ids (Some request) = record { core = (refl, refl); ledger = refl; kept = refl }
+
+-- so does a fresh one
+fresh-acks : (n who id : ℕ) (kind : AckType) (ids : List MessageIdData) (request : Option ℕ) →
     TopicStep (fresh n) who (command.Ack (record { consumer_id = id; ack_type = kind; ids = ids; request_id = request })) (ack_refused id request ConsumerNotFound) (fresh n)
-fresh-acks n who id kind ids None = record { core = (refl, refl); ledger = refl; kept = refl }
-fresh-acks n who id kind ids (Some request) = record { core = (refl, refl); ledger = refl; kept = refl }
+fresh-acks n who id kind ids request =
+    let P : Topic → Type 0 = λ t. TopicStep t who (command.Ack (record { consumer_id = id; ack_type = kind; ids = ids; request_id = request })) (ack_refused id request ConsumerNotFound) t in
+    subst P (sym (fresh-over n)) (over-acks n who id kind ids request)
 
 -- so does one that isn't there
 pub absent-acks : (b : Broker) (number who : ℕ) (asked : Asked) → length b.topics ≤ number → CommandStep b number who (ack_command asked) (ack_refused asked.consumer_id asked.request_id ConsumerNotFound) b
@@ -92,7 +137,7 @@ acks-absent old number asked new h r = acks-answer asked.request_id old number a
 pub grants-absent : (b : Broker) (number who id permits : ℕ) → length b.topics ≤ number → GrantAt b number who id permits (Ok tt) b
 grants-absent b number who id permits h = record {
   step = let P : Topic → Type 0 = λ t. GrantStep t.core who id permits (Ok tt) t.core in
-      subst P (sym (topic_at-absent b number h)) (refl, refl);
+      subst P (sym (topic_at-absent b number h ∙ fresh-over b.per_ledger)) (refl, refl);
   others = sym (with_topic-same b number);
 }
 
@@ -100,4 +145,4 @@ grants-absent b number who id permits h = record {
 pub admits-absent : (b : Broker) (number : ℕ) (key : ConsumerKey) (i : ℕ) → length b.topics ≤ number → Admits (topic_at b number).core key i → ⊥
 admits-absent b number key i h a =
     let P : Topic → Type 0 = λ t. Admits t.core key i in
-    (subst P (topic_at-absent b number h) a).admitted
+    (subst P (topic_at-absent b number h ∙ fresh-over b.per_ledger) a).admitted

@@ -1,27 +1,23 @@
 -- How feeds and pumps end: with nothing due, or with a session that has left.
-use Rattle.std.proofs.Common.{◌≡◌, ◌≢◌, ◌≤◌, ◌<◌, ℕ, zero, suc, List, [], ◌∷◌, Bool, true, false, not, nat_lt, ◌&&◌, ◌||◌, nat_eq, cond, ⊎_elim, map, filter, get_or, refl, sym, ap, ◌∙◌, subst, Option, Some, None, Result, Ok, Err, arith, rules}
+use Rattle.std.proofs.Common.{◌≡◌, ◌≤◌, ◌<◌, ℕ, List, [], ◌∷◌, Bool, true, false, not, nat_lt, ◌&&◌, ◌||◌, nat_eq, cond, ⊎_elim, map, filter, get_or, refl, sym, ap, ◌∙◌, subst, Option, Some, None, Result, Ok, Err, arith}
 use Rattle.std.proofs.Math.ListN.{get_or-map}
 use Rattle.std.proofs.lemmas.Bool.{cases_eq}
 use Rattle.std.proofs.lemmas.Map.Views.{any-filter_same}
 use Rattle.std.specs.List.{list_any}
-use Rattle.commands.specs.declared.reply.Reply.{Reply}
-use Rattle.topic_core.specs.declared.producer.Producer.{Producer}
 use Rattle.topic_core.specs.Core.{Core, Topic}
-use Rattle.topic_core.specs.Replies.{SessionReplies, is_for, due_to, pending_to}
-use Rattle.holds.specs.declared.consumer.ConsumerKey.{ConsumerKey}
-use Rattle.subscriptions.specs.declared.consumer.Consumer.{Consumer}
+use Rattle.reply_queues.specs.Replies.{SessionReplies, is_for, due_to, pending_to}
 use Rattle.subscriptions.specs.State.{Subscription}
 use Rattle.subscriptions.specs.Steps.{is_on, is_consumer, left_on}
 use Rattle.topic_core.specs.Steps.{has_producer, is_producer, has_consumer, key_of, left}
 use Rattle.session.specs.declared.fault.Fault.{Fault}
-use Rattle.session.specs.declared.pumping.More.{More}
-use Rattle.session.specs.declared.pumping.More.TheVariants.{Yes, No}
+use Rattle.session.specs.declared.pumping.More.TheVariants.{No}
 use Rattle.session.specs.declared.pumping.PumpFault.{PumpFault}
-use Rattle.session.specs.declared.pumping.PumpFault.TheVariants.{Ended}
-use Rattle.session.specs.Broker.{Broker, fresh, topic_at, due_at, left_topic, left_all}
+use Rattle.session.specs.declared.pumping.PumpFault.TheVariants.{Ended, Device}
+use Rattle.session.specs.Broker.{Broker, fresh, topic_at, left_topic, left_all}
 use Rattle.session.specs.Client.{Client, Play, left_if, left_if_ended}
-use Rattle.session.specs.Working.{FeedIn, FeedStep, feed_result}
-use Rattle.session.specs.Pumping.{HasNothingDue, Pumps, PumpIn, PumpStep, pump_result}
+use Rattle.session.specs.Working.{FeedIn, feed_result}
+use Rattle.session.specs.Pumping.{HasNothingDue, ServesIf, PumpIn, pump_result}
+use Rattle.session.proofs.Absent.{fresh-left}
 use Rattle.session.proofs.Plays.{serves_if-fault, serves_if-due}
 use Rattle.session.specs.Laws.{HasLeft, PumpsFinish, EndedFeedsLeave, EndedPumpsLeave}
 
@@ -66,7 +62,9 @@ left-pending who (q ∷ queues) = left-pending-cons who q _ (is_for who q) refl 
 
 -- each topic was left
 pub topic_at-left_all : (b : Broker) (who number : ℕ) → topic_at (left_all b who) number ≡ left_topic (topic_at b number) who
-topic_at-left_all b who number = get_or-map (λ t. left_topic t who) b.topics number (fresh b.per_ledger)
+topic_at-left_all b who number =
+    ap (λ (t : Topic). get_or (map (λ x. left_topic x who) b.topics) number t) (sym (fresh-left b.per_ledger who))
+    ∙ get_or-map (λ t. left_topic t who) b.topics number (fresh b.per_ledger)
 
 -- so the session has left
 pub has_left : (p : Play) (b : Broker) → p.broker ≡ left_all b p.client.number → HasLeft p
@@ -97,21 +95,29 @@ ended_feeds_leave old bytes why new none h =
     let s = subst P none h in
     ended_leaves _ new why s.0.ends (fault_of-feed new.client.fault why s.1)
 
-pub fault_of-pump : (f : Option Fault) (replies messages : ℕ) (why : PumpFault) → Err why ≡ pump_result f replies messages → (x : Fault) × (f ≡ Some x)
-fault_of-pump None replies messages why h = absurd (let no : ⊥ = cc in no)
-fault_of-pump (Some x) replies messages why h = (x, refl)
+-- a pump whose device fails ends no session
+serves_until : (goes_on : Bool) (why : PumpFault) (a b : Play) → ServesIf goes_on (Err why) a b → why ≡ Device
+serves_until true why a b h = h.until.device
+serves_until false why a b h = let e = h.0 in absurd (let no : ⊥ = cc in no)
+
+fault_of-pump : (f : Option Fault) (goes_on : Bool) (replies : ℕ) (messages : Result ℕ PumpFault) (why : Fault) (a b : Play) → ServesIf goes_on messages a b →
+    Err (Ended why) ≡ pump_result f replies messages → (x : Fault) × (f ≡ Some x)
+fault_of-pump None goes_on replies (Ok messages) why a b s h = absurd (let no : ⊥ = cc in no)
+fault_of-pump None goes_on replies (Err other) why a b s h = let e = serves_until goes_on other a b s in absurd (let no : ⊥ = cc in no)
+fault_of-pump (Some x) goes_on replies messages why a b s h = (x, refl)
 
 pub ended_pumps_leave : EndedPumpsLeave
 ended_pumps_leave old why new none h =
-    let P : Option Fault → Type 0 = λ f. PumpIn f old (Err why) new in
+    let P : Option Fault → Type 0 = λ f. PumpIn f old (Err (Ended why)) new in
     let s = subst P none h in
-    let f = fault_of-pump s.served.client.fault s.replies s.messages why s.result_is in
+    let f = fault_of-pump s.served.client.fault (nat_lt s.replies 65536) s.replies s.messages why s.collected s.served s.serves s.result_is in
     ended_leaves s.served new f.0 s.ends (ap (λ (p : Play). p.client.fault) s.ends ∙ f.1)
 
 -- a pump that answers that no more is due has met no fault and not its bound
-pub stops_by_itself : (f : Option Fault) (replies messages : ℕ) → replies ≤ 65536 → Ok No ≡ pump_result f replies messages → (f ≡ None) × (replies < 65536)
-stops_by_itself None replies messages h e =
-    let P : ℕ → Type 0 = λ n. Ok No ≡ pump_result None n messages in
+pub stops_by_itself : (f : Option Fault) (replies : ℕ) (messages : Result ℕ PumpFault) → replies ≤ 65536 → Ok No ≡ pump_result f replies messages → (f ≡ None) × (replies < 65536)
+stops_by_itself None replies (Err why) h e = absurd (let no : ⊥ = cc in no)
+stops_by_itself None replies (Ok messages) h e =
+    let P : ℕ → Type 0 = λ n. Ok No ≡ pump_result None n (Ok messages) in
     (refl, ⊎_elim (λ same. let bound = subst P same e in absurd (let no : ⊥ = cc in no)) (λ other. omega arith) (cases_eq replies 65536))
 stops_by_itself (Some why) replies messages h e = absurd (let no : ⊥ = cc in no)
 

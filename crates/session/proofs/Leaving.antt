@@ -1,5 +1,5 @@
 -- A list whose first elements are changed, for a session that leaves one topic after another.
-use Rattle.std.proofs.Common.{◌≡◌, ℕ, zero, suc, ◌+◌, ◌<◌, ◌≤◌, List, [], ◌∷◌, length, map, get_or, set, refl, ap, sym, ◌∙◌, arith, rules, add-one}
+use Rattle.std.proofs.Common.{◌≡◌, ℕ, zero, suc, ◌+◌, ◌≤◌, List, [], ◌∷◌, length, map, get_or, set, refl, ap, sym, ◌∙◌, arith, add-one}
 use Rattle.topic_core.specs.Core.{Topic}
 use Rattle.session.specs.Broker.{Broker, fresh, left_topic, left_at, left_all}
 

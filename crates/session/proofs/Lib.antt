@@ -4,6 +4,7 @@ pub mod Leaving
 pub mod Names
 pub mod Places
 pub mod Plays
+pub mod Refusals
 pub mod Rising
 pub mod Serving
 pub mod Speaking

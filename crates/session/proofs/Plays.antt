@@ -1,17 +1,18 @@
 -- Steps, one after another.
-use Rattle.std.proofs.Common.{◌≡◌, ◌≢◌, ◌≤◌, ◌<◌, List, [], ◌∷◌, ◌++◌, length, set, get_or, refl, sym, subst, ap, ◌∙◌, ℕ, zero, suc, ◌+◌, ◌-◌, ◌⊎◌, Bool, true, false, Ok, arith, add-one, add-zero, add-suc, Option, Some, None, Result, inl, inr, ⊎_elim}
+use Rattle.std.proofs.Common.{◌≡◌, ◌≢◌, List, [], ◌∷◌, ◌++◌, length, set, get_or, refl, sym, subst, ap, ◌∙◌, ℕ, zero, suc, ◌+◌, ◌-◌, ◌⊎◌, Bool, true, false, Ok, arith, add-zero, add-suc, Option, Some, None, Result, Err, inl, inr}
 use Rattle.std.proofs.lemmas.List.{length-set, get_or-set_other}
 use Rattle.frames.specs.declared.fault.Fault.{Fault as FrameFault}
 use Rattle.frames.specs.declared.frame.Frame.{Frame}
 use Rattle.frames.specs.Streams.{Progress, FeedsOn}
 use Rattle.topic_core.specs.declared.dispatch.Outgoing.{Outgoing}
 use Rattle.topic_core.specs.Core.{Core, Topic}
-use Rattle.topic_core.specs.Replies.{due_to}
+use Rattle.reply_queues.specs.Replies.{due_to}
 use Rattle.session.specs.declared.fault.Fault.{Fault}
 use Rattle.session.specs.Broker.{Broker, fresh, topic_at, with_topic, due_at, DispatchAt}
 use Rattle.session.specs.Client.{Client, Play, play, Says, left_if, left_if_ended}
 use Rattle.session.specs.Working.{FrameStep, FramesStep, first_fault, ended_if, feed_result, FeedIn, FeedStep}
-use Rattle.session.specs.Pumping.{CollectsFrom, CollectsAt, Collects, HasNothingDue, SendsOne, Sends, FindsNoMemory, Serves, ServesEach, ServesIf}
+use Rattle.session.specs.Pumping.{CollectsFrom, CollectsAt, Collects, HasNothingDue, SendsOne, Sends, FindsNoMemory, Serves, ServesEach, ServesAll, ServesIf}
+use Rattle.session.specs.declared.pumping.PumpFault.{PumpFault}
 use Rattle.session.specs.declared.consumer_entry.ConsumerEntry.{ConsumerEntry}
 
 -- one frame more
@@ -93,9 +94,14 @@ serves_each-fault : (consumers : List ConsumerEntry) (most n : ℕ) (a b : Play)
 serves_each-fault [] most n a b h none = sym (ap (λ (p : Play). p.client.fault) h.1) ∙ none
 serves_each-fault (c ∷ cs) most n a b h none = serves-fault c most h.0 a h.2 h.3 (serves_each-fault cs (most - h.0) h.1 h.2 b h.4 none)
 
-pub serves_if-fault : (goes_on : Bool) (n : ℕ) (a b : Play) → ServesIf goes_on n a b → b.client.fault ≡ None → a.client.fault ≡ None
-serves_if-fault true n a b h none = serves_each-fault a.client.consumers 64 n a b h none
-serves_if-fault false n a b h none = sym (ap (λ (p : Play). p.client.fault) h.1) ∙ none
+serves_all-fault : (consumers : List ConsumerEntry) (most : ℕ) (result : Result ℕ PumpFault) (a b : Play) → ServesAll consumers most result a b → b.client.fault ≡ None → a.client.fault ≡ None
+serves_all-fault consumers most (Ok n) a b h none = serves_each-fault consumers most n a b h none
+serves_all-fault consumers most (Err why) a b h none =
+    serves_each-fault h.before most h.count a h.between h.served (sends-fault h.consumer h.until.count h.between b h.until.sends none)
+
+pub serves_if-fault : (goes_on : Bool) (result : Result ℕ PumpFault) (a b : Play) → ServesIf goes_on result a b → b.client.fault ≡ None → a.client.fault ≡ None
+serves_if-fault true result a b h none = serves_all-fault a.client.consumers 64 result a b h none
+serves_if-fault false result a b h none = sym (ap (λ (p : Play). p.client.fault) h.1) ∙ none
 
 -- a message leaves what is due
 dispatch-due : (b c : Broker) (number who id : ℕ) (message : Outgoing) → DispatchAt b number who id (Ok (Some message)) c → (topic other : ℕ) → due_at c topic other ≡ due_at b topic other
@@ -121,9 +127,14 @@ serves_each-due [] most n a b h none = subst HasNothingDue (sym h.1) none
 serves_each-due (c ∷ cs) most n a b h none =
     serves_each-due cs (most - h.0) h.1 h.2 b h.4 (stops-due h.3.sent h.2 h.3.stops (sends-due c h.0 a h.3.sent h.3.sends none))
 
-pub serves_if-due : (goes_on : Bool) (n : ℕ) (a b : Play) → ServesIf goes_on n a b → HasNothingDue a → HasNothingDue b
-serves_if-due true n a b h none = serves_each-due a.client.consumers 64 n a b h none
-serves_if-due false n a b h none = subst HasNothingDue (sym h.1) none
+serves_all-due : (consumers : List ConsumerEntry) (most : ℕ) (result : Result ℕ PumpFault) (a b : Play) → ServesAll consumers most result a b → HasNothingDue a → HasNothingDue b
+serves_all-due consumers most (Ok n) a b h none = serves_each-due consumers most n a b h none
+serves_all-due consumers most (Err why) a b h none =
+    sends-due h.consumer h.until.count h.between b h.until.sends (serves_each-due h.before most h.count a h.between h.served none)
+
+pub serves_if-due : (goes_on : Bool) (result : Result ℕ PumpFault) (a b : Play) → ServesIf goes_on result a b → HasNothingDue a → HasNothingDue b
+serves_if-due true result a b h none = serves_all-due a.client.consumers 64 result a b h none
+serves_if-due false result a b h none = subst HasNothingDue (sym h.1) none
 
 -- one consumer more is served
 pub serves_each-push : (consumers : List ConsumerEntry) (most n k : ℕ) (a m b : Play) (consumer : ConsumerEntry) → ServesEach consumers most n a m → Serves consumer (most - n) k m b → ServesEach (consumers ++ consumer ∷ []) most (n + k) a b

@@ -1,8 +1,8 @@
 -- A session's consumers stay in rising id.
-use Rattle.std.proofs.Common.{◌≡◌, ◌≢◌, ◌⊎◌, inl, inr, ⊎_elim, ◌+◌, ◌-◌, ◌<◌, ◌≤◌, ℕ, zero, suc, List, [], ◌∷◌, Bool, true, false, not, ◌||◌, nat_eq, nat_lt, cond, filter, refl, sym, ap, ◌∙◌, subst, Option, Some, None, Result, Ok, Err, arith}
+use Rattle.std.proofs.Common.{◌≡◌, ◌⊎◌, inl, inr, ⊎_elim, ◌+◌, ◌-◌, ◌<◌, ◌≤◌, ℕ, zero, suc, List, [], ◌∷◌, Bool, true, false, not, ◌||◌, nat_eq, nat_lt, cond, filter, refl, sym, ap, ◌∙◌, subst, Option, Some, None, Result, Ok, Err, arith}
 use Rattle.std.proofs.lemmas.Bool.{cases_lt, ltb-false, eqb-false}
 use borrow.Author.Tests.{ltb-true}
-use Rattle.std.specs.List.{AllByRecursion, list_any, insert, position_or_len}
+use Rattle.std.specs.List.{AllByRecursion, insert, position_or_len}
 use Rattle.commands.specs.declared.command.Command.{Command}
 use Rattle.commands.specs.declared.command.Command.TheVariants.{Connect, Producer, Send, Subscribe, Ack, Flow, Ping, Pong, Other}
 use Rattle.commands.specs.declared.consuming.Subscribe.{Subscribe as Wanted}
@@ -30,7 +30,7 @@ use Rattle.session.specs.Client.{Client, Play, plain, Ends, Says, SaysAlone, Ans
 use Rattle.session.specs.Producing as producing
 use Rattle.session.specs.Consuming.{is_live, has_entry, own_refusals, with_entry, is_later, with_consumer, granting, with_live_consumers, FoundStep, SubscribeIn, FlowIn, RefusesAck, AckIn}
 use Rattle.session.specs.Working.{WorksCommand, connected_client, Connects, FrameIn, FramesStep, FeedIn, FeedStep}
-use Rattle.session.specs.Pumping.{Collects, Sends, FindsNoMemory, Serves, ServesEach, ServesIf, PumpIn, PumpStep}
+use Rattle.session.specs.Pumping.{Collects, Sends, FindsNoMemory, ServesEach, ServesAll, ServesIf, PumpIn, PumpStep}
 use Rattle.session.specs.Laws.{AreRising}
 
 -- all are greater than an id
@@ -237,9 +237,13 @@ serves_each [] most count old new h = still old new h.1
 serves_each (c ∷ cs) most count old new h =
     serves_each cs (most - h.0) h.1 h.2 new h.4 ∙ stops h.3.sent h.2 h.3.stops ∙ sends_messages c h.0 old h.3.sent h.3.sends
 
-serves_if : (goes_on : Bool) (count : ℕ) (old new : Play) → ServesIf goes_on count old new → Keeps old new
-serves_if true count old new h = serves_each old.client.consumers 64 count old new h
-serves_if false count old new h = still old new h.1
+serves_all : (consumers : List ConsumerEntry) (most : ℕ) (result : Result ℕ PumpFault) (old new : Play) → ServesAll consumers most result old new → Keeps old new
+serves_all consumers most (Ok count) old new h = serves_each consumers most count old new h
+serves_all consumers most (Err why) old new h = sends_messages h.consumer h.until.count h.between new h.until.sends ∙ serves_each h.before most h.count old h.between h.served
+
+serves_if : (goes_on : Bool) (result : Result ℕ PumpFault) (old new : Play) → ServesIf goes_on result old new → Keeps old new
+serves_if true result old new h = serves_all old.client.consumers 64 result old new h
+serves_if false result old new h = still old new h.1
 
 pump_keeps : (fault : Option Fault) (old : Play) (result : Result More PumpFault) (new : Play) → PumpIn fault old result new → Keeps old new
 pump_keeps None old result new h =

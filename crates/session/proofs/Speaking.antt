@@ -1,12 +1,11 @@
 -- What a session writes are whole frames.
-use Rattle.std.proofs.Common.{◌≡◌, ℕ, List, [], ◌∷◌, ◌++◌, refl, sym, ap, ◌∙◌, append_assoc, ◌⊎◌, inl, inr}
+use Rattle.std.proofs.Common.{◌≡◌, ℕ, List, [], ◌∷◌, ◌++◌, sym, ap, ◌∙◌, append_assoc, inl, inr}
 use Rattle.std.proofs.lemmas.List.{append-nil}
 use Rattle.std.proofs.lemmas.Grind.{flat_map-append}
 use Rattle.topic_core.specs.declared.command.Answer.{Answer}
 use Rattle.topic_core.specs.declared.command.Answer.TheVariants.{Now, Later, Nothing, NoMemory}
 use Rattle.topic_core.specs.declared.dispatch.Outgoing.{Outgoing}
-use Rattle.session.specs.declared.fault.Fault.{Fault}
-use Rattle.session.specs.Client.{Client, ended, plain, frame_of, frames_of, Writes, Speaks, Says, Answered}
+use Rattle.session.specs.Client.{Client, plain, frame_of, frames_of, Writes, Speaks, Says, Answered}
 
 -- nothing is written
 pub writes_nothing : (a b : List ℕ) → b ≡ a → Writes a b

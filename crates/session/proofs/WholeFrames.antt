@@ -1,5 +1,5 @@
 -- Each step of a session writes whole frames.
-use Rattle.std.proofs.Common.{◌≡◌, ◌⊎◌, inl, inr, ℕ, ◌-◌, zero, suc, List, [], ◌∷◌, Bool, true, false, Option, Some, None, Result, Ok, Err, refl, ap, ⊎_elim}
+use Rattle.std.proofs.Common.{◌≡◌, inl, inr, ℕ, ◌-◌, zero, suc, List, [], ◌∷◌, Bool, true, false, Option, Some, None, Result, Ok, Err, ap, ⊎_elim}
 use Rattle.commands.specs.declared.command.Command.{Command}
 use Rattle.commands.specs.declared.command.Command.TheVariants.{Connect, Producer, Send, Subscribe, Ack, Flow, Ping, Pong, Other}
 use Rattle.commands.specs.declared.producing.Producer.{Producer as Asked}
@@ -23,7 +23,7 @@ use Rattle.session.specs.Producing.{FoundStep, ProducerIn, SendIn}
 use Rattle.session.specs.Consuming as consuming
 use Rattle.session.specs.Consuming.{SubscribeIn, FlowIn, RefusesAck, AckIn}
 use Rattle.session.specs.Working.{WorksCommand, Connects, FrameIn, FramesStep, FeedIn}
-use Rattle.session.specs.Pumping.{Collects, Sends, Serves, ServesEach, ServesIf, PumpIn}
+use Rattle.session.specs.Pumping.{Collects, Sends, Serves, ServesEach, ServesAll, ServesIf, PumpIn}
 use Rattle.session.specs.Laws.{FeedsWriteFrames, PumpsWriteFrames}
 use Rattle.session.proofs.Speaking.{writes_nothing, writes_both, speaks_says, speaks_answered}
 
@@ -134,9 +134,14 @@ serves_each_writes [] most count old new h = writes_same old new (ap (λ (p : Pl
 serves_each_writes (consumer ∷ consumers) most count old new h =
     writes_both old.out h.2.out new.out (serves_writes consumer most h.0 old h.2 h.3) (serves_each_writes consumers (most - h.0) h.1 h.2 new h.4)
 
-pub serves_if_writes : (goes_on : Bool) (count : ℕ) (old new : Play) → ServesIf goes_on count old new → Writes old.out new.out
-serves_if_writes true count old new h = serves_each_writes old.client.consumers 64 count old new h
-serves_if_writes false count old new h = writes_same old new (ap (λ (p : Play). p.out) h.1)
+pub serves_all_writes : (consumers : List ConsumerEntry) (most : ℕ) (result : Result ℕ PumpFault) (old new : Play) → ServesAll consumers most result old new → Writes old.out new.out
+serves_all_writes consumers most (Ok count) old new h = serves_each_writes consumers most count old new h
+serves_all_writes consumers most (Err why) old new h =
+    writes_both old.out h.between.out new.out (serves_each_writes h.before most h.count old h.between h.served) (sends_write h.consumer h.until.count h.between new h.until.sends)
+
+pub serves_if_writes : (goes_on : Bool) (result : Result ℕ PumpFault) (old new : Play) → ServesIf goes_on result old new → Writes old.out new.out
+serves_if_writes true result old new h = serves_all_writes old.client.consumers 64 result old new h
+serves_if_writes false result old new h = writes_same old new (ap (λ (p : Play). p.out) h.1)
 
 pub pump_writes : (fault : Option Fault) (old : Play) (result : Result More PumpFault) (new : Play) → PumpIn fault old result new → Writes old.out new.out
 pump_writes None old result new h =

@@ -7,11 +7,11 @@ use Rattle.commands.specs.declared.reply.Reply.TheVariants as reply
 use Rattle.topic_core.specs.declared.command.TopicCommand.{TopicCommand}
 use Rattle.topic_core.specs.declared.command.Answer.{Answer}
 use Rattle.topic_core.specs.declared.dispatch.Outgoing.{Outgoing}
-use Rattle.topic_core.specs.declared.refusal.Refusal.{Refusal}
-use Rattle.topic_core.specs.declared.refusal.Refusal.TheVariants as refusal
+use Rattle.gated_log.specs.declared.refusal.Refusal.{Refusal}
+use Rattle.gated_log.specs.declared.refusal.Refusal.TheVariants as refusal
 use Rattle.subscriptions.specs.declared.consumer.TooManyPermits.{TooManyPermits}
 use Rattle.topic_core.specs.Core.{Core, Topic, opened, topic_of}
-use Rattle.topic_core.specs.Replies.{due_to}
+use Rattle.reply_queues.specs.Replies.{due_to}
 use Rattle.topic_core.specs.Steps.{TopicStep, GrantStep, collected, left}
 use Rattle.topic_core.specs.Dispatch.{DispatchStep}
 use Rattle.session.specs.declared.port.Found.{Found}
@@ -24,7 +24,7 @@ pub record Broker : Type 0 where
 
 -- a topic that nothing happened to yet
 abbrev pub fresh : ℕ → Topic
-fresh per_ledger = topic_of (opened per_ledger 0) [] each.empty
+fresh per_ledger = topic_of (opened per_ledger 0 each.empty) [] each.empty
 
 -- the topic of a number; one that isn't there is as a fresh one
 abbrev pub topic_at : Broker → ℕ → Topic
@@ -92,12 +92,16 @@ IsMessageFor consumer_id (reply.Success request_id) = ⊥
 IsMessageFor consumer_id (reply.AckResponse other error request_id) = ⊥
 
 -- whoever else uses the broker: a message is for the consumer, and its entry is no longer than any that is accepted;
--- there is no device that fails
+-- a store that is open refuses nothing else than these
 abbrev pub SendsTo : ℕ → Result (Option Outgoing) Refusal → Type 0
 SendsTo consumer_id (Ok None) = Unit {0}
 SendsTo consumer_id (Ok (Some outgoing)) = IsMessageFor consumer_id outgoing.reply × (length outgoing.entry ≤ 1048576)
 SendsTo consumer_id (Err refusal.NoMemory) = Unit {0}
-SendsTo consumer_id (Err refusal.Device) = ⊥
+SendsTo consumer_id (Err refusal.Device) = Unit {0}
+SendsTo consumer_id (Err (refusal.Damaged file offset)) = Unit {0}
+SendsTo consumer_id (Err refusal.NotInitialised) = ⊥
+SendsTo consumer_id (Err refusal.Version) = ⊥
+SendsTo consumer_id (Err refusal.TooLarge) = ⊥
 
 -- the replies that a topic has due to a session
 abbrev pub due_at : Broker → ℕ → ℕ → List Reply

@@ -1,7 +1,7 @@
 -- SUBSCRIBE, FLOW and ACK, as a session works them.
-use Rattle.std.specs.Prelude.{◌≡◌, ◌⊎◌, ℕ, Bool, true, false, not, ◌&&◌, ◌||◌, is_some, nat_eq, nat_lt, nat_le, Option, Some, None, Result, Ok, Err, List, ◌∷◌, [], length, filter, find}
+use Rattle.std.specs.Prelude.{◌≡◌, ◌⊎◌, ℕ, Bool, true, false, not, ◌||◌, is_some, nat_eq, nat_lt, nat_le, Option, Some, None, Result, Ok, Err, List, ◌∷◌, [], length, filter, find}
 use Rattle.std.specs.Option.{option_map}
-use Rattle.std.specs.List.{list_any, list_all, insert, position_or_len}
+use Rattle.std.specs.List.{list_any, insert, position_or_len}
 use Rattle.commands.specs.declared.consuming.Subscribe.{Subscribe}
 use Rattle.commands.specs.declared.consuming.Ack.{Ack}
 use Rattle.commands.specs.declared.consuming.Flow.{Flow}
@@ -17,6 +17,7 @@ use Rattle.topic_core.specs.declared.command.TopicCommand.TheVariants as topic_c
 use Rattle.topic_core.specs.declared.command.Answer.{Answer}
 use Rattle.topic_core.specs.declared.command.Answer.TheVariants.{Now, Later, Nothing, NoMemory}
 use Rattle.topic_core.specs.Steps.{has_consumer, first_standing}
+use Rattle.records.specs.Names.{is_subscription_name}
 use Rattle.session.specs.TopicName.{is_topic_name}
 use Rattle.session.specs.Broker.{Broker, topic_at, FindStep, CommandStep, GrantAt}
 use Rattle.session.specs.Client.{Client, Play, ended, Ends, SaysAlone, Answered}
@@ -37,16 +38,6 @@ with_live_consumers p = record p { client = record p.client { consumers = filter
 abbrev pub has_entry : List ConsumerEntry → ℕ → Bool
 has_entry consumers id = list_any (λ entry. nat_eq entry.consumer_id id) consumers
 
--- a digit or a letter of ASCII, or one of '-', '_' and '.'
-abbrev pub is_name_byte : ℕ → Bool
-is_name_byte b =
-    (nat_le 48 b && nat_le b 57) || (nat_le 65 b && nat_le b 90) || (nat_le 97 b && nat_le b 122)
-    || nat_eq b 45 || nat_eq b 95 || nat_eq b 46
-
--- our own rule: a subscription's name is 1 to 255 such bytes
-abbrev pub is_subscription_name : List ℕ → Bool
-is_subscription_name name = nat_le 1 (length name) && nat_le (length name) 255 && list_all is_name_byte name
-
 -- the subscription types that are served; our own rule, for now
 abbrev pub is_served : SubscriptionType → Bool
 is_served type.Exclusive = true
@@ -65,14 +56,19 @@ own_refusals consumers asked =
     ∷ (not (is_served asked.subscription_type), NotAllowedError)
     ∷ []
 
+-- the subscription that it asks for has the name of a subscription
+abbrev pub IsNamed : Subscribe → Type 0
+IsNamed asked = is_subscription_name asked.subscription ≡ true
+
 -- what the session asks of the topic
-abbrev pub subscribe_command : Subscribe → TopicCommand
-subscribe_command asked = topic_command.Subscribe (record {
+abbrev pub subscribe_command : (asked : Subscribe) → IsNamed asked → TopicCommand
+subscribe_command asked named = topic_command.Subscribe (record {
   consumer_id = asked.consumer_id;
   request_id = asked.request_id;
   subscription = asked.subscription;
   mode = mode.Exclusive;
   initial = asked.initial_position;
+  named = named;
 })
 
 -- a topic answers an accepted SUBSCRIBE later
@@ -92,8 +88,9 @@ with_consumer c accepted id topic = record c { consumers = with_entry c.consumer
 
 -- the topic works SUBSCRIBE; the session keeps the consumer if it was accepted, and hands on the answer
 pub record Subscribes (old : Play) (topic : ℕ) (asked : Subscribe) (new : Play) : Type 0 where
+  pub named : IsNamed asked
   pub answer : Answer
-  pub step : CommandStep old.broker topic old.client.number (subscribe_command asked) answer new.broker
+  pub step : CommandStep old.broker topic old.client.number (subscribe_command asked named) answer new.broker
   pub answered : Answered (with_consumer old.client (is_later answer) asked.consumer_id topic) old.out answer new.client new.out
 
 -- once its topic was looked for; want of memory may end the session before the topic works anything

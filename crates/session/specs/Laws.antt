@@ -1,7 +1,7 @@
 -- What holds of every step of a session.
 use Rattle.std.specs.Prelude.{◌≡◌, ◌<◌, ℕ, false, None, List, [], ◌∷◌, Result, Ok, Err}
 use Rattle.std.specs.List.{AllByRecursion}
-use Rattle.topic_core.specs.Replies.{pending_to}
+use Rattle.reply_queues.specs.Replies.{pending_to}
 use Rattle.topic_core.specs.Steps.{has_producer, has_consumer}
 use Rattle.session.specs.Broker.{topic_at, due_at}
 use Rattle.session.specs.Client.{Play, new_client, Writes}
@@ -12,6 +12,7 @@ use Rattle.session.specs.declared.fault.Fault.{Fault}
 use Rattle.session.specs.declared.pumping.More.{More}
 use Rattle.session.specs.declared.pumping.More.TheVariants.{No}
 use Rattle.session.specs.declared.pumping.PumpFault.{PumpFault}
+use Rattle.session.specs.declared.pumping.PumpFault.TheVariants.{Ended}
 
 -- what goes out are frames, each whole
 abbrev pub FeedsWriteFrames : Type 0
@@ -47,4 +48,4 @@ abbrev pub EndedFeedsLeave : Type 0
 EndedFeedsLeave = (old : Play) (bytes : List ℕ) (why : Fault) (new : Play) → old.client.fault ≡ None → FeedStep old bytes (Err why) new → HasLeft new
 
 abbrev pub EndedPumpsLeave : Type 0
-EndedPumpsLeave = (old : Play) (why : PumpFault) (new : Play) → old.client.fault ≡ None → PumpStep old (Err why) new → HasLeft new
+EndedPumpsLeave = (old : Play) (why : Fault) (new : Play) → old.client.fault ≡ None → PumpStep old (Err (Ended why)) new → HasLeft new

@@ -1,5 +1,5 @@
 -- PRODUCER and SEND, as a session works them.
-use Rattle.std.specs.Prelude.{◌≡◌, ◌⊎◌, ℕ, Bool, true, false, not, nat_eq, nat_lt, nat_le, Option, Some, None, List, [], ◌∷◌, ◌++◌, length, filter, find, codes, if◌then◌else◌}
+use Rattle.std.specs.Prelude.{◌⊎◌, ℕ, Bool, true, false, not, nat_eq, nat_lt, nat_le, Option, Some, None, List, [], ◌∷◌, ◌++◌, length, filter, find, codes, if◌then◌else◌}
 use Rattle.std.specs.Option.{option_map}
 use Rattle.std.specs.List.{list_any}
 use Rattle.std.specs.Fmt.{decimal}
@@ -9,10 +9,12 @@ use Rattle.commands.specs.declared.reply.Reply.TheVariants as reply
 use Rattle.commands.specs.declared.server_error.ServerError.{ServerError}
 use Rattle.commands.specs.declared.server_error.ServerError.TheVariants.{TooManyRequests, InvalidTopicName, NotAllowedError}
 use Rattle.frames.specs.declared.frame.FrameEntry.{FrameEntry}
+use Rattle.frames.specs.declared.plain_entry.PlainEntry.{PlainEntry as FramePlain}
 use Rattle.frames.specs.declared.frame.FrameEntry.TheVariants as behind
 use Rattle.topic_core.specs.declared.command.TopicCommand.{TopicCommand}
 use Rattle.topic_core.specs.declared.command.TopicCommand.TheVariants as topic_command
 use Rattle.topic_core.specs.declared.command.SentEntry.{SentEntry}
+use Rattle.topic_core.specs.declared.command.PlainEntry.{PlainEntry}
 use Rattle.topic_core.specs.declared.command.SentEntry.TheVariants as sent
 use Rattle.topic_core.specs.declared.command.Answer.{Answer}
 use Rattle.topic_core.specs.declared.command.Answer.TheVariants.{Now, Later, Nothing, NoMemory}
@@ -119,11 +121,15 @@ ProducerStep old asked new = ProducerOf (with_live_producers old) asked new
 abbrev pub topic_of : List ProducerEntry → ℕ → Option ℕ
 topic_of producers id = option_map (λ entry. entry.topic) (find (λ entry. nat_eq entry.producer_id id) producers)
 
+-- a readable entry, as a topic takes it
+abbrev pub plain_entry : FramePlain → PlainEntry
+plain_entry entry = record { bytes = entry.bytes; metadata = entry.metadata; readable = entry.readable }
+
 -- what a SEND hands to the topic
 abbrev pub sent_entry : FrameEntry → Option SentEntry
 sent_entry behind.Nothing = None
 sent_entry behind.Checksummed = Some sent.Checksummed
-sent_entry (behind.Entry bytes metadata) = Some (sent.Plain bytes metadata)
+sent_entry (behind.Entry entry) = Some (sent.Plain (plain_entry entry))
 
 abbrev pub send_command : Send → SentEntry → TopicCommand
 send_command asked entry = topic_command.Send (record { producer_id = asked.producer_id; sequence_id = asked.sequence_id; num_messages = asked.num_messages; entry = entry })

@@ -1,18 +1,18 @@
 -- What a session collects, and the messages that it gets.
-use Rattle.std.specs.Prelude.{◌≡◌, ◌⊎◌, ◌<◌, ◌≤◌, ◌-◌, ◌+◌, ◌||◌, ℕ, zero, suc, Bool, true, false, nat_eq, nat_lt, Option, Some, None, List, [], ◌∷◌, Result, Ok, Err, if◌then◌else◌}
+use Rattle.std.specs.Prelude.{◌≡◌, ◌⊎◌, ◌<◌, ◌≤◌, ◌-◌, ◌+◌, ◌||◌, ℕ, zero, suc, Bool, true, false, nat_eq, nat_lt, Option, Some, None, List, [], ◌∷◌, ◌++◌, Result, Ok, Err, if◌then◌else◌}
 use Rattle.commands.specs.declared.reply.Reply.{Reply}
 use Rattle.topic_core.specs.declared.dispatch.Outgoing.{Outgoing}
 use Rattle.topic_core.specs.Steps.{key_of}
 use Rattle.topic_core.specs.Dispatch.{Admits}
-use Rattle.session.specs.Broker.{Broker, topic_at, due_at, CollectedAt, DispatchAt}
-use Rattle.session.specs.Client.{Client, Play, plain, Says, Ends, left_if_ended}
+use Rattle.session.specs.Broker.{topic_at, due_at, CollectedAt, DispatchAt}
+use Rattle.session.specs.Client.{Play, plain, Says, Ends, left_if_ended}
 use Rattle.session.specs.declared.consumer_entry.ConsumerEntry.{ConsumerEntry}
 use Rattle.session.specs.declared.fault.Fault.{Fault}
 use Rattle.session.specs.declared.fault.Fault.TheVariants as fault
 use Rattle.session.specs.declared.pumping.More.{More}
 use Rattle.session.specs.declared.pumping.More.TheVariants.{Yes, No}
 use Rattle.session.specs.declared.pumping.PumpFault.{PumpFault}
-use Rattle.session.specs.declared.pumping.PumpFault.TheVariants.{Ended}
+use Rattle.session.specs.declared.pumping.PumpFault.TheVariants.{Ended, Device, Damaged}
 
 -- a session that hasn't ended takes the first reply that a topic has due to it, which goes out or finds no memory
 pub record CollectsFrom (topic : ℕ) (old new : Play) : Type 0 where
@@ -79,33 +79,68 @@ ServesEach [] most count old new = (count ≡ 0) × (new ≡ old)
 ServesEach (consumer ∷ consumers) most count old new =
     (first : ℕ) × (rest : ℕ) × (between : Play) × Serves consumer most first old between × ServesEach consumers (most - first) rest between new × (count ≡ first + rest)
 
--- a pump that may go on serves the session's consumers, in rising id
-abbrev pub ServesIf : Bool → ℕ → Play → Play → Type 0
-ServesIf true count old new = ServesEach old.client.consumers 64 count old new
-ServesIf false count old new = (count ≡ 0) × (new ≡ old)
+-- one consumer gets messages until the device fails in reading one, which changes nothing; no file is ever damaged
+pub record ServesUntil (consumer : ConsumerEntry) (most : ℕ) (why : PumpFault) (old new : Play) : Type 0 where
+  pub count : ℕ
+  pub sends : Sends consumer count old new
+  pub within : count < most
+  pub goes_on : new.client.fault ≡ None
+  pub device : why ≡ Device
 
-abbrev pub pump_result : Option Fault → ℕ → ℕ → Result More PumpFault
-pump_result None replies messages = Ok (if nat_eq replies 65536 || nat_eq messages 64 then Yes else No)
+-- one consumer gets so many messages, or messages until the device fails
+abbrev pub ServesOne : ConsumerEntry → ℕ → Result ℕ PumpFault → Play → Play → Type 0
+ServesOne consumer most (Ok count) old new = Serves consumer most count old new
+ServesOne consumer most (Err why) old new = ServesUntil consumer most why old new
+
+-- one consumer after another is served, until the device fails for one of them
+pub record ServesEachUntil (consumers : List ConsumerEntry) (most : ℕ) (why : PumpFault) (old new : Play) : Type 0 where
+  pub before : List ConsumerEntry
+  pub consumer : ConsumerEntry
+  pub behind : List ConsumerEntry
+  pub are : consumers ≡ before ++ consumer ∷ behind
+  pub count : ℕ
+  pub between : Play
+  pub served : ServesEach before most count old between
+  pub until : ServesUntil consumer (most - count) why between new
+
+abbrev pub ServesAll : List ConsumerEntry → ℕ → Result ℕ PumpFault → Play → Play → Type 0
+ServesAll consumers most (Ok count) old new = ServesEach consumers most count old new
+ServesAll consumers most (Err why) old new = ServesEachUntil consumers most why old new
+
+-- a pump that may go on serves the session's consumers, in rising id
+abbrev pub ServesIf : Bool → Result ℕ PumpFault → Play → Play → Type 0
+ServesIf true result old new = ServesAll old.client.consumers 64 result old new
+ServesIf false result old new = (result ≡ Ok 0) × (new ≡ old)
+
+-- a fault of the session comes first
+abbrev pub pump_result : Option Fault → ℕ → Result ℕ PumpFault → Result More PumpFault
+pump_result None replies (Ok messages) = Ok (if nat_eq replies 65536 || nat_eq messages 64 then Yes else No)
+pump_result None replies (Err why) = Err why
 pump_result (Some why) replies messages = Err (Ended why)
 
 -- a pump collects until nothing is due, or its 65,536th reply; in the first case it then sends messages until nothing is
--- admitted, or its 64th message. It stops where the session ends, which then leaves each topic
+-- admitted, its 64th message, or a failure of the device. It stops where the session ends, which then leaves each topic
 pub record Pumps (old : Play) (result : Result More PumpFault) (new : Play) : Type 0 where
   pub replies : ℕ
   pub collected : Play
   pub collects : Collects replies old collected
   pub most : replies ≤ 65536
   pub all : collected.client.fault ≡ None → replies < 65536 → HasNothingDue collected
-  pub messages : ℕ
+  pub messages : Result ℕ PumpFault
   pub served : Play
   pub serves : ServesIf (nat_lt replies 65536) messages collected served
   pub ends : new ≡ left_if_ended served
   pub result_is : result ≡ pump_result served.client.fault replies messages
 
 -- why a pump ended the session, or found it ended
+abbrev pub ended_by : PumpFault → Option Fault
+ended_by (Ended why) = Some why
+ended_by Device = None
+ended_by (Damaged file offset) = None
+
 abbrev pub pumped_fault : Result More PumpFault → Option Fault
 pumped_fault (Ok more) = None
-pumped_fault (Err (Ended why)) = Some why
+pumped_fault (Err why) = ended_by why
 
 abbrev pub PumpIn : Option Fault → Play → Result More PumpFault → Play → Type 0
 PumpIn None old result new = Pumps old result new

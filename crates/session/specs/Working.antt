@@ -7,7 +7,7 @@ use Rattle.frames.specs.declared.fault.Fault.{Fault as FrameFault}
 use Rattle.frames.specs.declared.frame.Frame.{Frame}
 use Rattle.frames.specs.declared.frame.FrameEntry.{FrameEntry}
 use Rattle.frames.specs.Streams.{Progress, FeedsOn}
-use Rattle.session.specs.Client.{Client, Play, Ends, ended, SaysAlone, left_if_ended}
+use Rattle.session.specs.Client.{Client, Play, Ends, SaysAlone, left_if_ended}
 use Rattle.session.specs.Faults.{fault_of}
 use Rattle.session.specs.Producing.{ProducerStep, SendStep}
 use Rattle.session.specs.Consuming.{SubscribeStep, FlowStep, AckStep}

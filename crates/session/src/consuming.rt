@@ -3,9 +3,10 @@ ghost use Rattle.std.specs.List.{list_all, position_or_len};
 ghost use Rattle.commands.specs.declared.reply.Reply.TheVariants.{Error};
 ghost use Rattle.session.specs.declared.port.Found.TheVariants.{Topic};
 ghost use Rattle.topic_core.specs.Steps.{first_standing};
+ghost use Rattle.records.specs.Names.{is_name_byte, is_subscription_name};
 ghost use Rattle.session.specs.Broker.{Broker};
 ghost use Rattle.session.specs.Client.{Client, Play, play, plain, Says, Speaks};
-ghost use Rattle.session.specs.Consuming.{is_live, has_entry, is_name_byte, is_subscription_name, is_served, own_refusals, subscribe_command, is_later, with_entry, Subscribes, FoundStep, SubscribeOf, SubscribeStep, topic_of, granting, FlowStep, RefusesAck, AckStep};
+ghost use Rattle.session.specs.Consuming.{is_live, has_entry, is_served, own_refusals, IsNamed, subscribe_command, is_later, with_entry, Subscribes, FoundStep, SubscribeOf, SubscribeStep, topic_of, granting, FlowStep, RefusesAck, AckStep};
 
 use crate::consumer_entry::ConsumerEntry;
 use crate::fault::Fault;
@@ -74,7 +75,8 @@ impl Session {
         port: &mut P,
         out: &mut Vec<u8>,
     )
-        requires { topic < P.count port.old }
+        requires there { topic < P.count port.old }
+        requires named { IsNamed asked }
         ensures step { P.sole port.old → FoundStep (play self.old (P.broker port.old) out.old.items) asked (Topic topic)
             (play self.new (P.broker port.new) out.new.items) }
         ensures speaks { Speaks self.old out.old.items self.new out.new.items }
@@ -93,7 +95,8 @@ impl Session {
         port: &mut P,
         out: &mut Vec<u8>,
     ) -> Result<(), AllocError>
-        requires { topic < P.count port.old }
+        requires there { topic < P.count port.old }
+        requires named { IsNamed asked }
         ensures ok { OnOk result (P.sole port.old → Subscribes (play self.old (P.broker port.old) out.old.items) topic asked
             (play self.new (P.broker port.new) out.new.items)) }
         ensures err { OnErr result ((self.new ≡ self.old) × (out.new.items ≡ out.old.items)
@@ -284,7 +287,8 @@ fn own_refusal(consumers: &[ConsumerEntry], asked: &Subscribe) -> Option<ServerE
 
 /// What the session asks of the topic.
 fn subscribe_command(asked: Subscribe) -> TopicCommand
-    ensures { result ≡ subscribe_command asked }
+    requires { IsNamed asked }
+    ensures { (named : IsNamed asked) → result ≡ subscribe_command asked named }
 {
     TopicCommand::Subscribe(topic_core::Subscribe {
         consumer_id: asked.consumer_id,

@@ -23,7 +23,4 @@ pub use port::{Found, Port};
 pub use producer_entry::ProducerEntry;
 pub use pumping::{More, PumpFault};
 pub use session::Session;
-pub use topic_name::is_topic_name;
-
-#[cfg(test)]
-mod tests;
+pub use topic_name::{SERVED_TOPIC, is_topic_name};

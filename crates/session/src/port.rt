@@ -1,9 +1,11 @@
-ghost use Rattle.std.specs.Prelude.{◌≡◌, ◌<◌, ◌≤◌, ℕ, length};
+ghost use Rattle.std.specs.Prelude.{◌≡◌, ◌<◌, ◌≤◌, ℕ, true, length};
 ghost use Rattle.topic_core.specs.Steps.{has_producer, has_consumer, Fits};
 ghost use Rattle.session.specs.Broker.{Broker, topic_at, FindStep, IfFound, CommandStep, GrantAt, DispatchAt, SendsTo, CollectedAt, left_at};
+ghost use Rattle.session.specs.TopicName.{is_topic_name};
 
 use commands::Reply;
-use topic_core::{Answer, Outgoing, Refusal, TooManyPermits, TopicCommand};
+use gated_log::Refusal;
+use topic_core::{Answer, Outgoing, TooManyPermits, TopicCommand};
 
 /// What looking for a topic gives.
 #[derive(Clone, Copy, Debug, PartialEq, Eq)]
@@ -46,6 +48,7 @@ pub trait Port {
 
     /// The number of the topic of this name, which is made where it isn't there.
     fn find(&mut self, name: &str) -> Found
+        requires named { is_topic_name name.now ≡ true }
         ensures step { sole self.old → FindStep (broker self.old) name.now result (broker self.new) }
         ensures there { IfFound result (λ number. number < count self.new) }
         ensures passes { passes self.old self.new };

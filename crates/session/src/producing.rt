@@ -4,7 +4,7 @@ ghost use Rattle.commands.specs.declared.server_error.ServerError.TheVariants.{N
 ghost use Rattle.session.specs.declared.port.Found.TheVariants.{Topic};
 ghost use Rattle.topic_core.specs.Steps.{first_standing};
 ghost use Rattle.session.specs.Client.{Client, Play, play, plain, Says, Answered, Speaks};
-ghost use Rattle.session.specs.Producing.{is_live, has_entry, given_len, own_refusals, own_name, name_for, producer_command, is_success, with_entry, with_live_producers, Opens, FoundStep, Finds, ProducerOf, ProducerStep, topic_of, sent_entry, send_command, SendStep};
+ghost use Rattle.session.specs.Producing.{is_live, has_entry, given_len, own_refusals, own_name, name_for, producer_command, is_success, with_entry, with_live_producers, Opens, FoundStep, Finds, ProducerOf, ProducerStep, topic_of, plain_entry, sent_entry, send_command, SendStep};
 
 use crate::fault::Fault;
 use crate::port::{Found, Port};
@@ -14,7 +14,7 @@ use crate::topic_name::is_topic_name;
 use commands::{Producer, Reply, ReplyText, Send, ServerError, Text};
 use frames::FrameEntry;
 use std::alloc::{AllocError, Global};
-use topic_core::{Answer, SentEntry, TopicCommand};
+use topic_core::{Answer, PlainEntry, SentEntry, TopicCommand};
 
 /// Our own rule: a session has at most so many producers.
 const MOST_PRODUCERS: usize = 64;
@@ -289,12 +289,20 @@ fn keep(producers: &mut Vec<ProducerEntry>, accepted: bool, producer_id: u64, to
     }
 }
 
+/// The entry as a topic takes it.
+fn plain_entry(entry: frames::PlainEntry) -> PlainEntry
+    ensures { result ≡ plain_entry entry }
+{
+    let frames::PlainEntry { bytes, metadata } = entry;
+    PlainEntry { bytes, metadata }
+}
+
 fn sent_entry(entry: FrameEntry) -> Option<SentEntry>
     ensures { result ≡ sent_entry entry }
 {
     match entry {
         FrameEntry::Nothing => None,
         FrameEntry::Checksummed => Some(SentEntry::Checksummed),
-        FrameEntry::Entry { bytes, metadata } => Some(SentEntry::Plain { bytes, metadata }),
+        FrameEntry::Entry(entry) => Some(SentEntry::Plain(plain_entry(entry))),
     }
 }

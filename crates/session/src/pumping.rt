@@ -1,14 +1,16 @@
-ghost use Rattle.std.specs.Prelude.{◌≡◌, ◌≢◌, ◌<◌, ◌≤◌, ℕ, true, false, None, [], IfSome};
+ghost use Rattle.std.specs.Prelude.{◌≡◌, ◌≢◌, ◌<◌, ◌≤◌, ℕ, true, false, None, Ok, [], IfSome, IfOk, IfErr};
+ghost use Rattle.session.specs.declared.pumping.PumpFault.TheVariants.{Device};
 ghost use Rattle.session.specs.Broker.{due_at, topic_at};
 ghost use Rattle.session.specs.Client.{Client, Play, play, Speaks, Writes};
-ghost use Rattle.session.specs.Pumping.{CollectsFrom, CollectsNothing, CollectsAt, Collects, HasNothingDue, SendsOne, SendsNothing, Serves, ServesEach, ServesIf, PumpStep, pumped_fault};
+ghost use Rattle.session.specs.Pumping.{CollectsFrom, CollectsNothing, CollectsAt, Collects, HasNothingDue, SendsOne, SendsNothing, ServesOne, ServesAll, ServesIf, PumpStep, ended_by, pumped_fault};
 
 use crate::consumer_entry::ConsumerEntry;
 use crate::fault::Fault;
 use crate::port::Port;
 use crate::session::Session;
+use disk::FileId;
+use gated_log::Refusal;
 use thiserror::Error;
-use topic_core::Refusal;
 
 /// Our own rule: a pump collects at most so many replies.
 const MOST_REPLIES: usize = 65_536;
@@ -29,12 +31,19 @@ pub enum PumpFault {
     /// The session has ended, in this call for want of memory or before it. What was collected before went out whole.
     #[error("{0}")]
     Ended(Fault),
+    /// The device failed in reading a message. The session goes on, and what went out before stands.
+    #[error("device")]
+    Device,
+    /// The file of a message has bytes that no crash leaves. The session goes on, and what went out before stands.
+    #[error("damaged {file} at {offset}")]
+    Damaged { file: FileId, offset: u64 },
 }
 
 impl Session {
     /// Collects the replies that are due to the session and writes their frames, at most 65,536 of them. Where none is
     /// left, it then sends messages to the session's consumers, at most 64 of them. A reply or a message that finds no
-    /// memory ends the session.
+    /// memory ends the session. A message that the device fails to read stops the pump and changes nothing: what went
+    /// out before stands.
     pub fn pump<P: Port>(&mut self, port: &mut P, out: &mut Vec<u8>) -> Result<More, PumpFault>
         ensures step { P.sole port.old → PumpStep (play self.old (P.broker port.old) out.old.items) result
             (play self.new (P.broker port.new) out.new.items) }
@@ -54,6 +63,7 @@ impl Session {
         if let Some(why) = self.leave_if_ended(port) {
             return Err(PumpFault::Ended(why));
         }
+        let messages = messages?;
         if replies == MOST_REPLIES || messages == MOST_MESSAGES {
             Ok(More::Yes)
         } else {
@@ -124,32 +134,39 @@ impl Session {
     }
 
     /// Serves the session's consumers where the pump may go on, and gives how many messages they got.
-    fn serve_if<P: Port>(&mut self, goes_on: bool, port: &mut P, out: &mut Vec<u8>) -> usize
+    fn serve_if<P: Port>(
+        &mut self,
+        goes_on: bool,
+        port: &mut P,
+        out: &mut Vec<u8>,
+    ) -> Result<usize, PumpFault>
         ensures serves { P.sole port.old → ServesIf goes_on result (play self.old (P.broker port.old) out.old.items)
             (play self.new (P.broker port.new) out.new.items) }
+        ensures refused { IfErr result (λ why. ended_by why ≡ None) }
         ensures speaks { Speaks self.old out.old.items self.new out.new.items }
         ensures passes { P.passes port.old port.new }
     {
         if goes_on {
             self.serve_each(port, out)
         } else {
-            0
+            Ok(0)
         }
     }
 
     /// Serves the session's consumers in rising id, and gives how many messages they got.
-    fn serve_each<P: Port>(&mut self, port: &mut P, out: &mut Vec<u8>) -> usize
-        ensures serves { P.sole port.old → ServesEach self.old.consumers 64 result (play self.old (P.broker port.old) out.old.items)
+    fn serve_each<P: Port>(&mut self, port: &mut P, out: &mut Vec<u8>) -> Result<usize, PumpFault>
+        ensures serves { P.sole port.old → ServesAll self.old.consumers 64 result (play self.old (P.broker port.old) out.old.items)
             (play self.new (P.broker port.new) out.new.items) }
+        ensures refused { IfErr result (λ why. ended_by why ≡ None) }
         ensures speaks { Speaks self.old out.old.items self.new out.new.items }
         ensures passes { P.passes port.old port.new }
     {
         let mut count = 0;
         for place in 0..self.consumers.len() {
             let consumer = self.consumers[place];
-            count += self.serve(consumer, MOST_MESSAGES - count, port, out);
+            count += self.serve(consumer, MOST_MESSAGES - count, port, out)?;
         }
-        count
+        Ok(count)
     }
 
     /// Sends messages to a consumer, at most so many, and gives how many.
@@ -159,40 +176,44 @@ impl Session {
         room: usize,
         port: &mut P,
         out: &mut Vec<u8>,
-    ) -> usize
-        ensures most { result ≤ room }
-        ensures serves { P.sole port.old → Serves consumer room result (play self.old (P.broker port.old) out.old.items)
+    ) -> Result<usize, PumpFault>
+        ensures most { IfOk result (λ count. count ≤ room) }
+        ensures serves { P.sole port.old → ServesOne consumer room result (play self.old (P.broker port.old) out.old.items)
             (play self.new (P.broker port.new) out.new.items) }
+        ensures refused { IfErr result (λ why. ended_by why ≡ None) }
         ensures consumers { self.new.consumers ≡ self.old.consumers }
         ensures speaks { Speaks self.old out.old.items self.new out.new.items }
         ensures passes { P.passes port.old port.new }
     {
         if consumer.topic >= port.topics() {
-            return 0;
+            return Ok(0);
         }
         let mut count = 0;
         while count < room && !self.has_ended() {
-            if !self.serve_one(consumer, port, out) {
-                return count;
+            if !self.serve_one(consumer, port, out)? {
+                return Ok(count);
             }
             count += 1;
         }
-        count
+        Ok(count)
     }
 
-    /// Sends a message to a consumer, and answers whether there was one.
+    /// Sends a message to a consumer, and answers whether there was one. A failure of the device changes nothing.
     fn serve_one<P: Port>(
         &mut self,
         consumer: ConsumerEntry,
         port: &mut P,
         out: &mut Vec<u8>,
-    ) -> bool
+    ) -> Result<bool, PumpFault>
         requires there { consumer.topic < P.count port.old }
         requires goes_on { self.old.fault ≡ None }
-        ensures some { result ≡ true → P.sole port.old → SendsOne consumer (play self.old (P.broker port.old) out.old.items)
+        ensures some { result ≡ Ok true → P.sole port.old → SendsOne consumer (play self.old (P.broker port.old) out.old.items)
             (play self.new (P.broker port.new) out.new.items) }
-        ensures none { result ≡ false → P.sole port.old → SendsNothing consumer (play self.old (P.broker port.old) out.old.items)
+        ensures none { result ≡ Ok false → P.sole port.old → SendsNothing consumer (play self.old (P.broker port.old) out.old.items)
             (play self.new (P.broker port.new) out.new.items) }
+        ensures refused { IfErr result (λ why. ended_by why ≡ None) }
+        ensures device { P.sole port.old → IfErr result (λ why. (why ≡ Device)
+            × (play self.new (P.broker port.new) out.new.items ≡ play self.old (P.broker port.old) out.old.items)) }
         ensures consumers { self.new.consumers ≡ self.old.consumers }
         ensures speaks { Speaks self.old out.old.items self.new out.new.items }
         ensures passes { P.passes port.old port.new }
@@ -200,14 +221,16 @@ impl Session {
         match port.dispatch(consumer.topic, self.number(), consumer.consumer_id) {
             Ok(Some(message)) => {
                 self.hand_out(&message, out);
-                true
+                Ok(true)
             }
-            Ok(None) => false,
+            Ok(None) => Ok(false),
             Err(Refusal::NoMemory) => {
                 self.end_by(Fault::NoMemory);
-                false
+                Ok(false)
             }
-            Err(Refusal::Device) => unreachable!(),
+            Err(Refusal::Device) => Err(PumpFault::Device),
+            Err(Refusal::Damaged { file, offset }) => Err(PumpFault::Damaged { file, offset }),
+            Err(Refusal::NotInitialised | Refusal::Version | Refusal::TooLarge) => unreachable!(),
         }
     }
 }

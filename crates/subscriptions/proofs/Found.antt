@@ -5,8 +5,8 @@ use Rattle.std.specs.List.{find, position}
 use Rattle.holds.specs.declared.consumer.ConsumerKey.{ConsumerKey}
 use Rattle.subscriptions.specs.declared.consumer.Mode.{Mode}
 use Rattle.subscriptions.specs.declared.consumer.Refusal.{Refusal}
-use Rattle.subscriptions.specs.declared.change.Change.{Change}
-use Rattle.subscriptions.specs.declared.change.Change.TheVariants.{Made, Acknowledged}
+use Rattle.records.specs.declared.record.Record.{Record}
+use Rattle.records.specs.declared.record.Record.TheVariants.{Made, Acknowledged}
 use Rattle.subscriptions.specs.State.{Subscription, Subscriptions}
 use Rattle.subscriptions.specs.Steps.{first_changed, first_standing, is_named, is_on, subscribe_refusals, refusals_at, making_refusals, attach_refusals, attached_to, attached_at, attached, made, granted, granted_on, grants_too_many, is_past, is_past_on, is_consumer, acknowledged, acknowledgements, acked_on, Admits, AdmitsAt, AdmitsOn, sent_before, times_at}
 use Rattle.holds.specs.Deliveries.{times}
@@ -66,7 +66,7 @@ module _ (t : Subscriptions) (key : ConsumerKey) where
   pub changes_at : (f : Subscription → Subscription) (i : ℕ) (s s' : Subscription) → position (is_on key) t.subs ≡ Some i → s ≡ get_or t.subs i s → s' ≡ f s → with_subs (set t.subs i s') ≡ with_subs (first_changed (is_on key) f t.subs)
   changes_at f i s s' at read is = ap with_subs (changes (is_on key) f t.subs i s s' at read is)
 
-  abbrev with_both : List Subscription → List Change → Subscriptions
+  abbrev with_both : List Subscription → List Record → Subscriptions
   with_both xs cs = record { subs = xs; changes = cs }
 
   pub acknowledges_none : (ps : List ℕ) → position (is_on key) t.subs ≡ None → t ≡ acknowledged t key ps

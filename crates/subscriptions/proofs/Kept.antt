@@ -6,19 +6,21 @@ use Rattle.std.proofs.lemmas.Slice.Eq.{bytes_eq-Decides}
 use Rattle.std.proofs.lemmas.Map.Text.{is_eq-slice_cmp}
 use Rattle.std.proofs.lemmas.Map.Keys.{IsDistinct-head, IsDistinct-tail}
 use Rattle.std.specs.List.{find, AllByRecursion, IsDistinct}
-use Rattle.std.specs.Option.{option_map, unwrap_or}
+use Rattle.std.specs.Option.{option_map}
 use Rattle.std.specs.Cmp.Lexicographic.{nat_list_cmp_total}
 use Rattle.std.specs.Str.{bytes_eq}
 use Rattle.std.specs.FinSet as set
 use Rattle.std.specs.FinMap as map
 use Rattle.std.specs.Prelude.{map as each}
 use Rattle.cursor.specs.Positions.{Positions, below, same_positions, has_insert}
-use Rattle.subscriptions.specs.declared.change.Change.{Change}
-use Rattle.subscriptions.specs.declared.change.Change.TheVariants.{Made, Acknowledged}
+use Rattle.records.specs.declared.record.Record.{Record}
+use Rattle.records.specs.declared.record.Record.TheVariants.{Made, Acknowledged}
+use Rattle.records.specs.Maps.{Kept}
+use Rattle.records.specs.Records.{after, after_all, changed_at, acknowledged}
 use Rattle.subscriptions.specs.State.{Subscription, Subscriptions}
 use Rattle.subscriptions.specs.Progress.{joined}
-use Rattle.subscriptions.specs.Steps.{first_changed, is_named, is_on, acked_on, acknowledgements, attached_at, attached_to, made, granted_on, sent_on, left_on}
-use Rattle.subscriptions.specs.Laws.{Kept, changed, applied, acked_as, IsKept, AreKept}
+use Rattle.subscriptions.specs.Steps.{first_changed, is_named, is_on, acked_on, acknowledgements, attached_at, attached_to, made}
+use Rattle.subscriptions.specs.Laws.{acked_as}
 use Rattle.subscriptions.specs.declared.consumer.Mode.{Mode}
 use Rattle.holds.specs.declared.consumer.ConsumerKey.{ConsumerKey}
 use Rattle.subscriptions.proofs.Settled.{is_in, has_joined, joined_none}
@@ -48,9 +50,9 @@ turned a b = sym (turned_at a b (bytes_eq a b) refl)
 pub get_insert : (kept : Kept) (n : List ℕ) (s : Positions) (q : List ℕ) → map.get (map.insert kept n s) q ≡ cond (bytes_eq q n) (Some s) (map.get kept q)
 get_insert kept n s q = map.get-insert nat_list_cmp_total kept n s q ∙ ap (λ b. cond b (Some s) (map.get kept q)) (is_eq-slice_cmp q n)
 
-pub applied_append : (cs ds : List Change) (kept : Kept) → applied (cs ++ ds) kept ≡ applied ds (applied cs kept)
-applied_append [] ds kept = refl
-applied_append (c ∷ cs) ds kept = applied_append cs ds (changed c kept)
+pub after_append : (cs ds : List Record) (kept : Kept) → after_all (cs ++ ds) kept ≡ after_all ds (after_all cs kept)
+after_append [] ds kept = refl
+after_append (c ∷ cs) ds kept = after_append cs ds (after c kept)
 
 parts : {X : Type 0} (n : ℕ) (xs : List X) → take n xs ++ drop n xs ≡ xs
 parts zero xs = refl
@@ -58,8 +60,8 @@ parts (suc n) [] = refl
 parts (suc n) (x ∷ xs) = ap (λ ys. x ∷ ys) (parts n xs)
 
 -- the first changes, and then the others
-pub applied_parts : (n : ℕ) (cs : List Change) (kept : Kept) → applied (drop n cs) (applied (take n cs) kept) ≡ applied cs kept
-applied_parts n cs kept = sym (applied_append (take n cs) (drop n cs) kept) ∙ ap (λ xs. applied xs kept) (parts n cs)
+pub after_parts : (n : ℕ) (cs : List Record) (kept : Kept) → after_all (drop n cs) (after_all (take n cs) kept) ≡ after_all cs kept
+after_parts n cs kept = sym (after_append (take n cs) (drop n cs) kept) ∙ ap (λ xs. after_all xs kept) (parts n cs)
 
 twice : {X : Type 0} (b : Bool) (x y : X) (z : X) → cond b x (cond b y z) ≡ cond b x z
 twice true x y z = refl
@@ -84,22 +86,27 @@ was_there : (kept : Kept) (n : List ℕ) (s : Positions) (q : List ℕ) (b : Boo
 was_there kept n s q true is there = ap (map.get kept) (same_name q n is) ∙ there
 was_there kept n s q false is there = refl
 
+-- an acknowledgement of a subscription that is there
+pub after_ack : (kept : Kept) (n : List ℕ) (p : ℕ) (s : Positions) → map.get kept n ≡ Some s → after (Acknowledged n p) kept ≡ map.insert kept n (set.insert s p)
+after_ack kept n p s there = ap (λ o. changed_at o kept n (acknowledged (Acknowledged n p))) there
+
+pub get_after_ack : (kept : Kept) (n : List ℕ) (p : ℕ) (s : Positions) (q : List ℕ) → map.get kept n ≡ Some s → map.get (after (Acknowledged n p) kept) q ≡ cond (bytes_eq q n) (Some (set.insert s p)) (map.get kept q)
+get_after_ack kept n p s q there = ap (λ m. map.get m q) (after_ack kept n p s there) ∙ get_insert kept n (set.insert s p) q
+
+pub there_after_ack : (kept : Kept) (n : List ℕ) (p : ℕ) (s : Positions) → map.get kept n ≡ Some s → map.get (after (Acknowledged n p) kept) n ≡ Some (set.insert s p)
+there_after_ack kept n p s there = get_after_ack kept n p s n there ∙ ap (λ b. cond b (Some (set.insert s p)) (map.get kept n)) (name_itself n)
+
 -- the acknowledgements of one subscription
-pub applied_acks : (n : List ℕ) (ps : List ℕ) (kept : Kept) (s : Positions) (q : List ℕ) → map.get kept n ≡ Some s
-    → map.get (applied (each (λ p. Acknowledged n p) ps) kept) q ≡ cond (bytes_eq q n) (Some (joined s ps)) (map.get kept q)
-applied_acks n [] kept s q there =
+pub after_acks : (n : List ℕ) (ps : List ℕ) (kept : Kept) (s : Positions) (q : List ℕ) → map.get kept n ≡ Some s
+    → map.get (after_all (each (λ p. Acknowledged n p) ps) kept) q ≡ cond (bytes_eq q n) (Some (joined s ps)) (map.get kept q)
+after_acks n [] kept s q there =
     was_there kept n s q (bytes_eq q n) refl there ∙ ap (λ x. cond (bytes_eq q n) (Some x) (map.get kept q)) (sym (joined_none s))
-applied_acks n (p ∷ ps) kept s q there =
-    let next = changed (Acknowledged n p) kept in
-    let set_is : set.insert (unwrap_or (map.get kept n) set.empty) p ≡ set.insert s p = ap (λ o. set.insert (unwrap_or o set.empty) p) there in
-    let now : map.get next n ≡ Some (set.insert s p) =
-    get_insert kept n (set.insert (unwrap_or (map.get kept n) set.empty) p) n
-    ∙ ap (λ b. cond b (Some (set.insert (unwrap_or (map.get kept n) set.empty) p)) (map.get kept n)) (name_itself n)
-    ∙ ap (λ x. Some x) set_is in
-    applied_acks n ps next (set.insert s p) q now
+after_acks n (p ∷ ps) kept s q there =
+    let next = after (Acknowledged n p) kept in
+    after_acks n ps next (set.insert s p) q (there_after_ack kept n p s there)
     ∙ ap (λ x. cond (bytes_eq q n) (Some x) (map.get next q)) (joined_first s p ps)
-    ∙ ap (λ x. cond (bytes_eq q n) (Some (joined s (p ∷ ps))) x) (get_insert kept n (set.insert (unwrap_or (map.get kept n) set.empty) p) q)
-    ∙ twice (bytes_eq q n) (Some (joined s (p ∷ ps))) (Some (set.insert (unwrap_or (map.get kept n) set.empty) p)) (map.get kept q)
+    ∙ ap (λ x. cond (bytes_eq q n) (Some (joined s (p ∷ ps))) x) (get_after_ack kept n p s q there)
+    ∙ twice (bytes_eq q n) (Some (joined s (p ∷ ps))) (Some (set.insert s p)) (map.get kept q)
 
 -- ---- subscriptions
 
@@ -187,35 +194,28 @@ acked_changed test ps q (x ∷ xs) s d is = elim (test x) as (λ b. cond b (Some
       ] refl
 ] is
 
--- ---- the laws
+-- ---- the names and sets after a SUBSCRIBE and an ACK
 
-attached_kept : (kept : Kept) (t : Subscriptions) (name : List ℕ) (mode : Mode) (key : ConsumerKey) (start : ℕ) (o : Option Subscription) → find (is_named name) t.subs ≡ o
-    → IsKept kept t → IsKept kept (attached_at o t name mode key start)
-attached_kept kept t name mode key start None none is q =
-    ap (λ m. map.get m q) (applied_append t.changes (Made name start ∷ []) kept)
-    ∙ get_insert (applied t.changes kept) name (below start) q
+abbrev pub AreSame : Kept → Subscriptions → Type 0
+AreSame kept t = (name : List ℕ) → map.get (after_all t.changes kept) name ≡ acked_as name t.subs
+
+pub attached_same : (kept : Kept) (t : Subscriptions) (name : List ℕ) (mode : Mode) (key : ConsumerKey) (start : ℕ) (o : Option Subscription) → find (is_named name) t.subs ≡ o
+    → AreSame kept t → AreSame kept (attached_at o t name mode key start)
+attached_same kept t name mode key start None none is q =
+    ap (λ m. map.get m q) (after_append t.changes (Made name start ∷ []) kept)
+    ∙ get_insert (after_all t.changes kept) name (below start) q
     ∙ ap (λ x. cond (bytes_eq q name) (Some (below start)) x) (is q)
     ∙ sym (acked_pushed q t.subs (attached_to mode key (made name mode start)) none)
-attached_kept kept t name mode key start (Some s) found is q =
+attached_same kept t name mode key start (Some s) found is q =
     is q ∙ sym (acked_spared (is_named name) (attached_to mode key) (record { name = λ _. refl; acked = λ _. refl }) q t.subs)
 
-acknowledged_kept : (kept : Kept) (t : Subscriptions) (key : ConsumerKey) (ps : List ℕ) (o : Option Subscription) → find (is_on key) t.subs ≡ o → IsDistinct bytes_eq (names t.subs)
-    → IsKept kept t → (q : List ℕ) → map.get (applied (t.changes ++ acknowledgements o ps) kept) q ≡ acked_as q (first_changed (is_on key) (acked_on ps) t.subs)
-acknowledged_kept kept t key ps None none d is q =
-    ap (λ m. map.get m q) (applied_append t.changes [] kept) ∙ is q
+pub acknowledged_same : (kept : Kept) (t : Subscriptions) (key : ConsumerKey) (ps : List ℕ) (o : Option Subscription) → find (is_on key) t.subs ≡ o → IsDistinct bytes_eq (names t.subs)
+    → AreSame kept t → (q : List ℕ) → map.get (after_all (t.changes ++ acknowledgements o ps) kept) q ≡ acked_as q (first_changed (is_on key) (acked_on ps) t.subs)
+acknowledged_same kept t key ps None none d is q =
+    ap (λ m. map.get m q) (after_append t.changes [] kept) ∙ is q
     ∙ sym (ap (acked_as q) (changed-none (is_on key) (acked_on ps) t.subs (none_found (is_on key) t.subs none)))
-acknowledged_kept kept t key ps (Some s) found d is q =
-    ap (λ m. map.get m q) (applied_append t.changes (each (λ p. Acknowledged s.name p) ps) kept)
-    ∙ applied_acks s.name ps (applied t.changes kept) s.acked q (is s.name ∙ acked_found (is_on key) t.subs s d found)
+acknowledged_same kept t key ps (Some s) found d is q =
+    ap (λ m. map.get m q) (after_append t.changes (each (λ p. Acknowledged s.name p) ps) kept)
+    ∙ after_acks s.name ps (after_all t.changes kept) s.acked q (is s.name ∙ acked_found (is_on key) t.subs s d found)
     ∙ ap (λ x. cond (bytes_eq q s.name) (Some (joined s.acked ps)) x) (is q)
     ∙ sym (acked_changed (is_on key) ps q t.subs s d found)
-
-pub are_kept : AreKept
-are_kept = record {
-  attach = λ kept t name mode key start is. attached_kept kept t name mode key start (find (is_named name) t.subs) refl is;
-  grant = λ kept t key permits is q. is q ∙ sym (acked_spared (is_on key) (granted_on key permits) (record { name = λ _. refl; acked = λ _. refl }) q t.subs);
-  acknowledge = λ kept t key ps limits is q. acknowledged_kept kept t key ps (find (is_on key) t.subs) refl limits.names is q;
-  send = λ kept t key i is q. is q ∙ sym (acked_spared (is_on key) (sent_on key i) (record { name = λ _. refl; acked = λ _. refl }) q t.subs);
-  leave = λ kept t who is q. is q ∙ sym (acked_each (left_on who) (record { name = λ _. refl; acked = λ _. refl }) q t.subs);
-  settle = λ kept t count is q. ap (λ m. map.get m q) (applied_parts count t.changes kept) ∙ is q;
-}

@@ -5,3 +5,4 @@ pub mod Sound
 pub mod Kept
 pub mod Limits
 pub mod Found
+pub mod Durable

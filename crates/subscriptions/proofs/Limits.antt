@@ -15,14 +15,15 @@ use Rattle.holds.specs.declared.delivery.Delivery.{Delivery}
 use Rattle.holds.proofs.Kept.{get_inserted}
 use Rattle.subscriptions.specs.declared.consumer.Mode.{Mode}
 use Rattle.subscriptions.specs.declared.consumer.Refusal.{Refusal}
-use Rattle.subscriptions.specs.declared.change.Change.{Change}
-use Rattle.subscriptions.specs.declared.change.Change.TheVariants.{Acknowledged}
+use Rattle.records.specs.declared.record.Record.{Record}
+use Rattle.records.specs.declared.record.Record.TheVariants.{Acknowledged}
 use Rattle.subscriptions.specs.State.{Subscription, Subscriptions}
 use Rattle.subscriptions.specs.Steps.{first_changed, first_standing, is_named, is_on, refusals_at, making_refusals, attach_refusals, attached_to, attached_at, made, granted_on, grants_too_many, is_past_on, acknowledged, acknowledgements, acked_on, Admits, AdmitsAt, AdmitsOn, sent_on, left, left_on, freed, settled}
 use Rattle.subscriptions.specs.Soundness.{IsSoundSubscription, HasLimits, IsSound, IsCommittedOn, IsCommitted}
 use Rattle.subscriptions.specs.Laws.{StaysSound, DeliveriesAreCommitted, PickedIsOpen, IsOpenFor}
 use Rattle.subscriptions.proofs.Sound.{length_changed, all_changed, all_pushed, sound_made, sound_attached, sound_granted, sound_acked, sound_sent, sound_left, get_freed}
 use Rattle.subscriptions.proofs.Kept.{names, turned}
+use Rattle.subscriptions.proofs.Durable.{opened_sound, opened_committed}
 use Rattle.subscriptions.proofs.Settled.{is_in, get_forgotten}
 
 pub names_changed : (test : Subscription → Bool) (f : Subscription → Subscription) → ((s : Subscription) → (f s).name ≡ s.name) → (subs : List Subscription) → names (first_changed test f subs) ≡ names subs
@@ -132,6 +133,7 @@ no_names = tt
 
 pub each_sound : StaysSound
 each_sound = record {
+  opened = opened_sound;
   made = record { limits = record { names = no_names; subscriptions = omega arith; changes = omega arith }; each_one = tt };
   attach = λ t name mode key start allowed sound. sound_attach t name mode key start (find (is_named name) t.subs) refl allowed sound;
   grant = λ t key permits within sound. record {
@@ -185,6 +187,7 @@ committed_attach committed t name mode key start (Some s) all =
 
 pub each_committed : DeliveriesAreCommitted
 each_committed = record {
+  opened = opened_committed;
   made = λ committed. tt;
   attach = λ committed t name mode key start all. committed_attach committed t name mode key start (find (is_named name) t.subs) all;
   grant = λ committed t key permits all. all_changed (is_on key) (granted_on key permits) (IsCommittedOn committed) t.subs (λ x is c. c) all;
@@ -201,5 +204,5 @@ picked_at (Some s) key committed i a = a.least.0
 pub picked : PickedIsOpen
 picked t key committed i a = picked_at (find (is_on key) t.subs) key committed i a
 
-pub limits_none : (subs : List Subscription) (changes : List Change) → subs ≡ [] → changes ≡ [] → HasLimits (record { subs = subs; changes = changes })
+pub limits_none : (subs : List Subscription) (changes : List Record) → subs ≡ [] → changes ≡ [] → HasLimits (record { subs = subs; changes = changes })
 limits_none subs changes first second = rw (first, second) (record { names = no_names; subscriptions = omega arith; changes = omega arith })

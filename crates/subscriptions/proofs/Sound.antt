@@ -8,7 +8,7 @@ use Rattle.std.specs.Ordering.{nat_cmp}
 use Rattle.std.specs.Cmp.{nat_cmp_total}
 use Rattle.std.specs.FinMap as map
 use Rattle.std.specs.Prelude.{map as each}
-use Rattle.cursor.specs.Positions.{below}
+use Rattle.cursor.specs.Positions.{Positions, below}
 use Rattle.holds.specs.Deliveries.{Deliveries, holder_in, same_key, sent_to}
 use Rattle.holds.specs.declared.consumer.ConsumerKey.{ConsumerKey}
 use Rattle.holds.specs.declared.delivery.Delivery.{Delivery}
@@ -19,7 +19,7 @@ use Rattle.subscriptions.specs.declared.consumer.Consumer.{Consumer}
 use Rattle.subscriptions.specs.declared.consumer.Refusal.{Refusal}
 use Rattle.subscriptions.specs.State.{Subscription}
 use Rattle.subscriptions.specs.Freeing.{is_among, freed_among}
-use Rattle.subscriptions.specs.Steps.{first_changed, first_standing, is_consumer, is_on, has_some, is_exclusive, same_mode, attach_refusals, attached_to, made, granted_to, granted_on, is_past, acked_on, has_permit, AdmitsOn, sent_one, sent_on, is_of, freed, freed_by, left_on}
+use Rattle.subscriptions.specs.Steps.{first_changed, first_standing, is_consumer, is_on, has_some, is_exclusive, same_mode, attach_refusals, attached_to, made, opened_one, granted_to, granted_on, is_past, acked_on, has_permit, AdmitsOn, sent_one, sent_on, is_of, freed, freed_by, left_on}
 use Rattle.subscriptions.specs.Soundness.{IsWithinPermits, IsSoundSubscription}
 use Rattle.subscriptions.proofs.Settled.{is_in, get_forgotten, apart_acked, apart_empty, apart_sent, given_back_apart}
 
@@ -103,6 +103,15 @@ sound_made name mode start = record {
   single = λ _. omega arith;
   permits = tt;
   unacknowledged = apart_empty (below start);
+  held = λ i key h. absurd (none_held key (sym (ap holder_in (map.get-empty {X = Delivery} nat_cmp i)) ∙ h));
+}
+
+pub sound_opened : (name : List ℕ) (acked : Positions) → IsSoundSubscription (opened_one (name, acked))
+sound_opened name acked = record {
+  few = omega arith;
+  single = λ _. omega arith;
+  permits = tt;
+  unacknowledged = apart_empty acked;
   held = λ i key h. absurd (none_held key (sym (ap holder_in (map.get-empty {X = Delivery} nat_cmp i)) ∙ h));
 }
 

@@ -1,46 +1,39 @@
 -- Laws over all that the calls do.
-use Rattle.std.specs.Prelude.{◌≡◌, ℕ, ◌+◌, ◌≤◌, false, None, Some, Option, List, [], ◌∷◌, length, take}
-use Rattle.std.specs.Option.{option_map, unwrap_or}
-use Rattle.std.specs.List.{find}
-use Rattle.std.specs.Ordering.{nat_cmp}
-use Rattle.std.specs.Cmp.Lexicographic.{slice_cmp}
-use Rattle.std.specs.FinSet as set
+use Rattle.std.specs.Prelude.{◌≡◌, ℕ, ◌+◌, ◌<◌, ◌≤◌, true, false, None, Some, Option, List, length, take}
+use Rattle.std.specs.Option.{option_map}
+use Rattle.std.specs.List.{AllByRecursion, find}
 use Rattle.std.specs.FinMap as map
-use Rattle.cursor.specs.Positions.{Positions, below}
+use Rattle.cursor.specs.Positions.{Positions}
 use Rattle.holds.specs.Backlog.{IsOpenAt}
 use Rattle.holds.specs.declared.consumer.ConsumerKey.{ConsumerKey}
 use Rattle.subscriptions.specs.declared.consumer.Mode.{Mode}
-use Rattle.subscriptions.specs.declared.change.Change.{Change}
-use Rattle.subscriptions.specs.declared.change.Change.TheVariants.{Made, Acknowledged}
+use Rattle.records.specs.Names.{is_subscription_name}
+use Rattle.records.specs.Maps.{Kept}
+use Rattle.records.specs.Records.{IsThere, AreFormed, after_all}
 use Rattle.subscriptions.specs.State.{Subscription, Subscriptions}
-use Rattle.subscriptions.specs.Steps.{none_yet, first_standing, subscribe_refusals, attached, granted, grants_too_many, acknowledged, sent, left, settled, Admits, is_named, is_on}
+use Rattle.subscriptions.specs.Steps.{none_yet, opened, first_standing, subscribe_refusals, attached, granted, grants_too_many, acknowledged, sent, left, settled, Admits, is_named, is_on}
 use Rattle.subscriptions.specs.Soundness.{IsSound, HasLimits, IsCommitted}
 
--- the durable subscriptions: each name's acknowledged positions
-abbrev pub Kept : Type 0
-Kept = map.FinMap (slice_cmp nat_cmp) Positions
-
--- what one change makes of them
-abbrev pub changed : Change → Kept → Kept
-changed (Made name start) kept = map.insert kept name (below start)
-changed (Acknowledged name position) kept = map.insert kept name (set.insert (unwrap_or (map.get kept name) set.empty) position)
-
--- what a list of changes makes of them, the first change first
-abbrev pub applied : List Change → Kept → Kept
-applied [] kept = kept
-applied (c ∷ cs) kept = applied cs (changed c kept)
+-- durable subscriptions that a topic may have: 64 at most, each name of its form
+pub record AreDurable (kept : Kept) : Type 0 where
+  pub few : map.len kept ≤ 64
+  pub named : (name : List ℕ) → IsThere kept name → is_subscription_name name ≡ true
 
 -- the acknowledged positions of the subscription with this name
 abbrev pub acked_as : List ℕ → List Subscription → Option Positions
 acked_as name subs = option_map (λ s. s.acked) (find (is_named name) subs)
 
--- the names and acknowledged positions are what the changes make of the kept ones
-abbrev pub IsKept : Kept → Subscriptions → Type 0
-IsKept kept t = (name : List ℕ) → map.get (applied t.changes kept) name ≡ acked_as name t.subs
+-- the subscriptions are what the changes make of the durable ones, and each change is of its form, beside a ledger of so many entries
+pub record IsKept (entries : ℕ) (kept : Kept) (t : Subscriptions) : Type 0 where
+  pub same : (name : List ℕ) → map.get (after_all t.changes kept) name ≡ acked_as name t.subs
+  pub count : map.len (after_all t.changes kept) ≡ length t.subs
+  pub durable : AreDurable kept
+  pub formed : AreFormed entries kept t.changes
 
 -- each call keeps the subscriptions sound
 pub record StaysSound : Type 0 where
   pub made : IsSound none_yet
+  pub opened : (kept : Kept) → AreDurable kept → IsSound (opened kept)
   pub attach : (t : Subscriptions) (name : List ℕ) (mode : Mode) (key : ConsumerKey) (start : ℕ) → first_standing (subscribe_refusals t name mode) ≡ None → IsSound t → IsSound (attached t name mode key start)
   pub grant : (t : Subscriptions) (key : ConsumerKey) (permits : ℕ) → grants_too_many t key permits ≡ false → IsSound t → IsSound (granted t key permits)
   pub acknowledge : (t : Subscriptions) (key : ConsumerKey) (positions : List ℕ) → length t.changes + length positions ≤ 65536 → IsSound t → IsSound (acknowledged t key positions)
@@ -48,18 +41,24 @@ pub record StaysSound : Type 0 where
   pub leave : (t : Subscriptions) (who : ℕ) → IsSound t → IsSound (left t who)
   pub settle : (t : Subscriptions) (count : ℕ) → IsSound t → IsSound (settled t count)
 
--- the names and sets stay what the changes make of the kept ones; a change that is settled belongs to these from then on
+-- The subscriptions stay what the changes make of the durable ones; a change that is settled belongs to these from then on.
+-- A longer ledger changes nothing.
 pub record AreKept : Type 0 where
-  pub attach : (kept : Kept) (t : Subscriptions) (name : List ℕ) (mode : Mode) (key : ConsumerKey) (start : ℕ) → IsKept kept t → IsKept kept (attached t name mode key start)
-  pub grant : (kept : Kept) (t : Subscriptions) (key : ConsumerKey) (permits : ℕ) → IsKept kept t → IsKept kept (granted t key permits)
-  pub acknowledge : (kept : Kept) (t : Subscriptions) (key : ConsumerKey) (positions : List ℕ) → HasLimits t → IsKept kept t → IsKept kept (acknowledged t key positions)
-  pub send : (kept : Kept) (t : Subscriptions) (key : ConsumerKey) (i : ℕ) → IsKept kept t → IsKept kept (sent t key i)
-  pub leave : (kept : Kept) (t : Subscriptions) (who : ℕ) → IsKept kept t → IsKept kept (left t who)
-  pub settle : (kept : Kept) (t : Subscriptions) (count : ℕ) → IsKept kept t → IsKept (applied (take count t.changes) kept) (settled t count)
+  pub opened : (entries : ℕ) (kept : Kept) → AreDurable kept → IsKept entries kept (opened kept)
+  pub attach : (entries : ℕ) (kept : Kept) (t : Subscriptions) (name : List ℕ) (mode : Mode) (key : ConsumerKey) (start : ℕ)
+      → first_standing (subscribe_refusals t name mode) ≡ None → is_subscription_name name ≡ true → start ≤ entries → IsKept entries kept t → IsKept entries kept (attached t name mode key start)
+  pub grant : (entries : ℕ) (kept : Kept) (t : Subscriptions) (key : ConsumerKey) (permits : ℕ) → IsKept entries kept t → IsKept entries kept (granted t key permits)
+  pub acknowledge : (entries : ℕ) (kept : Kept) (t : Subscriptions) (key : ConsumerKey) (positions : List ℕ)
+      → HasLimits t → AllByRecursion (λ p. p < entries) positions → IsKept entries kept t → IsKept entries kept (acknowledged t key positions)
+  pub send : (entries : ℕ) (kept : Kept) (t : Subscriptions) (key : ConsumerKey) (i : ℕ) → IsKept entries kept t → IsKept entries kept (sent t key i)
+  pub leave : (entries : ℕ) (kept : Kept) (t : Subscriptions) (who : ℕ) → IsKept entries kept t → IsKept entries kept (left t who)
+  pub settle : (entries : ℕ) (kept : Kept) (t : Subscriptions) (count : ℕ) → IsKept entries kept t → IsKept entries (after_all (take count t.changes) kept) (settled t count)
+  pub longer : (entries more : ℕ) (kept : Kept) (t : Subscriptions) → entries ≤ more → IsKept entries kept t → IsKept more kept t
 
 -- where all deliveries are of committed positions, they stay so
 pub record DeliveriesAreCommitted : Type 0 where
   pub made : (committed : ℕ) → IsCommitted committed none_yet
+  pub opened : (committed : ℕ) (kept : Kept) → IsCommitted committed (opened kept)
   pub attach : (committed : ℕ) (t : Subscriptions) (name : List ℕ) (mode : Mode) (key : ConsumerKey) (start : ℕ) → IsCommitted committed t → IsCommitted committed (attached t name mode key start)
   pub grant : (committed : ℕ) (t : Subscriptions) (key : ConsumerKey) (permits : ℕ) → IsCommitted committed t → IsCommitted committed (granted t key permits)
   pub acknowledge : (committed : ℕ) (t : Subscriptions) (key : ConsumerKey) (positions : List ℕ) → IsCommitted committed t → IsCommitted committed (acknowledged t key positions)

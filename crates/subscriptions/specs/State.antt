@@ -4,7 +4,7 @@ use Rattle.cursor.specs.Positions.{Positions}
 use Rattle.holds.specs.Deliveries.{Deliveries}
 use Rattle.subscriptions.specs.declared.consumer.Mode.{Mode}
 use Rattle.subscriptions.specs.declared.consumer.Consumer.{Consumer}
-use Rattle.subscriptions.specs.declared.change.Change.{Change}
+use Rattle.records.specs.declared.record.Record.{Record}
 
 pub record Subscription : Type 0 where
   pub name : List ℕ
@@ -15,4 +15,4 @@ pub record Subscription : Type 0 where
 
 pub record Subscriptions : Type 0 where
   pub subs : List Subscription  -- the earliest made first
-  pub changes : List Change  -- the ones that aren't durable yet
+  pub changes : List Record  -- the ones that aren't durable yet

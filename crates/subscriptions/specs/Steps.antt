@@ -4,7 +4,7 @@ use Rattle.std.specs.List.{list_any, find}
 use Rattle.std.specs.Str.{bytes_eq}
 use Rattle.std.specs.FinSet as set
 use Rattle.std.specs.FinMap as map
-use Rattle.cursor.specs.Positions.{below}
+use Rattle.cursor.specs.Positions.{Positions, below}
 use Rattle.holds.specs.Deliveries.{Deliveries, same_key, sent_to, times}
 use Rattle.holds.specs.Backlog.{IsOpenAt, IsLeast}
 use Rattle.holds.specs.declared.consumer.ConsumerKey.{ConsumerKey}
@@ -14,16 +14,28 @@ use Rattle.subscriptions.specs.declared.consumer.Mode.TheVariants.{Exclusive, Fa
 use Rattle.subscriptions.specs.declared.consumer.Consumer.{Consumer}
 use Rattle.subscriptions.specs.declared.consumer.Refusal.{Refusal}
 use Rattle.subscriptions.specs.declared.consumer.Refusal.TheVariants.{ConsumerBusy, TooManyRequests}
-use Rattle.subscriptions.specs.declared.change.InitialPosition.{InitialPosition}
-use Rattle.subscriptions.specs.declared.change.InitialPosition.TheVariants.{Latest, Earliest}
-use Rattle.subscriptions.specs.declared.change.Change.{Change}
-use Rattle.subscriptions.specs.declared.change.Change.TheVariants.{Made, Acknowledged}
+use Rattle.subscriptions.specs.declared.initial_position.InitialPosition.{InitialPosition}
+use Rattle.subscriptions.specs.declared.initial_position.InitialPosition.TheVariants.{Latest, Earliest}
+use Rattle.records.specs.declared.record.Record.{Record}
+use Rattle.records.specs.Maps.{Kept}
+use Rattle.records.specs.declared.record.Record.TheVariants.{Made, Acknowledged}
 use Rattle.subscriptions.specs.State.{Subscription, Subscriptions}
 use Rattle.subscriptions.specs.Progress.{joined, listed}
 
 -- no subscription, and no change
 abbrev pub none_yet : Subscriptions
 none_yet = record { subs = []; changes = [] }
+
+-- a durable subscription, without consumers and deliveries
+abbrev pub opened_one : List ℕ × Positions → Subscription
+opened_one e = record { name = e.0; mode = Exclusive; consumers = []; acked = e.1; deliveries = map.empty }
+
+abbrev pub opened_all : List (List ℕ × Positions) → Subscriptions
+opened_all entries = record { subs = each opened_one entries; changes = [] }
+
+-- the subscriptions of a topic that was opened: the durable ones, in the order of the names' bytes, and no change
+abbrev pub opened : Kept → Subscriptions
+opened kept = opened_all (map.entries kept)
 
 -- the first that passes a test is changed
 abbrev pub first_changed : {X : Type 0} → (X → Bool) → (X → X) → List X → List X
@@ -134,7 +146,7 @@ acked_on positions s = record s {
 }
 
 -- ACK: one change for each position, also where it was acknowledged before
-abbrev pub acknowledgements : Option Subscription → List ℕ → List Change
+abbrev pub acknowledgements : Option Subscription → List ℕ → List Record
 acknowledgements None positions = []
 acknowledgements (Some s) positions = each (λ p. Acknowledged s.name p) positions
 

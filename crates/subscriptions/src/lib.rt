@@ -4,18 +4,16 @@
 //! exactly where one is admitted. What lacks memory changes nothing.
 #![tactic(auto)]
 
-mod change;
 mod consumer;
+mod initial_position;
 mod laws;
-mod name;
 mod progress;
 mod subscription;
 mod table;
 
-pub use change::{Change, InitialPosition};
 pub use consumer::{Consumer, Mode, Refusal, TooManyPermits};
+pub use initial_position::InitialPosition;
 pub use laws::{deliveries_are_committed, picked_is_open, stays_sound, subscriptions_are_kept};
-pub use name::Name;
 pub use table::Subscriptions;
 
 #[cfg(test)]

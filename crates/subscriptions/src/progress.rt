@@ -52,6 +52,19 @@ impl Progress {
         }
     }
 
+    /// These positions are acknowledged, and nothing was sent.
+    pub(crate) fn opened(alloc: Global, acked: Cursor) -> Self
+        ensures acked { result.acked ≡ acked }
+        ensures deliveries { result.deliveries ≡ map.empty }
+    {
+        Self {
+            acked,
+            late: Vec::new(alloc),
+            holds: Holds::new(alloc),
+            frontier: 0,
+        }
+    }
+
     /// Acknowledges positions. A refusal changes nothing.
     pub(crate) fn acknowledge(&mut self, positions: &[u64]) -> Result<(), AllocError>
         requires { All (λ p. p < 2 ^ 62) positions.now }

@@ -3,13 +3,14 @@ ghost use Rattle.std.specs.Option.{option_map};
 ghost use Rattle.std.specs.List.{find, list_any};
 ghost use Rattle.std.specs.FinMap as map;
 ghost use Rattle.holds.specs.Deliveries.{times};
-ghost use Rattle.subscriptions.specs.Steps.{is_consumer, is_on, first_changed, first_standing, same_mode, is_exclusive, attach_refusals, attached_to, made, granted_to, granted_on, is_past, acked_on, has_permit, serves, is_first, AdmitsOn, sent_one, sent_on, left_on};
+ghost use Rattle.subscriptions.specs.Steps.{is_consumer, is_on, first_changed, first_standing, same_mode, is_exclusive, attach_refusals, attached_to, made, opened_one, granted_to, granted_on, is_past, acked_on, has_permit, serves, is_first, AdmitsOn, sent_one, sent_on, left_on};
 ghost use Rattle.subscriptions.specs.Freeing.{freed_among};
 
 use crate::consumer::{Consumer, Mode, Refusal, TooManyPermits};
-use crate::name::Name;
 use crate::progress::Progress;
+use cursor::Cursor;
 use holds::ConsumerKey;
+use records::Name;
 use std::alloc::{AllocError, Global};
 use std::marker::Model;
 
@@ -56,6 +57,18 @@ impl Subscription {
             mode,
             consumers: Vec::new(alloc),
             progress: Progress::new(alloc, start),
+        }
+    }
+
+    /// These positions are acknowledged, and nobody is attached.
+    pub(crate) fn opened(alloc: Global, name: Name, acked: Cursor) -> Subscription
+        ensures { result ≡ opened_one (name, acked) }
+    {
+        Subscription {
+            name,
+            mode: Mode::Exclusive,
+            consumers: Vec::new(alloc),
+            progress: Progress::opened(alloc, acked),
         }
     }
 

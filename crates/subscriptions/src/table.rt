@@ -1,13 +1,15 @@
 ghost use Rattle.std.specs.Prelude.{◌≡◌, ◌+◌, ◌^◌, ◌<◌, ◌≤◌, ◌++◌, ◌∷◌, [], ℕ, All, IfOk, IfNone, IfSome, OnOk, OnErr, Some, None, true, false, drop, length, nat_le, position, map as each};
-ghost use Rattle.std.specs.List.{find, list_any};
-ghost use Rattle.subscriptions.specs.declared.change.Change.TheVariants.{Acknowledged as acknowledged_change};
-ghost use Rattle.subscriptions.specs.Steps.{none_yet, first_changed, is_on, is_named, has_consumer, first_standing, making_refusals, subscribe_refusals, attach_refusals, attached_to, attached, attached_at, start_of, made, granted, granted_on, is_past_on, grants_too_many, acknowledged, acked_on, Admits, AdmitsAt, AdmitsOn, sent, sent_on, sent_before, times_at, left, left_on, settled};
+ghost use Rattle.std.specs.List.{IsDistinct, find, list_any};
+ghost use Rattle.std.specs.Str.{bytes_eq};
+ghost use Rattle.records.specs.declared.kept_cursor.KeptCursor.{KeptCursor};
+ghost use Rattle.records.specs.declared.record.Record.TheVariants.{Acknowledged as acknowledged_change};
+ghost use Rattle.subscriptions.specs.Steps.{none_yet, opened_one, opened_all, first_changed, is_on, is_named, has_consumer, first_standing, making_refusals, subscribe_refusals, attach_refusals, attached_to, attached, attached_at, start_of, made, granted, granted_on, is_past_on, grants_too_many, acknowledged, acked_on, Admits, AdmitsAt, AdmitsOn, sent, sent_on, sent_before, times_at, left, left_on, settled};
 
-use crate::change::{Change, InitialPosition};
 use crate::consumer::{Mode, Refusal, TooManyPermits};
-use crate::name::Name;
+use crate::initial_position::InitialPosition;
 use crate::subscription::Subscription;
 use holds::ConsumerKey;
+use records::{KeptCursor, Name, Record};
 use std::alloc::{AllocError, Global};
 use std::marker::Model;
 
@@ -22,7 +24,7 @@ const MOST_CHANGES: usize = 65_536;
 pub struct Subscriptions {
     alloc: Global,
     subs: Vec<Subscription>,
-    changes: Vec<Change>,
+    changes: Vec<Record>,
 }
 
 impl Model for Subscriptions {
@@ -53,6 +55,19 @@ impl Subscriptions {
         }
     }
 
+    /// The subscriptions of a topic that was opened, with these durable ones.
+    pub fn opened(alloc: Global, kept: Vec<KeptCursor>) -> Result<Subscriptions, AllocError>
+        requires few { length kept.items ≤ 64 }
+        requires distinct { IsDistinct bytes_eq (each (λ (c : KeptCursor). c.name) kept.items) }
+        ensures { IfOk result (λ t. t ≡ opened_all (each (λ (c : KeptCursor). (c.name, c.acked)) kept.items)) }
+    {
+        Ok(Subscriptions {
+            alloc,
+            subs: open_all(alloc, kept)?,
+            changes: Vec::new(alloc),
+        })
+    }
+
     /// Whether the consumer is attached to a subscription.
     pub fn has_consumer(&self, key: ConsumerKey) -> bool
         ensures { result ≡ has_consumer self.now key }
@@ -61,7 +76,7 @@ impl Subscriptions {
     }
 
     /// The changes that aren't durable yet, the earliest first.
-    pub fn changes(&self) -> &[Change]
+    pub fn changes(&self) -> &[Record]
         ensures { result.now ≡ self.now.changes }
     {
         self.changes.as_slice()
@@ -116,7 +131,7 @@ impl Subscriptions {
         let Some(place) = place_named(self.subs.as_slice(), name) else {
             let start = start_of(initial, committed);
             let sub = new_subscription(self.alloc, name, mode, key, start)?;
-            let change = Change::Made {
+            let change = Record::Made {
                 name: Name::new(self.alloc, name)?,
                 start,
             };
@@ -242,6 +257,18 @@ fn new_subscription(
     Ok(sub)
 }
 
+/// Durable subscriptions, without consumers and deliveries.
+fn open_all(alloc: Global, kept: Vec<KeptCursor>) -> Result<Vec<Subscription>, AllocError>
+    ensures { IfOk result (λ subs. subs.items ≡ each opened_one (each (λ (c : KeptCursor). (c.name, c.acked)) kept.items)) }
+{
+    let mut subs = Vec::with_capacity(alloc, kept.len())?;
+    for cursor in kept {
+        let KeptCursor { name, acked } = cursor;
+        subs.push(Subscription::opened(alloc, name, acked))?;
+    }
+    Ok(subs)
+}
+
 /// Where the subscription of this name stands.
 fn place_named(subs: &[Subscription], name: &str) -> Option<usize>
     ensures place { result ≡ position (is_named name.now) subs.now }
@@ -259,12 +286,12 @@ fn place_of(subs: &[Subscription], key: ConsumerKey) -> Option<usize>
 }
 
 /// A change for each position.
-fn acknowledgements(alloc: Global, name: &str, positions: &[u64]) -> Result<Vec<Change>, AllocError>
+fn acknowledgements(alloc: Global, name: &str, positions: &[u64]) -> Result<Vec<Record>, AllocError>
     ensures { IfOk result (λ changes. changes.items ≡ each (λ p. acknowledged_change name.now p) positions.now) }
 {
     let mut changes = Vec::new(alloc);
     for position in positions {
-        changes.push(Change::Acknowledged {
+        changes.push(Record::Acknowledged {
             name: Name::new(alloc, name)?,
             position: *position,
         })?;
@@ -283,7 +310,7 @@ fn leave_all(subs: &mut Vec<Subscription>, who: u64)
 }
 
 /// Drops the first changes.
-fn drop_first(changes: &mut Vec<Change>, count: usize)
+fn drop_first(changes: &mut Vec<Record>, count: usize)
     requires { count ≤ length changes.old.items }
     ensures { changes.new.items ≡ drop count changes.old.items }
 {

@@ -1,8 +1,9 @@
 ghost use Rattle.std.specs.Prelude.{◌^◌, ◌≤◌};
 
 use crate::plain::PlainSubscription;
-use crate::{Change, InitialPosition, Mode, Refusal, Subscriptions, TooManyPermits};
+use crate::{InitialPosition, Mode, Refusal, Subscriptions, TooManyPermits};
 use holds::ConsumerKey;
+use records::Record;
 use std::alloc::{AllocError, Global};
 use std::process::Abort;
 use std::test::Fail;
@@ -54,10 +55,13 @@ fn acknowledge(
     subs.acknowledge(key, &[u64::from(position)])
 }
 
-fn name_of(change: &Change) -> (&str, bool, u64) {
+fn name_of(change: &Record) -> (&str, bool, u64) {
     match change {
-        Change::Made { name, start } => (name.as_str(), true, *start),
-        Change::Acknowledged { name, position } => (name.as_str(), false, *position),
+        Record::Made { name, start } => (name.as_str(), true, *start),
+        Record::Acknowledged { name, position } => (name.as_str(), false, *position),
+        Record::Removed { name }
+        | Record::AcknowledgedThrough { name, .. }
+        | Record::AcknowledgedRange { name, .. } => (name.as_str(), false, u64::MAX),
     }
 }
 

@@ -4,7 +4,7 @@ use Rattle.std.specs.List.{count_by}
 use Rattle.commands.specs.declared.reply.Reply.{Reply}
 use Rattle.ids.specs.Ids.{message_id_at}
 use Rattle.subscriptions.proofs.Limits.{each_sound, each_committed}
-use Rattle.topic_core.specs.Replies.{SessionReplies, receipts_in, is_for, due_to}
+use Rattle.reply_queues.specs.Replies.{SessionReplies, receipts_in, is_for, due_to}
 use Rattle.topic_core.specs.Core.{Core, entries_of}
 use Rattle.topic_core.specs.Soundness.{IsSound, AreReceipts, HasReceipts, IsReceiptWithin, is_receipt_for}
 use Rattle.topic_core.specs.Steps.{collected, left}
@@ -22,6 +22,7 @@ module _ (t : Core) (who : ℕ) (sound : IsSound t) where
         few = sound.few;
         small = sound.small;
         each_small = sound.each_small;
+        readable = sound.readable;
         entries = sound.entries;
         sends = sound.sends;
         receipts = omega (arith, due, sound.receipts);
@@ -31,6 +32,7 @@ module _ (t : Core) (who : ℕ) (sound : IsSound t) where
         sessions = rw (sessions-collected who t.queues) sound.sessions;
         within = all-collected _ _ who t.queues (λ q h. h) (λ q h. h) sound.within;
         sure = λ none. all-collected _ _ who t.queues (λ q h. h) (λ q h. h) (sound.sure none);
+        told = λ failed. all-collected _ _ who t.queues (λ q h. h) (λ q h. h) (sound.told failed);
         subs = sound.subs;
         sent = sound.sent;
       }
@@ -61,6 +63,7 @@ module _ (t : Core) (who : ℕ) (sound : IsSound t) where
         few = sound.few;
         small = sound.small;
         each_small = sound.each_small;
+        readable = sound.readable;
         entries = sound.entries;
         sends = sound.sends;
         receipts = omega (arith, due, sound.receipts);
@@ -70,6 +73,7 @@ module _ (t : Core) (who : ℕ) (sound : IsSound t) where
         sessions = distinct-filter others t.queues sound.sessions;
         within = all-filter _ others t.queues sound.within;
         sure = λ none. all-filter _ others t.queues (sound.sure none);
+        told = λ failed. all-filter _ others t.queues (sound.told failed);
         subs = each_sound.leave t.subs who sound.subs;
         sent = each_committed.leave t.committed t.subs who sound.sent;
       }

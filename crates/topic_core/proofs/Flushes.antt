@@ -1,20 +1,22 @@
 -- The parts of a flush keep a topic sound.
-use Rattle.std.proofs.Common.{◌≡◌, ℕ, ◌+◌, ◌-◌, ◌≤◌, cond, List, [], ◌∷◌, ◌++◌, length, take, drop, refl, ap, sym, subst, arith}
+use Rattle.std.proofs.Common.{◌≡◌, ℕ, zero, suc, ◌+◌, ◌-◌, ◌≤◌, Bool, false, cond, List, [], ◌∷◌, ◌++◌, length, take, drop, map, refl, ap, sym, subst, arith}
 use Rattle.std.specs.List.{AllByRecursion, sum_by, count_by}
 use Rattle.std.proofs.lemmas.List.{take_all, drop_all, take-append-drop, length-drop}
 use Rattle.std.proofs.lemmas.List.Elements.{All-drop}
-use Rattle.std.proofs.lemmas.List.Sums.{sum_by-append, sum_by-take-drop, sum_by-le-sum_by}
+use Rattle.std.proofs.lemmas.List.Sums.{sum_by-cons, sum_by-append, sum_by-take-drop, sum_by-le-sum_by}
 use Rattle.commands.specs.declared.reply.Reply.{Reply}
+use Rattle.commands.specs.declared.reply.Reply.TheVariants.{Connected, ProducerSuccess, SendReceipt, SendError, Message, Success, Error, AckResponse, Pong}
+use Rattle.managed_ledger.specs.Entries.{IsEntry}
 use Rattle.ids.specs.Ids.{message_id_at}
 use Rattle.subscriptions.specs.State.{Subscription}
 use Rattle.subscriptions.specs.Soundness.{IsCommittedOn}
 use Rattle.subscriptions.proofs.Limits.{each_sound}
-use Rattle.topic_core.specs.Replies.{SessionReplies, is_receipt, receipts_in, hand_on, make_due, take_back}
+use Rattle.reply_queues.specs.Replies.{SessionReplies, is_receipt, receipts_in, hand_on, make_due, take_back, refused, refuse_pending}
 use Rattle.topic_core.specs.Core.{Core, entries_of, changes_of}
 use Rattle.topic_core.specs.Soundness.{IsSound, AreReceipts, HasReceipts, IsReceiptWithin, AreRising, is_receipt_for, receipts_handed_on, receipts_left}
-use Rattle.topic_core.specs.Flush.{handed_on, finished, taken_back}
+use Rattle.topic_core.specs.Flush.{handed_on, finished, taken_back, failed}
 use Rattle.topic_core.proofs.Queues.{all-map, all-each, sum_by-map, sum_by-both, sum_by-none, sessions-map}
-use Rattle.topic_core.proofs.Receipts.{within-wider, all-replies, all-append, rising-from, rising-upto, rising-append, rising-within}
+use Rattle.topic_core.proofs.Receipts.{within-wider, plain-within, all-replies, all-append, rising-from, rising-upto, rising-append, rising-within}
 
 -- how many receipts await a flush
 abbrev pub receipts_pending : List SessionReplies → ℕ
@@ -35,6 +37,45 @@ committed-wider : (c c' : ℕ) (subs : List Subscription) → c ≤ c' → AllBy
 committed-wider c c' [] low all = tt
 committed-wider c c' (s ∷ subs) low all = (λ i h. all.0 i (omega (arith, low, h)), committed-wider c c' subs low all.1)
 
+pub all-dropped : {X : Type 0} (P : X → Type 0) (n : ℕ) (xs : List X) → AllByRecursion P xs → AllByRecursion P (drop n xs)
+all-dropped P zero xs all = all
+all-dropped P (suc n) [] all = tt
+all-dropped P (suc n) (x ∷ xs) all = all-dropped P n xs all.1
+
+pub all-taken : {X : Type 0} (P : X → Type 0) (n : ℕ) (xs : List X) → AllByRecursion P xs → AllByRecursion P (take n xs)
+all-taken P zero xs all = tt
+all-taken P (suc n) [] all = tt
+all-taken P (suc n) (x ∷ xs) all = (all.0, all-taken P n xs all.1)
+
+none-dropped : (n : ℕ) (rs : List Reply) → rs ≡ [] → drop n rs ≡ []
+none-dropped zero rs none = none
+none-dropped (suc n) [] none = refl
+none-dropped (suc n) (r ∷ rs) none = cc
+
+-- refusals are no receipts
+no-receipt : (r : Reply) → is_receipt (refused r) ≡ false
+no-receipt Connected = refl
+no-receipt (ProducerSuccess q m) = refl
+no-receipt (SendReceipt p s id) = refl
+no-receipt (SendError p s e) = refl
+no-receipt (Message c id k) = refl
+no-receipt (Success q) = refl
+no-receipt (Error q e) = refl
+no-receipt (AckResponse c e q) = refl
+no-receipt Pong = refl
+
+none-counted : (rs : List Reply) → receipts_in (map (λ r. refused r) rs) ≡ 0
+none-counted [] = refl
+none-counted (r ∷ rs) =
+    let f : Reply → ℕ = λ y. cond (is_receipt y) 1 0 in
+    let one : Bool → ℕ = λ b. cond b 1 0 in
+    let none : one (is_receipt (refused r)) ≡ one false = ap one (no-receipt r) in
+    omega (arith, sum_by-cons f (refused r) (map (λ x. refused x) rs), none, none-counted rs)
+
+none-within : (n c : ℕ) (rs : List Reply) → AllByRecursion (IsReceiptWithin n 0 c) (map (λ r. refused r) rs)
+none-within n c [] = tt
+none-within n c (r ∷ rs) = (plain-within n 0 c (refused r) (no-receipt r), none-within n c rs)
+
 module _ (t : Core) (sound : IsSound t) where
   handed_on-few : entries_of t.doubt ≤ length t.waiting
   handed_on-few = omega (arith, sound.promises)
@@ -52,6 +93,7 @@ module _ (t : Core) (sound : IsSound t) where
         few = sound.few;
         small = sound.small;
         each_small = sound.each_small;
+        readable = sound.readable;
         entries = sound.entries;
         sends = sound.sends;
         receipts = omega (arith, due, sound.receipts);
@@ -61,6 +103,7 @@ module _ (t : Core) (sound : IsSound t) where
         sessions = rw (sessions-map hand_on t.queues (λ q. refl)) sound.sessions;
         within = all-map _ _ hand_on t.queues (λ q h. omega arith) sound.within;
         sure = λ some. cc;
+        told = λ failed. all-map _ _ hand_on t.queues (λ q h. h) (sound.told failed);
         subs = sound.subs;
         sent = sound.sent;
       }
@@ -92,6 +135,7 @@ module _ (t : Core) (sound : IsSound t) where
         few = sound.few;
         small = sound.small;
         each_small = sound.each_small;
+        readable = sound.readable;
         entries = sound.entries;
         sends = sound.sends;
         receipts = omega (arith, due, sound.receipts);
@@ -101,6 +145,7 @@ module _ (t : Core) (sound : IsSound t) where
         sessions = rw (sessions-map take_back t.queues (λ q. refl)) sound.sessions;
         within = all-map _ _ take_back t.queues (λ q h. omega arith) sound.within;
         sure = λ none. all-map _ _ take_back t.queues (λ q h. refl) sound.within;
+        told = λ failed. all-map _ _ take_back t.queues (λ q h. h) (sound.told failed);
         subs = sound.subs;
         sent = sound.sent;
       }
@@ -136,6 +181,7 @@ module _ (t : Core) (sound : IsSound t) where
         few = omega (arith, fewer, sound.few);
         small = omega (arith, bytes, sound.small);
         each_small = All-drop (λ e. length e ≤ 1048576) (entries_of t.doubt) t.waiting sound.each_small;
+        readable = all-dropped IsEntry (entries_of t.doubt) t.waiting sound.readable;
         entries = omega (arith, fewer, handed_on-few, sound.entries);
         sends = sound.sends;
         receipts = omega (arith, due, given, sound.receipts, sound.handed_on);
@@ -145,6 +191,7 @@ module _ (t : Core) (sound : IsSound t) where
         sessions = rw (sessions-map make_due t.queues (λ q. refl)) sound.sessions;
         within = all-map _ _ make_due t.queues (λ q h. omega arith) sound.within;
         sure = λ none. all-map _ _ make_due t.queues (λ q h. refl) sound.within;
+        told = λ failed. all-map (λ q. q.pending ≡ []) (λ q. q.pending ≡ []) make_due t.queues (λ q h. none-dropped q.handed_on q.pending h) (sound.told failed);
         subs = each_sound.settle t.subs (changes_of t.doubt) sound.subs;
         sent = committed-wider t.committed (t.committed + entries_of t.doubt) t.subs.subs (omega arith) sound.sent;
       }
@@ -170,4 +217,49 @@ module _ (t : Core) (sound : IsSound t) where
             let e = sum_by-map (λ (q : SessionReplies). sum_by f q.pending) (λ q. sum_by f (drop q.handed_on q.pending)) make_due t.queues (λ q. refl) in
             let less = sum_by-le-sum_by (λ (q : SessionReplies). sum_by f (drop q.handed_on q.pending)) (λ q. sum_by f q.pending) t.queues (λ q. omega (arith, sum_by-take-drop f q.pending q.handed_on)) in
             omega (arith, e, less, are.single k);
+      }
+
+  pub sound-failed : IsSound (failed t)
+  sound-failed =
+      let due = sum_by-map (λ (q : SessionReplies). receipts_in q.due) (λ q. receipts_in q.due) refuse_pending t.queues
+      (λ q. omega (arith, sum_by-append (λ y. cond (is_receipt y) 1 0) q.due (map (λ r. refused r) q.pending), none-counted q.pending)) in
+      let on = sum_by-map (λ (q : SessionReplies). receipts_in (take q.handed_on q.pending)) (λ q. 0) refuse_pending t.queues (λ q. refl) in
+      let left = sum_by-map (λ (q : SessionReplies). receipts_in (drop q.handed_on q.pending)) (λ q. 0) refuse_pending t.queues (λ q. refl) in
+      let none = sum_by-none (λ q. 0) t.queues (all-each _ _ t.queues (λ q _. refl) sound.within) in
+      record {
+        numbered = sound.numbered;
+        few = sound.few;
+        small = sound.small;
+        each_small = sound.each_small;
+        readable = sound.readable;
+        entries = sound.entries;
+        sends = sound.sends;
+        receipts = omega (arith, due, sound.receipts);
+        handed_on = omega (arith, on, none);
+        promises = omega (arith, left, none, sound.promises);
+        changes = sound.changes;
+        sessions = rw (sessions-map refuse_pending t.queues (λ q. refl)) sound.sessions;
+        within = all-map _ _ refuse_pending t.queues (λ q h. omega arith) sound.within;
+        sure = λ none. all-map _ _ refuse_pending t.queues (λ q h. refl) sound.within;
+        told = λ _. all-map _ _ refuse_pending t.queues (λ q h. refl) sound.within;
+        subs = sound.subs;
+        sent = sound.sent;
+      }
+
+  pub receipts-failed : AreReceipts t → AreReceipts (failed t)
+  receipts-failed are =
+      let n = t.per_ledger in
+      let c = t.committed in
+      let h = entries_of t.doubt in
+      let w = length t.waiting in
+      record {
+        each = all-map (HasReceipts n c h w) (HasReceipts n c h w) refuse_pending t.queues (λ q x. record {
+          given = all-append (IsReceiptWithin n 0 c) q.due (map (λ r. refused r) q.pending) x.given (none-within n c q.pending);
+          awaited = tt;
+          promised = tt;
+        }) are.each;
+        single = λ k.
+            let e = sum_by-map (λ (q : SessionReplies). count_by (is_receipt_for (message_id_at n k)) q.pending) (λ q. 0) refuse_pending t.queues (λ q. refl) in
+            let none = sum_by-none (λ q. 0) t.queues (all-each _ _ t.queues (λ q _. refl) sound.within) in
+            omega (arith, e, none);
       }

@@ -1,6 +1,4 @@
-pub mod Lists
 pub mod Ids
-pub mod Places
 pub mod Queues
 pub mod Receipts
 pub mod Sends
@@ -10,4 +8,8 @@ pub mod Subscribing
 pub mod Openings
 pub mod Flushing
 pub mod Steps
+pub mod Sizes
+pub mod Cursors
+pub mod Writing
+pub mod Standings
 pub mod Keeps

@@ -1,20 +1,28 @@
--- A topic that was opened is sound.
-use Rattle.std.proofs.Common.{ℕ, ◌^◌, ◌≤◌, ◌<◌, [], nat_eq, arith}
-use Rattle.std.specs.List.{IsDistinct}
+-- A topic that was opened, or opened again, is sound.
+use Rattle.std.proofs.Common.{◌≡◌, ℕ, ◌^◌, ◌≤◌, ◌<◌, true, List, [], length, take, drop, nat_eq, ap, ◌∙◌, arith}
+use Rattle.std.specs.List.{AllByRecursion, IsDistinct}
+use Rattle.commands.specs.declared.reply.Reply.{Reply}
+use Rattle.records.specs.Maps.{Kept}
+use Rattle.reply_queues.specs.Replies.{SessionReplies, receipts_in}
+use Rattle.subscriptions.specs.Laws.{AreDurable}
 use Rattle.subscriptions.proofs.Limits.{each_sound, each_committed}
-use Rattle.topic_core.specs.Core.{opened}
-use Rattle.topic_core.specs.Soundness.{IsSound, AreReceipts}
+use Rattle.topic_core.specs.Core.{Core, opened, entries_of}
+use Rattle.topic_core.specs.Crashes.{reopened}
+use Rattle.topic_core.specs.Soundness.{IsSound, AreReceipts, HasReceipts, IsReceiptWithin}
+use Rattle.topic_core.proofs.Queues.{all-each, all-both, sum_by-none}
+use Rattle.topic_core.proofs.Receipts.{within-wider, all-replies}
 
 no_sessions : IsDistinct nat_eq []
 unfolding IsDistinct
 no_sessions = tt
 
-pub sound-opened : (n committed : ℕ) → 0 < n → committed ≤ 2 ^ 62 → IsSound (opened n committed)
-sound-opened n committed some few = record {
+pub sound-opened : (n committed : ℕ) (kept : Kept) → 0 < n → committed ≤ 2 ^ 62 → AreDurable kept → IsSound (opened n committed kept)
+sound-opened n committed kept some few durable = record {
   numbered = some;
   few = omega arith;
   small = omega arith;
   each_small = λ k d h. absurd (omega (arith, h));
+  readable = tt;
   entries = omega (arith, few);
   sends = omega arith;
   receipts = omega arith;
@@ -24,9 +32,64 @@ sound-opened n committed some few = record {
   sessions = no_sessions;
   within = tt;
   sure = λ none. tt;
-  subs = each_sound.made;
-  sent = each_committed.made committed;
+  told = λ failed. tt;
+  subs = each_sound.opened kept durable;
+  sent = each_committed.opened committed kept;
 }
 
-pub receipts-opened : (n committed : ℕ) → AreReceipts (opened n committed)
-receipts-opened n committed = record { each = tt; single = λ k. omega arith }
+pub receipts-opened : (n committed : ℕ) (kept : Kept) → AreReceipts (opened n committed kept)
+receipts-opened n committed kept = record { each = tt; single = λ k. omega arith }
+
+none-handed : (q : SessionReplies) → (q.pending ≡ []) × (q.handed_on ≤ length q.pending) → q.handed_on ≡ 0
+none-handed q x = omega (arith, x.1, ap (λ (rs : List Reply). length rs) x.0)
+
+none-first : (q : SessionReplies) → (q.pending ≡ []) × (q.handed_on ≤ length q.pending) → take q.handed_on q.pending ≡ []
+none-first q x = ap (λ n. take n q.pending) (none-handed q x)
+
+none-left : (q : SessionReplies) → (q.pending ≡ []) × (q.handed_on ≤ length q.pending) → drop q.handed_on q.pending ≡ []
+none-left q x = ap (λ n. drop n q.pending) (none-handed q x) ∙ x.0
+
+module _ (t : Core) (committed : ℕ) (kept : Kept) (sound : IsSound t) where
+  -- nothing of a failed topic awaits a flush
+  quiet : t.failed ≡ true → AllByRecursion (λ q. (q.pending ≡ []) × (q.handed_on ≤ length q.pending)) t.queues
+  quiet was = all-both (λ q. q.pending ≡ []) (λ q. q.handed_on ≤ length q.pending) t.queues (sound.told was) sound.within
+
+  pub sound-reopened : t.failed ≡ true → t.committed ≤ committed → committed ≤ 2 ^ 62 → AreDurable kept → IsSound (reopened t committed kept)
+  sound-reopened was more few durable =
+      let on = sum_by-none (λ (q : SessionReplies). receipts_in (take q.handed_on q.pending)) t.queues (all-each _ _ t.queues (λ q x. ap (λ rs. receipts_in rs) (none-first q x)) (quiet was)) in
+      let left = sum_by-none (λ (q : SessionReplies). receipts_in (drop q.handed_on q.pending)) t.queues (all-each _ _ t.queues (λ q x. ap (λ rs. receipts_in rs) (none-left q x)) (quiet was)) in
+      record {
+        numbered = sound.numbered;
+        few = omega arith;
+        small = omega arith;
+        each_small = λ k d h. absurd (omega (arith, h));
+        readable = tt;
+        entries = omega (arith, few);
+        sends = sound.sends;
+        receipts = omega (arith, sound.receipts, more);
+        handed_on = omega (arith, on);
+        promises = omega (arith, left);
+        changes = omega arith;
+        sessions = sound.sessions;
+        within = sound.within;
+        sure = λ none. all-each _ _ t.queues (λ q x. none-handed q x) (quiet was);
+        told = λ failed. all-each _ _ t.queues (λ q x. x.0) (quiet was);
+        subs = each_sound.opened kept durable;
+        sent = each_committed.opened committed kept;
+      }
+
+  pub receipts-reopened : AreReceipts t → t.failed ≡ true → t.committed ≤ committed → AreReceipts (reopened t committed kept)
+  receipts-reopened are was more =
+      let n = t.per_ledger in
+      let h = entries_of t.doubt in
+      let w = length t.waiting in
+      record {
+        each = all-each (λ q. HasReceipts n t.committed h w q × ((q.pending ≡ []) × (q.handed_on ≤ length q.pending))) (HasReceipts n committed 0 0) t.queues
+            (λ q x. record {
+              given = all-replies (IsReceiptWithin n 0 t.committed) (IsReceiptWithin n 0 committed) q.due (λ r y. within-wider n 0 t.committed 0 committed r (omega arith) more y) x.0.given;
+              awaited = rw (none-first q x.1) tt;
+              promised = rw (none-left q x.1) tt;
+            })
+            (all-both (HasReceipts n t.committed h w) (λ q. (q.pending ≡ []) × (q.handed_on ≤ length q.pending)) t.queues are.each (quiet was));
+        single = λ k. are.single k;
+      }

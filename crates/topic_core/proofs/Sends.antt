@@ -1,7 +1,8 @@
 -- A SEND that is accepted keeps a topic sound.
-use Rattle.std.proofs.Common.{◌≡◌, ℕ, ◌+◌, ◌^◌, ◌/◌, ◌%◌, ◌≤◌, ◌<◌, Bool, true, false, cond, not, ◌&&◌, nat_eq, nat_lt, nat_le, Option, Some, None, List, [], ◌∷◌, ◌++◌, length, take, drop, refl, ap, arith, length-append}
+use Rattle.std.proofs.Common.{◌≡◌, ℕ, ◌+◌, ◌^◌, ◌/◌, ◌%◌, ◌≤◌, ◌<◌, Bool, true, false, cond, not, ◌&&◌, nat_eq, nat_lt, nat_le, Option, Some, None, Result, Ok, Err, List, [], ◌∷◌, ◌++◌, length, take, drop, refl, ap, sym, ◌∙◌, arith, length-append}
 use Rattle.std.specs.List.{sum_by, count_by}
-use Rattle.std.proofs.lemmas.Bool.{eqb-true, ltb-false, leb-false, false≢true}
+use Rattle.std.specs.Result.{is_ok}
+use Rattle.std.proofs.lemmas.Bool.{eqb-true, ltb-false, leb-false, false≢true, true≢false}
 use Rattle.std.proofs.lemmas.List.{take-append-le, drop-append-le}
 use Rattle.std.proofs.lemmas.List.Elements.{All-push}
 use Rattle.std.proofs.lemmas.List.Sums.{sum_by-append}
@@ -9,14 +10,21 @@ use Rattle.commands.specs.declared.reply.Reply.{Reply}
 use Rattle.commands.specs.declared.reply.Reply.TheVariants.{SendReceipt}
 use Rattle.commands.specs.declared.server_error.ServerError.{ServerError}
 use Rattle.commands.specs.declared.server_error.ServerError.TheVariants.{PersistenceError, ChecksumError, TooManyRequests, NotAllowedError}
+use Rattle.commands.specs.declared.metadata.MessageMeta.{MessageMeta}
+use Rattle.commands.specs.Metadata.{entry_of}
+use Rattle.commands.specs.declared.fault.CommandFault.{CommandFault}
+use Rattle.managed_ledger.specs.Entries.{IsEntry}
+use Rattle.topic_core.specs.declared.command.SentEntry.{SentEntry}
+use Rattle.topic_core.specs.declared.command.SentEntry.TheVariants.{Checksummed, Plain}
 use Rattle.topic_core.specs.declared.command.Send.{Send}
 use Rattle.ids.specs.Ids.{message_id_at}
-use Rattle.topic_core.specs.Replies.{SessionReplies, is_receipt, receipts_in, with_pending, queued}
+use Rattle.reply_queues.specs.Replies.{SessionReplies, is_receipt, receipts_in, with_pending, queued}
 use Rattle.topic_core.specs.Core.{Core, next_position, waiting_bytes, entries_of}
 use Rattle.topic_core.specs.Soundness.{IsSound, AreReceipts, HasReceipts, is_receipt_for, receipts_for}
 use Rattle.topic_core.specs.Steps.{receipt, accepted, first_standing, limit_refusals, send_refusals, has_open_producer, is_checksummed, bytes_of, is_single}
-use Rattle.topic_core.proofs.Queues.{all-each, all-queued, all-both, sum_by-queued, sum_by-none, distinct-queued, made}
-use Rattle.topic_core.proofs.Receipts.{rising-upto, rising-push, none-beyond, message_id_at-injective}
+use Rattle.topic_core.proofs.Queues.{all-each, all-queued, all-both, sum_by-queued, sum_by-none, distinct-queued}
+use Rattle.reply_queues.proofs.Places.{made}
+use Rattle.topic_core.proofs.Receipts.{all-append, rising-upto, rising-push, none-beyond, message_id_at-injective}
 
 and_first : (a b : Bool) → (a && b) ≡ true → a ≡ true
 and_first true b h = refl
@@ -54,13 +62,27 @@ has_room t len none =
       sends = leb-false (2 ^ 62) t.accepted (none-first _ TooManyRequests _ fourth);
     }
 
--- a SEND that is accepted has an entry that is short enough, and room for it
-pub takes_entry : (t : Core) (who : ℕ) (send : Send) → first_standing (send_refusals t who send) ≡ None → (length (bytes_of send.entry) ≤ 1048576) × HasRoom t (length (bytes_of send.entry))
+-- an entry without a checksum can be read
+readable_sent : (e : SentEntry) → is_checksummed e ≡ false → is_ok (entry_of (bytes_of e)) ≡ true
+readable_sent Checksummed h = absurd (true≢false h)
+readable_sent (Plain entry) h = entry.readable
+
+entry_read : (entry : List ℕ) (r : Result MessageMeta CommandFault) → entry_of entry ≡ r → is_ok r ≡ true → length entry ≤ 1048576 → IsEntry entry
+entry_read entry (Ok meta) is ok short = record { meta = meta; no_longer = short; readable = is }
+entry_read entry (Err e) is ok short = absurd (false≢true ok)
+
+pub is_entry : (entry : List ℕ) → is_ok (entry_of entry) ≡ true → length entry ≤ 1048576 → IsEntry entry
+is_entry entry ok short = entry_read entry (entry_of entry) refl ok short
+
+-- a SEND that is accepted is of a topic that works, and has an entry that can be read and is short enough, and room for it
+pub takes_entry : (t : Core) (who : ℕ) (send : Send) → first_standing (send_refusals t who send) ≡ None → (t.failed ≡ false) × (is_ok (entry_of (bytes_of send.entry)) ≡ true) × (length (bytes_of send.entry) ≤ 1048576) × HasRoom t (length (bytes_of send.entry))
 takes_entry t who send none =
     let second = none-rest (not (has_open_producer t who send.producer_id)) NotAllowedError _ none in
     let third = none-rest (is_checksummed send.entry) ChecksumError _ second in
     let fourth = none-rest (nat_lt 1048576 (length (bytes_of send.entry))) NotAllowedError _ third in
     let fifth = none-rest (not (is_single send.num_messages send.entry)) NotAllowedError _ fourth in (
+      none-first t.failed PersistenceError _ fifth,
+      readable_sent send.entry (none-first _ ChecksumError _ second),
       ltb-false 1048576 (length (bytes_of send.entry)) (none-first _ NotAllowedError _ third),
       has_room t (length (bytes_of send.entry)) (none-rest t.failed PersistenceError _ fifth),
     )
@@ -89,8 +111,8 @@ module _ (t : Core) (who p s : ℕ) (entry : List ℕ) (sound : IsSound t) where
   handed_on-few : entries_of t.doubt ≤ length t.waiting
   handed_on-few = omega (arith, sound.promises)
 
-  pub sound-accepted : length entry ≤ 1048576 → HasRoom t (length entry) → IsSound (accepted t who p s entry)
-  sound-accepted short room =
+  pub sound-accepted : t.failed ≡ false → is_ok (entry_of entry) ≡ true → length entry ≤ 1048576 → HasRoom t (length entry) → IsSound (accepted t who p s entry)
+  sound-accepted works readable short room =
       let more = length-append t.waiting (entry ∷ []) in
       let due = sum_by-queued (λ (q : SessionReplies). receipts_in q.due) 0 who (receipt t p s) t.queues (all-each _ _ t.queues (λ q _. omega arith) sound.within) refl in
       let on = sum_by-queued (λ (q : SessionReplies). receipts_in (take q.handed_on q.pending)) 0 who (receipt t p s) t.queues
@@ -103,6 +125,7 @@ module _ (t : Core) (who p s : ℕ) (entry : List ℕ) (sound : IsSound t) where
         few = omega (arith, more, room.few);
         small = omega (arith, room.small, sum_by-append length t.waiting (entry ∷ []));
         each_small = All-push (λ e. length e ≤ 1048576) t.waiting entry sound.each_small short;
+        readable = all-append IsEntry t.waiting (entry ∷ []) sound.readable (is_entry entry readable short, tt);
         entries = omega (arith, more, room.entries);
         sends = omega (arith, room.sends);
         receipts = omega (arith, due, sound.receipts);
@@ -112,6 +135,7 @@ module _ (t : Core) (who p s : ℕ) (entry : List ℕ) (sound : IsSound t) where
         sessions = distinct-queued who (receipt t p s) t.queues sound.sessions;
         within = all-queued _ _ who (receipt t p s) t.queues (λ q h. h) (λ q h. omega (arith, h, length-append q.pending (receipt t p s ∷ []))) (omega arith) sound.within;
         sure = λ none. all-queued _ _ who (receipt t p s) t.queues (λ q h. h) (λ q h. h) refl (sound.sure none);
+        told = λ failed. absurd (false≢true (sym works ∙ failed));
         subs = sound.subs;
         sent = sound.sent;
       }

@@ -1,13 +1,15 @@
 -- The subscriptions change, and a reply that is no receipt awaits a flush: a topic stays sound.
-use Rattle.std.proofs.Common.{◌≡◌, ℕ, ◌+◌, ◌≤◌, Bool, true, false, cond, not, Option, Some, None, Result, Ok, Err, List, [], ◌∷◌, ◌++◌, length, take, drop, map, suc, refl, ap, sym, subst, arith, length-append}
+use Rattle.std.proofs.Common.{◌≡◌, ℕ, ◌+◌, ◌<◌, ◌≤◌, Bool, true, false, cond, not, ◌&&◌, nat_lt, Option, Some, None, Result, Ok, Err, List, [], ◌∷◌, ◌++◌, length, take, drop, map, suc, refl, ap, sym, subst, ◌∙◌, arith, length-append}
 use Rattle.std.specs.Prelude.{OnOk, OnErr}
-use Rattle.std.specs.List.{sum_by, list_all, find}
+use Rattle.std.specs.List.{AllByRecursion, sum_by, list_all, find}
 use Rattle.std.specs.Option.{option_map}
-use Rattle.std.proofs.lemmas.Bool.{ltb-false, true≢false}
+use Rattle.std.proofs.lemmas.Bool.{ltb-false, ltb-true, true≢false, false≢true}
 use Rattle.std.proofs.lemmas.List.{take-append-le, drop-append-le}
 use Rattle.std.proofs.lemmas.List.Sums.{sum_by-append}
 use Rattle.commands.specs.declared.reply.Reply.{Reply}
 use Rattle.commands.specs.declared.reply.Reply.TheVariants.{Success, AckResponse}
+use Rattle.commands.specs.declared.consuming.InitialPosition.{InitialPosition}
+use Rattle.commands.specs.declared.consuming.InitialPosition.TheVariants.{Latest, Earliest}
 use Rattle.commands.specs.declared.server_error.ServerError.{ServerError}
 use Rattle.commands.specs.declared.server_error.ServerError.TheVariants.{PersistenceError, ConsumerNotFound, TooManyRequests, NotAllowedError}
 use Rattle.holds.specs.declared.consumer.ConsumerKey.{ConsumerKey}
@@ -15,21 +17,23 @@ use Rattle.ids.specs.declared.message_id.MessageIdData.{MessageIdData}
 use Rattle.ids.specs.Ids.{message_id_at}
 use Rattle.subscriptions.specs.State.{Subscriptions}
 use Rattle.subscriptions.specs.Soundness.{IsCommitted, IsSound as AreSound}
-use Rattle.subscriptions.specs.Laws.{Kept, IsKept}
+use Rattle.records.specs.Maps.{Kept}
+use Rattle.subscriptions.specs.Laws.{IsKept}
 use Rattle.subscriptions.specs.Steps as subscriptions
-use Rattle.subscriptions.specs.declared.change.Change.TheVariants.{Made}
+use Rattle.records.specs.declared.record.Record.TheVariants.{Made}
 use Rattle.subscriptions.specs.declared.consumer.Mode.{Mode}
 use Rattle.subscriptions.specs.declared.consumer.Refusal.{Refusal}
 use Rattle.subscriptions.specs.declared.consumer.TooManyPermits.{TooManyPermits}
 use Rattle.subscriptions.proofs.Limits.{each_sound, each_committed}
-use Rattle.subscriptions.proofs.Kept.{are_kept}
+use Rattle.subscriptions.proofs.Durable.{are_kept}
 use Rattle.topic_core.specs.declared.command.Subscribe.{Subscribe}
 use Rattle.topic_core.specs.declared.command.Ack.{Ack}
-use Rattle.topic_core.specs.Replies.{SessionReplies, is_receipt, receipts_in, with_pending, queued}
+use Rattle.reply_queues.specs.Replies.{SessionReplies, is_receipt, receipts_in, with_pending, queued}
 use Rattle.topic_core.specs.Core.{Core, entries_of}
 use Rattle.topic_core.specs.Soundness.{IsSound, AreReceipts, HasReceipts, is_receipt_for}
-use Rattle.topic_core.specs.Steps.{first_standing, error_of, attach_refusal, subscribe_refusal, subscribed, key_of, start_of, has_consumer, is_committed, is_cumulative, position_at, ack_refusals, acknowledged_at, ack_accepted}
-use Rattle.topic_core.proofs.Queues.{all-each, all-queued, all-both, sum_by-queued, distinct-queued, made}
+use Rattle.topic_core.specs.Steps.{first_standing, error_of, attach_refusal, subscribe_refusal, subscribed, key_of, start_of, has_consumer, is_committed, is_whole, is_cumulative, position_at, ack_refusals, acknowledged_at, ack_accepted}
+use Rattle.topic_core.proofs.Queues.{all-each, all-queued, all-both, sum_by-queued, distinct-queued}
+use Rattle.reply_queues.proofs.Places.{made}
 use Rattle.topic_core.proofs.Receipts.{rising-plain, plain-for}
 
 -- one more reply that is no receipt
@@ -50,8 +54,8 @@ receipts-made : (n c h w who : ℕ) (r : Reply) → h ≤ w → is_receipt r ≡
 receipts-made n c h w who r low plain = record { given = tt; awaited = tt; promised = rising-plain n (c + h) (c + w) [] r (omega (arith, low)) plain tt }
 
 module _ (t : Core) (who : ℕ) (r : Reply) (plain : is_receipt r ≡ false) (sound : IsSound t) where
-  pub sound-queued : IsSound (record t { queues = queued who r t.queues })
-  sound-queued =
+  pub sound-queued : t.failed ≡ false → IsSound (record t { queues = queued who r t.queues })
+  sound-queued works =
       let one : Bool → ℕ = λ b. cond b 1 0 in
       let none : one (is_receipt r) ≡ one false = ap one plain in
       let due = sum_by-queued (λ (q : SessionReplies). receipts_in q.due) 0 who r t.queues (all-each _ _ t.queues (λ q _. omega arith) sound.within) refl in
@@ -64,6 +68,7 @@ module _ (t : Core) (who : ℕ) (r : Reply) (plain : is_receipt r ≡ false) (so
         few = sound.few;
         small = sound.small;
         each_small = sound.each_small;
+        readable = sound.readable;
         entries = sound.entries;
         sends = sound.sends;
         receipts = omega (arith, due, sound.receipts);
@@ -73,6 +78,7 @@ module _ (t : Core) (who : ℕ) (r : Reply) (plain : is_receipt r ≡ false) (so
         sessions = distinct-queued who r t.queues sound.sessions;
         within = all-queued _ _ who r t.queues (λ q h. h) (λ q h. omega (arith, h, length-append q.pending (r ∷ []))) (omega arith) sound.within;
         sure = λ none. all-queued _ _ who r t.queues (λ q h. h) (λ q h. h) refl (sound.sure none);
+        told = λ failed. absurd (false≢true (sym works ∙ failed));
         subs = sound.subs;
         sent = sound.sent;
       }
@@ -108,6 +114,7 @@ module _ (t : Core) (subs : Subscriptions) (sound : IsSound t) where
     few = sound.few;
     small = sound.small;
     each_small = sound.each_small;
+    readable = sound.readable;
     entries = sound.entries;
     sends = sound.sends;
     receipts = sound.receipts;
@@ -117,6 +124,7 @@ module _ (t : Core) (subs : Subscriptions) (sound : IsSound t) where
     sessions = sound.sessions;
     within = sound.within;
     sure = sound.sure;
+    told = sound.told;
     subs = are;
     sent = sent;
   }
@@ -128,6 +136,9 @@ receipts-subs t subs are = record { each = are.each; single = are.single }
 none-of : (o : Option Refusal) → option_map error_of o ≡ None → o ≡ None
 none-of None h = refl
 none-of (Some r) h = cc
+
+pub works : (t : Core) (s : Subscribe) → subscribe_refusal t s ≡ None → t.failed ≡ false
+works t s = elim t.failed as (λ b. cond b (Some PersistenceError) (attach_refusal t s) ≡ None → b ≡ false) [ true ↦ λ h. cc | false ↦ λ h. refl ]
 
 pub allowed : (t : Core) (s : Subscribe) → subscribe_refusal t s ≡ None → subscriptions.first_standing (subscriptions.subscribe_refusals t.subs s.subscription s.mode) ≡ None
 allowed t s = elim t.failed as (λ b. cond b (Some PersistenceError) (attach_refusal t s) ≡ None → subscriptions.first_standing (subscriptions.subscribe_refusals t.subs s.subscription s.mode) ≡ None) [
@@ -149,6 +160,7 @@ turned false h = absurd (true≢false h)
 
 -- what an ACK that is accepted has
 pub record IsAccepted (t : Core) (ids : List MessageIdData) : Type 0 where
+  pub works : t.failed ≡ false
   pub named : list_all (is_committed t.per_ledger t.committed) ids ≡ true
   pub room : length t.subs.changes + length ids ≤ 65536
 
@@ -159,6 +171,7 @@ accepts t who ack none =
     let fourth = none-rest (is_cumulative ack.ack_type) NotAllowedError _ third in
     let fifth = none-rest (not (list_all (is_committed t.per_ledger t.committed) ack.ids)) NotAllowedError _ fourth in
     record {
+      works = none-first t.failed PersistenceError _ second;
       named = turned _ (none-first _ NotAllowedError _ fourth);
       room = ltb-false 65536 (length t.subs.changes + length ack.ids) (none-first _ TooManyRequests _ fifth);
     }
@@ -169,6 +182,21 @@ length-map f (x ∷ xs) = ap (λ n. suc n) (length-map f xs)
 
 pub places_room : (t : Core) (ids : List MessageIdData) → IsAccepted t ids → length t.subs.changes + length (map (λ id. position_at t.per_ledger id) ids) ≤ 65536
 places_room t ids is = omega (arith, length-map (λ id. position_at t.per_ledger id) ids, is.room)
+
+and-first : (a b : Bool) → (a && b) ≡ true → a ≡ true
+and-first true b h = refl
+and-first false b h = h
+
+and-second : (a b : Bool) → (a && b) ≡ true → b ≡ true
+and-second true b h = h
+and-second false b h = absurd (false≢true h)
+
+place-committed : (n committed : ℕ) (id : MessageIdData) → is_committed n committed id ≡ true → position_at n id < committed
+place-committed n committed id is = ltb-true (position_at n id) committed (and-second (is_whole id && nat_lt id.entry_id n) _ is)
+
+places_committed : (n committed : ℕ) (ids : List MessageIdData) → list_all (is_committed n committed) ids ≡ true → AllByRecursion (λ p. p < committed) (map (λ id. position_at n id) ids)
+places_committed n committed [] is = tt
+places_committed n committed (id ∷ ids) is = (place-committed n committed id (and-first _ _ is), places_committed n committed ids (and-second (is_committed n committed id) _ is))
 
 -- a SUBSCRIBE adds one change at most
 more-attached : (t : Subscriptions) (name : List ℕ) (mode : Mode) (key : ConsumerKey) (start : ℕ) → length t.changes ≤ length (subscriptions.attached t name mode key start).changes
@@ -181,6 +209,10 @@ more-attached t name mode key start =
 more-acknowledged : (t : Subscriptions) (key : ConsumerKey) (ps : List ℕ) → length t.changes ≤ length (subscriptions.acknowledged t key ps).changes
 more-acknowledged t key ps = omega (arith, length-append t.changes (subscriptions.acknowledgements (find (subscriptions.is_on key) t.subs) ps))
 
+starts-within : (initial : InitialPosition) (committed : ℕ) → subscriptions.start_of (start_of initial) committed ≤ committed
+starts-within Latest committed = omega arith
+starts-within Earliest committed = omega arith
+
 module _ (t : Core) (who : ℕ) (s : Subscribe) (sound : IsSound t) where
   abbrev with_consumer : Subscriptions
   with_consumer = subscriptions.attached t.subs s.subscription s.mode (key_of who s.consumer_id) (subscriptions.start_of (start_of s.initial) t.committed)
@@ -192,13 +224,14 @@ module _ (t : Core) (who : ℕ) (s : Subscribe) (sound : IsSound t) where
       (more-attached t.subs s.subscription s.mode (key_of who s.consumer_id) (subscriptions.start_of (start_of s.initial) t.committed))
 
   pub sound-subscribed : subscribe_refusal t s ≡ None → IsSound (subscribed t who s)
-  sound-subscribed none = sound-queued (record t { subs = with_consumer }) who (Success s.request_id) refl (sound-attached none)
+  sound-subscribed none = sound-queued (record t { subs = with_consumer }) who (Success s.request_id) refl (sound-attached none) (works t s none)
 
   pub receipts-subscribed : subscribe_refusal t s ≡ None → AreReceipts t → AreReceipts (subscribed t who s)
   receipts-subscribed none are = receipts-queued (record t { subs = with_consumer }) who (Success s.request_id) refl (sound-attached none) (receipts-subs t with_consumer are)
 
-  pub kept-subscribed : (kept : Kept) → IsKept kept t.subs → IsKept kept (subscribed t who s).subs
-  kept-subscribed kept is = are_kept.attach kept t.subs s.subscription s.mode (key_of who s.consumer_id) (subscriptions.start_of (start_of s.initial) t.committed) is
+  pub kept-subscribed : subscribe_refusal t s ≡ None → (kept : Kept) → IsKept t.committed kept t.subs → IsKept t.committed kept (subscribed t who s).subs
+  kept-subscribed none kept is = are_kept.attach t.committed kept t.subs s.subscription s.mode (key_of who s.consumer_id) (subscriptions.start_of (start_of s.initial) t.committed)
+      (allowed t s none) s.named (starts-within s.initial t.committed) is
 
 module _ (t : Core) (key : ConsumerKey) (positions : List ℕ) (room : length t.subs.changes + length positions ≤ 65536) (sound : IsSound t) where
   pub sound-acknowledged : IsSound (acknowledged_at t key positions)
@@ -210,8 +243,8 @@ module _ (t : Core) (key : ConsumerKey) (positions : List ℕ) (room : length t.
   pub receipts-acknowledged : AreReceipts t → AreReceipts (acknowledged_at t key positions)
   receipts-acknowledged are = receipts-subs t (subscriptions.acknowledged t.subs key positions) are
 
-  pub sound-answered : (who request : ℕ) → IsSound (record (acknowledged_at t key positions) { queues = queued who (AckResponse key.id None request) t.queues })
-  sound-answered who request = sound-queued (acknowledged_at t key positions) who (AckResponse key.id None request) refl sound-acknowledged
+  pub sound-answered : t.failed ≡ false → (who request : ℕ) → IsSound (record (acknowledged_at t key positions) { queues = queued who (AckResponse key.id None request) t.queues })
+  sound-answered works who request = sound-queued (acknowledged_at t key positions) who (AckResponse key.id None request) refl sound-acknowledged works
 
   pub receipts-answered : (who request : ℕ) → AreReceipts t → AreReceipts (record (acknowledged_at t key positions) { queues = queued who (AckResponse key.id None request) t.queues })
   receipts-answered who request are = receipts-queued (acknowledged_at t key positions) who (AckResponse key.id None request) refl sound-acknowledged (receipts-acknowledged are)
@@ -225,15 +258,15 @@ module _ (t : Core) (who : ℕ) (ack : Ack) (sound : IsSound t) where
 
   pub sound-acked : (request : Option ℕ) → IsAccepted t ack.ids → IsSound (ack_accepted t who ack request).core
   sound-acked None is = sound-acknowledged t key positions (places_room t ack.ids is) sound
-  sound-acked (Some request) is = sound-answered t key positions (places_room t ack.ids is) sound who request
+  sound-acked (Some request) is = sound-answered t key positions (places_room t ack.ids is) sound is.works who request
 
   pub receipts-acked : (request : Option ℕ) → IsAccepted t ack.ids → AreReceipts t → AreReceipts (ack_accepted t who ack request).core
   receipts-acked None is are = receipts-acknowledged t key positions (places_room t ack.ids is) sound are
   receipts-acked (Some request) is are = receipts-answered t key positions (places_room t ack.ids is) sound who request are
 
-  pub kept-acked : (request : Option ℕ) (kept : Kept) → IsKept kept t.subs → IsKept kept (ack_accepted t who ack request).core.subs
-  kept-acked None kept is = are_kept.acknowledge kept t.subs key positions sound.subs.limits is
-  kept-acked (Some request) kept is = are_kept.acknowledge kept t.subs key positions sound.subs.limits is
+  pub kept-acked : (request : Option ℕ) → IsAccepted t ack.ids → (kept : Kept) → IsKept t.committed kept t.subs → IsKept t.committed kept (ack_accepted t who ack request).core.subs
+  kept-acked None a kept is = are_kept.acknowledge t.committed kept t.subs key positions sound.subs.limits (places_committed t.per_ledger t.committed ack.ids a.named) is
+  kept-acked (Some request) a kept is = are_kept.acknowledge t.committed kept t.subs key positions sound.subs.limits (places_committed t.per_ledger t.committed ack.ids a.named) is
 
   pub committed-acked : (request : Option ℕ) → (ack_accepted t who ack request).core.committed ≡ t.committed
   committed-acked None = refl

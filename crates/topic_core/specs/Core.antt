@@ -1,10 +1,11 @@
 -- The abstract topic. Its core is all but the bytes of the committed entries and the durable subscriptions.
-use Rattle.std.specs.Prelude.{ℕ, ◌+◌, Bool, false, Option, Some, None, List, [], length, sum_by}
+use Rattle.std.specs.Prelude.{ℕ, ◌+◌, Bool, false, Option, Some, None, List, [], length, take, sum_by}
 use Rattle.subscriptions.specs.State.{Subscriptions}
-use Rattle.subscriptions.specs.Steps.{none_yet}
-use Rattle.subscriptions.specs.Laws.{Kept}
+use Rattle.subscriptions.specs.Steps as subscriptions
+use Rattle.records.specs.declared.record.Record.{Record}
+use Rattle.records.specs.Maps.{Kept}
 use Rattle.topic_core.specs.declared.producer.Producer.{Producer}
-use Rattle.topic_core.specs.Replies.{SessionReplies, receipts_in}
+use Rattle.reply_queues.specs.Replies.{SessionReplies, receipts_in}
 
 -- how much a flush handed on that hasn't come to a good end; the replies are counted in their queues
 pub record Doubt : Type 0 where
@@ -28,24 +29,28 @@ pub record Topic : Type 0 where
   pub ledger : List (List ℕ)  -- the committed entries
   pub kept : Kept  -- the durable subscriptions: each name's acknowledged positions
 
--- a core that was opened over so many committed entries, and that nothing happened to since
-abbrev pub opened : ℕ → ℕ → Core
-opened per_ledger committed = record {
+-- a core that was opened over so many committed entries and these durable subscriptions, and that nothing happened to since
+abbrev pub opened : ℕ → ℕ → Kept → Core
+opened per_ledger committed kept = record {
   per_ledger = per_ledger;
   committed = committed;
   waiting = [];
   accepted = 0;
   handed = 0;
   producers = [];
-  subs = none_yet;
+  subs = subscriptions.opened kept;
   queues = [];
   doubt = None;
   failed = false;
 }
 
--- a core over what its two stores have
+-- A core over what its two stores have. After a failure a store may have entries behind the committed ones.
 abbrev pub topic_of : Core → List (List ℕ) → Kept → Topic
-topic_of core ledger kept = record { core = core; ledger = ledger; kept = kept }
+topic_of core entries kept = record { core = core; ledger = take core.committed entries; kept = kept }
+
+-- another core over the same ledger and durable subscriptions
+abbrev pub with_core : Topic → Core → Topic
+with_core t core = record t { core = core }
 
 -- how many of the waiting entries and of the changes a flush handed on
 abbrev pub entries_of : Option Doubt → ℕ
@@ -55,6 +60,13 @@ entries_of (Some doubt) = doubt.entries
 abbrev pub changes_of : Option Doubt → ℕ
 changes_of None = 0
 changes_of (Some doubt) = doubt.changes
+
+-- those entries and changes
+abbrev pub entries_in_doubt : Core → List (List ℕ)
+entries_in_doubt t = take (entries_of t.doubt) t.waiting
+
+abbrev pub changes_in_doubt : Core → List Record
+changes_in_doubt t = take (changes_of t.doubt) t.subs.changes
 
 -- the position that the next accepted entry gets
 abbrev pub next_position : Core → ℕ

@@ -1,12 +1,13 @@
 -- What a dispatch gives a consumer.
-use Rattle.std.specs.Prelude.{◌≡◌, ℕ, false, Option, Some, None, Result, Ok, Err, List, slice_get}
+use Rattle.std.specs.Prelude.{◌≡◌, ◌≤◌, ℕ, false, Option, Some, None, Result, Ok, Err, List, length, slice_get}
 use Rattle.commands.specs.declared.reply.Reply.TheVariants.{Message}
+use Rattle.ids.specs.declared.message_id.MessageId.{MessageId}
 use Rattle.ids.specs.Ids.{message_id_at}
 use Rattle.holds.specs.declared.consumer.ConsumerKey.{ConsumerKey}
 use Rattle.subscriptions.specs.Steps as subscriptions
 use Rattle.topic_core.specs.declared.dispatch.Outgoing.{Outgoing}
-use Rattle.topic_core.specs.declared.refusal.Refusal.{Refusal}
-use Rattle.topic_core.specs.declared.refusal.Refusal.TheVariants as refusal
+use Rattle.gated_log.specs.declared.refusal.Refusal.{Refusal}
+use Rattle.gated_log.specs.declared.refusal.Refusal.TheVariants as refusal
 use Rattle.topic_core.specs.Core.{Core, Topic}
 use Rattle.topic_core.specs.Steps.{key_of}
 
@@ -26,12 +27,23 @@ pub record IsSent (old : Core) (ledger : List (List ℕ)) (key : ConsumerKey) (i
   pub entry : slice_get ledger i ≡ Some outgoing.entry
   pub sent : new ≡ sent old key i
 
--- a message of an admitted position, or none exactly where none is admitted; want of memory changes nothing
+-- it is a MESSAGE for this consumer, and its entry is no longer than any that is accepted
+pub record IsMessageTo (consumer_id : ℕ) (outgoing : Outgoing) : Type 0 where
+  pub id : MessageId
+  pub redelivery_count : ℕ
+  pub reply : outgoing.reply ≡ Message consumer_id id redelivery_count
+  pub short : length outgoing.entry ≤ 1048576
+
+-- a message of an admitted position, or none exactly where none is admitted; want of memory and a failure of the device change nothing
 abbrev pub Dispatches : Core → List (List ℕ) → ConsumerKey → Result (Option Outgoing) Refusal → Core → Type 0
 Dispatches old ledger key (Ok None) new = (new ≡ old) × ((i : ℕ) → Admits old key i → ⊥)
 Dispatches old ledger key (Ok (Some outgoing)) new = (i : ℕ) × IsSent old ledger key i outgoing new
 Dispatches old ledger key (Err refusal.NoMemory) new = new ≡ old
-Dispatches old ledger key (Err refusal.Device) new = ⊥
+Dispatches old ledger key (Err refusal.Device) new = new ≡ old
+Dispatches old ledger key (Err (refusal.Damaged file offset)) new = ⊥
+Dispatches old ledger key (Err refusal.NotInitialised) new = ⊥
+Dispatches old ledger key (Err refusal.Version) new = ⊥
+Dispatches old ledger key (Err refusal.TooLarge) new = ⊥
 
 -- a dispatch changes the core alone
 pub record DispatchStep (old : Topic) (who id : ℕ) (result : Result (Option Outgoing) Refusal) (new : Topic) : Type 0 where

@@ -1,14 +1,12 @@
 -- A flush of a topic, and its parts.
 use Rattle.std.specs.Prelude.{◌≡◌, ℕ, ◌+◌, Bool, true, false, ◌&&◌, ◌||◌, Some, None, is_some, Result, Ok, Err, [], ◌++◌, length, drop, map, nat_eq}
 use Rattle.std.specs.List.{list_all}
+use Rattle.gated_log.specs.declared.refusal.Refusal.{Refusal}
+use Rattle.gated_log.specs.declared.refusal.Refusal.TheVariants as refusal
+use Rattle.records.specs.Records.{after_all}
+use Rattle.reply_queues.specs.Replies.{hand_on, make_due, take_back, make_all_due, refuse_pending}
 use Rattle.subscriptions.specs.Steps.{settled}
-use Rattle.subscriptions.specs.Laws.{applied}
-use Rattle.topic_core.specs.declared.refusal.Refusal.{Refusal}
-use Rattle.topic_core.specs.declared.refusal.Refusal.TheVariants as refusal
-use Rattle.topic_core.specs.declared.store.StoreError.{StoreError}
-use Rattle.topic_core.specs.declared.store.StoreError.TheVariants as store
-use Rattle.topic_core.specs.Replies.{hand_on, make_due, take_back, make_all_due}
-use Rattle.topic_core.specs.Core.{Core, Topic, entries_of, changes_of}
+use Rattle.topic_core.specs.Core.{Core, Topic, with_core, entries_of, changes_of}
 
 -- nothing waits for a flush
 abbrev pub is_idle : Core → Bool
@@ -44,10 +42,19 @@ finished t = record t {
 abbrev pub taken_back : Core → Core
 taken_back t = record t { queues = map (λ q. take_back q) t.queues; doubt = None }
 
--- a flush ends as its write did
-abbrev pub FinishStep : Core → Result (Unit {0}) StoreError → Result ℕ Refusal → Core → Type 0
+-- the device failed: what was handed on stays in doubt, and all pending replies are due as refusals
+abbrev pub failed : Core → Core
+failed t = record t { queues = map (λ q. refuse_pending q) t.queues; failed = true }
+
+-- A flush ends as its write did. No write is refused for any other reason.
+abbrev pub FinishStep : Core → Result (Unit {0}) Refusal → Result ℕ Refusal → Core → Type 0
 FinishStep old (Ok done) result new = (result ≡ Ok (entries_of old.doubt)) × (new ≡ finished old)
-FinishStep old (Err store.NoMemory) result new = (result ≡ Err refusal.NoMemory) × (new ≡ taken_back old)
+FinishStep old (Err refusal.NoMemory) result new = (result ≡ Err refusal.NoMemory) × (new ≡ taken_back old)
+FinishStep old (Err refusal.Device) result new = (result ≡ Err refusal.Device) × (new ≡ failed old)
+FinishStep old (Err (refusal.Damaged file offset)) result new = ⊥
+FinishStep old (Err refusal.NotInitialised) result new = ⊥
+FinishStep old (Err refusal.Version) result new = ⊥
+FinishStep old (Err refusal.TooLarge) result new = ⊥
 
 -- all that waits is committed, and all replies that await a flush are due
 abbrev pub flushed : Core → Core
@@ -64,14 +71,26 @@ abbrev pub flushed_topic : Topic → Topic
 flushed_topic t = record {
   core = flushed t.core;
   ledger = t.ledger ++ t.core.waiting;
-  kept = applied t.core.subs.changes t.kept;
+  kept = after_all t.core.subs.changes t.kept;
 }
+
+-- all that waits is in doubt: a flush is under way
+abbrev pub in_flush : Topic → Topic
+in_flush t = with_core t (handed_on t.core)
+
+-- the topic has failed, with all that waited in doubt
+abbrev pub failed_topic : Topic → Topic
+failed_topic t = with_core t (failed (handed_on t.core))
 
 -- the end of a flush that began
 abbrev pub FlushEnds : Topic → Result ℕ Refusal → Topic → Type 0
 FlushEnds old (Ok count) new = (count ≡ length old.core.waiting) × (new ≡ flushed_topic old)
 FlushEnds old (Err refusal.NoMemory) new = new ≡ old
-FlushEnds old (Err refusal.Device) new = ⊥
+FlushEnds old (Err refusal.Device) new = new ≡ failed_topic old
+FlushEnds old (Err (refusal.Damaged file offset)) new = ⊥
+FlushEnds old (Err refusal.NotInitialised) new = ⊥
+FlushEnds old (Err refusal.Version) new = ⊥
+FlushEnds old (Err refusal.TooLarge) new = ⊥
 
 -- of a topic that failed, or where one is under way, a flush changes nothing
 abbrev pub FlushIn : Bool → Bool → Topic → Result ℕ Refusal → Topic → Type 0

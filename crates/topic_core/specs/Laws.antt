@@ -4,22 +4,26 @@ use Rattle.std.specs.List.{find}
 use Rattle.ids.specs.Ids.{message_id_at, Names}
 use Rattle.ids.specs.declared.message_id.MessageIdData.{MessageIdData}
 use Rattle.subscriptions.specs.Steps.{is_on, sent_before}
-use Rattle.subscriptions.specs.Laws.{IsOpenFor, applied}
+use Rattle.subscriptions.specs.Laws.{IsOpenFor}
+use Rattle.records.specs.Records.{after_all}
 use Rattle.subscriptions.specs.declared.consumer.TooManyPermits.{TooManyPermits}
 use Rattle.commands.specs.declared.reply.Reply.{Reply}
 use Rattle.commands.specs.declared.reply.Reply.TheVariants.{Message}
-use Rattle.topic_core.specs.declared.refusal.Refusal.{Refusal}
+use Rattle.gated_log.specs.declared.refusal.Refusal.{Refusal}
 use Rattle.topic_core.specs.declared.command.TopicCommand.{TopicCommand}
 use Rattle.topic_core.specs.declared.command.TopicCommand.TheVariants as asked
 use Rattle.topic_core.specs.declared.command.Answer.{Answer}
 use Rattle.topic_core.specs.declared.command.Answer.TheVariants.{Now, Later, Nothing, NoMemory}
-use Rattle.topic_core.specs.Replies.{is_receipt, due_to, pending_to}
+use Rattle.reply_queues.specs.Replies.{is_receipt, due_to, pending_to}
 use Rattle.topic_core.specs.declared.dispatch.Outgoing.{Outgoing}
 use Rattle.topic_core.specs.Core.{Core, Topic, receipts_due}
-use Rattle.topic_core.specs.Soundness.{IsSoundTopic}
+use Rattle.records.specs.Maps.{Kept}
+use Rattle.topic_core.specs.Soundness.{IsSound, AreReceipts, IsSoundTopic}
 use Rattle.topic_core.specs.Steps.{CoreStep, TopicStep, Collects, GrantStep, Fits, bytes_of, key_of, is_committed, position_at, left}
-use Rattle.topic_core.specs.Dispatch.{DispatchStep, Admits}
-use Rattle.topic_core.specs.Flush.{FlushStep}
+use Rattle.topic_core.specs.Dispatch.{Dispatches, DispatchStep, Admits}
+use Rattle.topic_core.specs.Flush.{FlushStep, in_flush}
+use Rattle.topic_core.specs.Crashes.{IsLeft, TopicCrash, ReopenStep}
+use Rattle.topic_core.specs.Standing.{GoesOn}
 
 -- an answer fits its command
 abbrev pub AnswersFit : Type 0
@@ -47,10 +51,12 @@ pub record IsPublished (old : Core) (c : TopicCommand) (answer : Answer) (new : 
 abbrev pub EntriesArePublished : Type 0
 EntriesArePublished = (old : Core) (who : ℕ) (c : TopicCommand) (answer : Answer) (new : Core) → CoreStep old who c answer new → IsPublished old c answer new
 
--- each call keeps a topic sound
+-- each call keeps a topic sound, and so does a crash
 pub record StaysSound : Type 0 where
   pub command : (old : Topic) (who : ℕ) (c : TopicCommand) (answer : Answer) (new : Topic) → TopicStep old who c answer new → IsSoundTopic old → IsSoundTopic new
   pub flush : (old : Topic) (result : Result ℕ Refusal) (new : Topic) → FlushStep old result new → IsSoundTopic old → IsSoundTopic new
+  pub reopen : (old : Topic) (result : Result (Unit {0}) Refusal) (new : Topic) → ReopenStep old result new → IsSoundTopic old → IsSoundTopic new
+  pub crash : (old new : Topic) → TopicCrash old new → IsSoundTopic old → IsSoundTopic new
   pub grant : (old : Topic) (who id permits : ℕ) (result : Result (Unit {0}) TooManyPermits) (new : Core) → GrantStep old.core who id permits result new → IsSoundTopic old → IsSoundTopic (record old { core = new })
   pub dispatch : (old : Topic) (who id : ℕ) (result : Result (Option Outgoing) Refusal) (new : Topic) → DispatchStep old who id result new → IsSoundTopic old → IsSoundTopic new
   pub collect : (old : Topic) (who : ℕ) (reply : Option Reply) (new : Core) → Collects old.core who reply new → IsSoundTopic old → IsSoundTopic (record old { core = new })
@@ -79,10 +85,23 @@ ReceiptsAreCovered = (t : Topic) → IsSoundTopic t → t.core.handed + receipts
 pub record IsFlushed (old : Topic) (n : ℕ) (new : Topic) : Type 0 where
   pub ledger : new.ledger ≡ old.ledger ++ old.core.waiting
   pub count : n ≡ length old.core.waiting
-  pub kept : new.kept ≡ applied old.core.subs.changes old.kept
+  pub kept : new.kept ≡ after_all old.core.subs.changes old.kept
   pub changes : new.core.subs.changes ≡ []
   pub due : (who : ℕ) → due_to who new.core.queues ≡ due_to who old.core.queues ++ pending_to who old.core.queues
   pub pending : (who : ℕ) → pending_to who new.core.queues ≡ []
 
 abbrev pub FlushesCommit : Type 0
 FlushesCommit = (old : Topic) (count : ℕ) (new : Topic) → FlushStep old (Ok count) new → old.core.doubt ≡ None → IsFlushed old count new
+
+-- what a crash leaves of a topic after a flush is what it may leave while the flush is under way
+abbrev pub FlushesKeep : Type 0
+FlushesKeep = (old : Topic) (result : Result ℕ Refusal) (new : Topic) → FlushStep old result new → old.core.failed ≡ false → old.core.doubt ≡ None
+    → (ledger : List (List ℕ)) (kept : Kept) → IsLeft new ledger kept → IsLeft (in_flush old) ledger kept
+
+-- commands, permits, messages, collected replies and leaving sessions leave a topic standing on its device
+pub record CoresGoOn : Type 0 where
+  pub command : (old : Core) (who : ℕ) (c : TopicCommand) (answer : Answer) (new : Core) → CoreStep old who c answer new → IsSound old → AreReceipts old → GoesOn old new
+  pub grant : (old : Core) (who id permits : ℕ) (result : Result (Unit {0}) TooManyPermits) (new : Core) → GrantStep old who id permits result new → IsSound old → AreReceipts old → GoesOn old new
+  pub dispatch : (old : Core) (ledger : List (List ℕ)) (who id : ℕ) (result : Result (Option Outgoing) Refusal) (new : Core) → Dispatches old ledger (key_of who id) result new → IsSound old → AreReceipts old → GoesOn old new
+  pub collect : (old : Core) (who : ℕ) (reply : Option Reply) (new : Core) → Collects old who reply new → IsSound old → AreReceipts old → GoesOn old new
+  pub leave : (old : Core) (who : ℕ) → IsSound old → AreReceipts old → GoesOn old (left old who)

@@ -1,8 +1,13 @@
-pub mod Replies
 pub mod Core
 pub mod Soundness
 pub mod Held
 pub mod Steps
 pub mod Dispatch
 pub mod Flush
+pub mod Crashes
+pub mod Views
+pub mod Standing
+pub mod Appends
+pub mod Writing
+pub mod Openings
 pub mod Laws

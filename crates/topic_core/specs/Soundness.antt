@@ -1,13 +1,14 @@
 -- What holds of a topic's core at any time.
-use Rattle.std.specs.Prelude.{◌≡◌, ℕ, ◌+◌, ◌^◌, ◌<◌, ◌≤◌, Bool, false, ◌&&◌, nat_eq, None, List, [], ◌∷◌, length, take, drop, map, All, sum_by, count_by}
+use Rattle.std.specs.Prelude.{◌≡◌, ℕ, ◌+◌, ◌^◌, ◌<◌, ◌≤◌, Bool, true, false, ◌&&◌, nat_eq, None, List, [], ◌∷◌, length, take, drop, map, All, sum_by, count_by}
 use Rattle.std.specs.List.{AllByRecursion, IsDistinct}
 use Rattle.ids.specs.declared.message_id.MessageId.{MessageId}
 use Rattle.ids.specs.Ids.{message_id_at}
 use Rattle.commands.specs.declared.reply.Reply.{Reply}
 use Rattle.commands.specs.declared.reply.Reply.TheVariants.{Connected, ProducerSuccess, SendReceipt, SendError, Message, Success, Error, AckResponse, Pong}
+use Rattle.managed_ledger.specs.Entries.{AreEntries}
 use Rattle.subscriptions.specs.Soundness.{IsCommitted, IsSound as AreSound}
 use Rattle.subscriptions.specs.Laws.{IsKept}
-use Rattle.topic_core.specs.Replies.{SessionReplies, receipts_in}
+use Rattle.reply_queues.specs.Replies.{SessionReplies, receipts_in}
 use Rattle.topic_core.specs.Core.{Core, Topic, entries_of, changes_of, receipts_due}
 
 -- how many receipts a flush handed on, and how many await the next one
@@ -23,6 +24,7 @@ pub record IsSound (t : Core) : Type 0 where
   pub few : length t.waiting ≤ 1024
   pub small : sum_by length t.waiting ≤ 16777216
   pub each_small : All (λ entry. length entry ≤ 1048576) t.waiting
+  pub readable : AreEntries t.waiting
   pub entries : t.committed + length t.waiting ≤ 2 ^ 62
   pub sends : t.accepted ≤ 2 ^ 62
   -- each receipt that was collected or is due has a committed entry, and each other one a waiting entry
@@ -34,6 +36,8 @@ pub record IsSound (t : Core) : Type 0 where
   pub sessions : IsDistinct nat_eq (map (λ q. q.session) t.queues)
   pub within : AllByRecursion (λ q. q.handed_on ≤ length q.pending) t.queues
   pub sure : t.doubt ≡ None → AllByRecursion (λ q. q.handed_on ≡ 0) t.queues
+  -- nothing of a failed topic awaits a flush
+  pub told : t.failed ≡ true → AllByRecursion (λ q. q.pending ≡ []) t.queues
   -- the subscriptions are sound, and only committed positions were sent
   pub subs : AreSound t.subs
   pub sent : IsCommitted t.committed t.subs
@@ -82,9 +86,9 @@ pub record AreReceipts (t : Core) : Type 0 where
   pub each : AllByRecursion (HasReceipts t.per_ledger t.committed (entries_of t.doubt) (length t.waiting)) t.queues
   pub single : (position : ℕ) → receipts_for (message_id_at t.per_ledger position) t.queues ≤ 1
 
--- a topic whose core counts its ledger, and whose subscriptions are what the changes make of the durable ones
+-- A topic whose core counts its ledger, and whose subscriptions are what the changes make of the durable ones.
 pub record IsSoundTopic (t : Topic) : Type 0 where
   pub core : IsSound t.core
   pub receipts : AreReceipts t.core
   pub counted : length t.ledger ≡ t.core.committed
-  pub kept : IsKept t.kept t.core.subs
+  pub kept : IsKept t.core.committed t.kept t.core.subs

@@ -17,8 +17,8 @@ use Rattle.ids.specs.Ids.{message_id_at}
 use Rattle.ids.specs.declared.message_id.MessageIdData.{MessageIdData}
 use Rattle.holds.specs.declared.consumer.ConsumerKey.{ConsumerKey}
 use Rattle.subscriptions.specs.Steps as subscriptions
-use Rattle.subscriptions.specs.declared.change.InitialPosition.{InitialPosition as Start}
-use Rattle.subscriptions.specs.declared.change.InitialPosition.TheVariants as start
+use Rattle.subscriptions.specs.declared.initial_position.InitialPosition.{InitialPosition as Start}
+use Rattle.subscriptions.specs.declared.initial_position.InitialPosition.TheVariants as start
 use Rattle.subscriptions.specs.declared.consumer.Refusal.{Refusal}
 use Rattle.subscriptions.specs.declared.consumer.Refusal.TheVariants as refusal
 use Rattle.subscriptions.specs.declared.consumer.TooManyPermits.{TooManyPermits}
@@ -34,7 +34,7 @@ use Rattle.topic_core.specs.declared.command.TopicCommand.{TopicCommand}
 use Rattle.topic_core.specs.declared.command.TopicCommand.TheVariants as command
 use Rattle.topic_core.specs.declared.command.Answer.{Answer}
 use Rattle.topic_core.specs.declared.command.Answer.TheVariants.{Now, Later, Nothing, NoMemory}
-use Rattle.topic_core.specs.Replies.{is_receipt, due_to, queued, collected_from, is_for}
+use Rattle.reply_queues.specs.Replies.{is_receipt, due_to, queued, collected_from, is_for}
 use Rattle.topic_core.specs.Core.{Core, Topic, next_position, waiting_bytes}
 
 -- an answer, and the topic's core after it
@@ -92,12 +92,12 @@ producer_outcome t who id request name =
 
 abbrev pub is_checksummed : SentEntry → Bool
 is_checksummed Checksummed = true
-is_checksummed (Plain bytes metadata) = false
+is_checksummed (Plain entry) = false
 
 -- the bytes of an entry; one with a checksum isn't read
 abbrev pub bytes_of : SentEntry → List ℕ
 bytes_of Checksummed = []
-bytes_of (Plain bytes metadata) = bytes
+bytes_of (Plain entry) = entry.bytes
 
 -- one message, neither compressed nor delayed
 abbrev pub is_single_message : ℤ → MessageMeta → Bool
@@ -106,7 +106,7 @@ is_single_message num_messages metadata =
 
 abbrev pub is_single : ℤ → SentEntry → Bool
 is_single num_messages Checksummed = false
-is_single num_messages (Plain bytes metadata) = is_single_message num_messages metadata
+is_single num_messages (Plain entry) = is_single_message num_messages entry.metadata
 
 -- what a topic that has too much refuses of an entry of this length
 abbrev pub limit_refusals : Core → ℕ → List (Bool × ServerError)

@@ -1,18 +1,28 @@
+ghost use Rattle.std.specs.Prelude.{◌≡◌, true};
+ghost use Rattle.std.specs.Result.{is_ok};
+ghost use Rattle.commands.specs.Metadata.{entry_of};
+ghost use Rattle.records.specs.Names.{is_subscription_name};
+
 use bytes::Bytes;
 use commands::{AckType, InitialPosition, MessageMeta, Reply, ReplyText, Sequence, Text};
 use ids::MessageIdData;
 use subscriptions::Mode;
+
+/// An entry, whose metadata can be read.
+#[derive(Drop)]
+pub struct PlainEntry {
+    /// Metadata size, metadata and payload, as they stand.
+    pub bytes: Bytes,
+    pub metadata: MessageMeta,
+    pub ghost readable: { is_ok (entry_of bytes) ≡ true },
+}
 
 /// What stands behind a SEND in its frame.
 #[derive(Drop)]
 pub enum SentEntry {
     /// An entry with a checksum, which isn't read ("Pulsar binary protocol, Payload commands").
     Checksummed,
-    Plain {
-        /// Metadata size, metadata and payload, as they stand.
-        bytes: Bytes,
-        metadata: MessageMeta,
-    },
+    Plain(PlainEntry),
 }
 
 /// A SEND ("PulsarApi.proto, CommandSend") with its entry.
@@ -24,7 +34,8 @@ pub struct Send {
     pub entry: SentEntry,
 }
 
-/// A SUBSCRIBE ("PulsarApi.proto, CommandSubscribe") whose type is served. The session has no consumer with this id.
+/// A SUBSCRIBE ("PulsarApi.proto, CommandSubscribe") whose type is served, with the name of a subscription. The session
+/// has no consumer with this id.
 #[derive(Drop)]
 pub struct Subscribe {
     pub consumer_id: u64,
@@ -32,6 +43,7 @@ pub struct Subscribe {
     pub subscription: Text,
     pub mode: Mode,
     pub initial: InitialPosition,
+    pub ghost named: { is_subscription_name subscription ≡ true },
 }
 
 /// An ACK ("PulsarApi.proto, CommandAck").

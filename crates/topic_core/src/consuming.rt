@@ -1,15 +1,16 @@
-ghost use Rattle.std.specs.Prelude.{◌≡◌, ◌+◌, ◌^◌, ◌<◌, ◌≤◌, All, IfOk, IfSome, OnOk, OnErr, None, Some, true, cond, length, map};
+ghost use Rattle.std.specs.Prelude.{◌≡◌, ◌+◌, ◌^◌, ◌<◌, ◌≤◌, All, IfOk, IfSome, OnOk, OnErr, None, Some, true, false, cond, length, map};
 ghost use Rattle.std.specs.List.{AllByRecursion, list_all};
 ghost use Rattle.commands.specs.declared.reply.Reply.TheVariants.{AckResponse};
-ghost use Rattle.topic_core.specs.Replies.{queued};
+ghost use Rattle.reply_queues.specs.Replies.{queued};
 ghost use Rattle.topic_core.specs.Steps.{Meets, GrantStep, first_standing, has_consumer, key_of, error_of, start_of, subscribe_refusal, attach_refusal, subscribe_outcome, subscribed, ack_refusals, ack_refused, acknowledged_at, ack_accepted, ack_outcome, is_committed, is_cumulative, is_whole, position_at};
+ghost use Rattle.topic_core.specs.Standing.{GoesOn};
 
 use crate::command::{Ack, Answer, Subscribe};
-use crate::reply_queue::{ReplyQueue, drop_last_reply, has_queue, push_reply};
 use crate::topic::{TopicCore, key_of};
 use commands::{AckType, InitialPosition, Reply, ServerError};
 use holds::ConsumerKey;
 use ids::{MessageIdData, from_id};
+use reply_queues::{drop_last_reply, has_queue, push_reply};
 use std::alloc::{AllocError, Global};
 use subscriptions::{Refusal, Subscriptions, TooManyPermits};
 
@@ -23,7 +24,8 @@ impl TopicCore {
 
     /// FLOW: the consumer may get so many messages more. Of a failed topic, or for an unknown consumer, nothing changes.
     pub fn grant(&mut self, who: u64, consumer_id: u64, permits: u32) -> Result<(), TooManyPermits>
-        ensures { GrantStep self.old who consumer_id permits result self.new }
+        ensures step { GrantStep self.old who consumer_id permits result self.new }
+        ensures goes_on { GoesOn self.old self.new }
     {
         if self.failed {
             return Ok(());
@@ -157,6 +159,7 @@ impl TopicCore {
         positions: &[u64],
         request_id: u64,
     ) -> Result<(), AllocError>
+        requires works { self.old.failed ≡ false }
         requires fit { All (λ p. p < 2 ^ 62) positions.now }
         requires room { length self.old.subs.changes + length positions.now ≤ 65536 }
         ensures ok { OnOk result (self.new ≡ record (acknowledged_at self.old key positions.now) { queues = queued key.session (AckResponse key.id None request_id) self.old.queues }) }

@@ -1,23 +1,51 @@
-ghost use Rattle.std.specs.Prelude.{◌≡◌, ◌+◌, ◌++◌, ◌≤◌, ℕ, None, length, take, drop, sum_by, OnOk, OnErr};
-ghost use Rattle.subscriptions.specs.Laws.{applied};
-ghost use Rattle.topic_core.specs.Core.{Core, topic_of, entries_of, changes_of};
-ghost use Rattle.topic_core.specs.Flush.{TakeStep, FinishStep, FlushStep, is_idle, finished, taken_back};
+ghost use Rattle.std.specs.Prelude.{◌≡◌, ◌⊎◌, ◌+◌, ◌≤◌, ℕ, true, false, length, drop, sum_by, IfErr, OnOk, IsErrOf};
+ghost use Rattle.disk.specs.Disk.{Kept, Failed};
+ghost use Rattle.disk.specs.Areas.{OfTopic, Within};
+ghost use Rattle.gated_log.specs.declared.refusal.Refusal.TheVariants.{Device, NoMemory};
+ghost use Rattle.topic_core.specs.Core.{entries_of, changes_of};
+ghost use Rattle.topic_core.specs.Flush.{TakeStep, FinishStep, FlushStep, is_idle, finished, taken_back, failed, in_flush};
+ghost use Rattle.topic_core.specs.Standing.{Match, AreSettled, Standing, StandsFor, topic_in};
+ghost use Rattle.topic_core.specs.Writing.{IsWritten, IsUnwritten, IsInDoubt, WriteEnds};
 
-use crate::refusal::Refusal;
-use crate::reply_queue::{are_idle, hand_on_all, make_all_due, take_all_back};
-use crate::store::{EntryStore, StoreError};
-use crate::subscription_store::SubscriptionStore;
+use crate::appending::{append_changes, append_entries, prepare_changes, prepare_entries};
+use crate::stores::{Stores, TopicStores};
 use crate::topic::{Doubt, TopicCore};
 use bytes::Bytes;
+use cursor_store::SubStore;
+use disk::Shelf;
+use gated_log::Refusal;
+use managed_ledger::EntryStore;
+use reply_queues::{are_idle, hand_on_all, make_all_due, refuse_all, take_all_back};
 
 impl TopicCore {
-    /// Commits what waits, the entries before the changes of the subscriptions, and answers how many entries these were; 0 where nothing waits.
-    pub fn flush<E: EntryStore, S: SubscriptionStore>(
+    /// Commits what waits, the entries before the changes of the subscriptions, and answers how many entries these were; 0
+    /// where nothing waits. Want of memory changes nothing and reaches no device. A failure of the device fails the topic.
+    pub fn flush<E: EntryStore, C: SubStore, S: Shelf>(
         &mut self,
-        entries: &mut E,
-        subscriptions: &mut S,
+        stores: &mut TopicStores<E, C>,
+        shelf: &mut S,
     ) -> Result<usize, Refusal>
-        ensures { FlushStep (topic_of self.old (E.content entries.old) (S.content subscriptions.old)) result (topic_of self.new (E.content entries.new) (S.content subscriptions.new)) }
+        requires matched { Match self.old (⟦<TopicStores<E, C> as Stores>⟧.views stores.old) }
+        ensures matched { Match self.new (⟦<TopicStores<E, C> as Stores>⟧.views stores.new) }
+        ensures step { Standing self.old (⟦<TopicStores<E, C> as Stores>⟧.views stores.old) (S.disk shelf.old) →
+            FlushStep (topic_in self.old (⟦<TopicStores<E, C> as Stores>⟧.views stores.old) (S.disk shelf.old).seen) result (topic_in self.new (⟦<TopicStores<E, C> as Stores>⟧.views stores.new) (S.disk shelf.new).seen) }
+        ensures standing { Standing self.old (⟦<TopicStores<E, C> as Stores>⟧.views stores.old) (S.disk shelf.old) →
+            Standing self.new (⟦<TopicStores<E, C> as Stores>⟧.views stores.new) (S.disk shelf.new) }
+
+        // A crash at any moment leaves the old ledger and subscriptions, the ledger with all that waits, or both with it;
+        // files of other topics are as they were.
+        ensures within { Standing self.old (⟦<TopicStores<E, C> as Stores>⟧.views stores.old) (S.disk shelf.old) → self.old.failed ≡ false →
+            Within (OfTopic (E.topic_of stores.old.entries))
+            (StandsFor (E.stands (E.topic_of stores.old.entries)) (C.stands (E.topic_of stores.old.entries)) (in_flush (topic_in self.old (⟦<TopicStores<E, C> as Stores>⟧.views stores.old) (S.disk shelf.old).seen)))
+            (S.disk shelf.old) (S.disk shelf.new) }
+
+        ensures topic { E.topic_of stores.new.entries ≡ E.topic_of stores.old.entries }
+        ensures per_ledger { self.new.per_ledger ≡ self.old.per_ledger }
+        ensures refused { self.old.failed ≡ true → (shelf.new ≡ shelf.old) × (self.new ≡ self.old) }
+        ensures no_memory { IsErrOf result NoMemory → (shelf.new ≡ shelf.old) × (self.new ≡ self.old) }
+        ensures cause { self.old.failed ≡ false → IsErrOf result Device → Failed (S.disk shelf.old) (S.disk shelf.new) }
+        ensures refusals { IfErr result (λ e. (e ≡ Device) ⊎ (e ≡ NoMemory)) }
+        ensures kept { Kept (S.disk shelf.old) (S.disk shelf.new) }
     {
         if self.failed {
             return Err(Refusal::Device);
@@ -25,7 +53,7 @@ impl TopicCore {
         if !self.take() {
             return Ok(0);
         }
-        let written = self.write(entries, subscriptions);
+        let written = self.write(stores, shelf);
         self.finish(written)
     }
 
@@ -53,43 +81,47 @@ impl TopicCore {
             && are_idle(self.queues.as_slice())
     }
 
-    /// Adds the entries that were handed on to their store, where there are any, and then the changes to theirs.
-    fn write<E: EntryStore, S: SubscriptionStore>(
+    /// Adds what was handed on to the stores, the entries before the changes. All memory is taken before the first device call.
+    fn write<E: EntryStore, C: SubStore, S: Shelf>(
         &self,
-        entries: &mut E,
-        subscriptions: &mut S,
-    ) -> Result<(), StoreError>
-        ensures entries_ok { OnOk result (E.content entries.new ≡ E.content entries.old ++ take (entries_of self.now.doubt) self.now.waiting) }
-        ensures changes_ok { OnOk result (S.content subscriptions.new ≡ applied (take (changes_of self.now.doubt) self.now.subs.changes) (S.content subscriptions.old)) }
-        ensures entries_err { OnErr result (E.content entries.new ≡ E.content entries.old) }
-        ensures changes_err { OnErr result (S.content subscriptions.new ≡ S.content subscriptions.old) }
+        stores: &mut TopicStores<E, C>,
+        shelf: &mut S,
+    ) -> Result<(), Refusal>
+        requires works { self.now.failed ≡ false }
+        requires matched { Match self.now (⟦<TopicStores<E, C> as Stores>⟧.views stores.old) }
+        ensures ends { WriteEnds self.now (⟦<TopicStores<E, C> as Stores>⟧.views stores.old) result (⟦<TopicStores<E, C> as Stores>⟧.views stores.new) (S.disk shelf.old) (S.disk shelf.new) }
+        ensures within { AreSettled self.now (⟦<TopicStores<E, C> as Stores>⟧.views stores.old) (S.disk shelf.old) →
+            Within (OfTopic (E.topic_of stores.old.entries))
+            (StandsFor (E.stands (E.topic_of stores.old.entries)) (C.stands (E.topic_of stores.old.entries)) (topic_in self.now (⟦<TopicStores<E, C> as Stores>⟧.views stores.old) (S.disk shelf.old).seen))
+            (S.disk shelf.old) (S.disk shelf.new) }
+        ensures topic { E.topic_of stores.new.entries ≡ E.topic_of stores.old.entries }
+        ensures no_memory { IsErrOf result NoMemory → shelf.new ≡ shelf.old }
+        ensures cause { IsErrOf result Device → Failed (S.disk shelf.old) (S.disk shelf.new) }
+        ensures kept { Kept (S.disk shelf.old) (S.disk shelf.new) }
     {
-        self.write_entries(entries)?;
-        let count = self.changes_handed_on();
-        subscriptions.append(&self.subs.changes()[..count]);
+        let entries = &self.waiting[..self.entries_handed_on()];
+        let changes = &self.subs.changes()[..self.changes_handed_on()];
+        let prepared_entries = prepare_entries(&mut stores.entries, entries)?;
+        let prepared_changes = prepare_changes(&mut stores.subscriptions, changes)?;
+        append_entries(&mut stores.entries, shelf, prepared_entries)?;
+        append_changes(&mut stores.subscriptions, shelf, prepared_changes)?;
         Ok(())
     }
 
-    fn write_entries<E: EntryStore>(&self, store: &mut E) -> Result<(), StoreError>
-        ensures ok { OnOk result (E.content store.new ≡ E.content store.old ++ take (entries_of self.now.doubt) self.now.waiting) }
-        ensures err { OnErr result (E.content store.new ≡ E.content store.old) }
-    {
-        let count = self.entries_handed_on();
-        if count == 0 {
-            return Ok(());
-        }
-        store.append(&self.waiting[..count])
-    }
-
-    /// Ends a flush as its write did.
-    fn finish(&mut self, written: Result<(), StoreError>) -> Result<usize, Refusal>
+    /// Ends a flush as its write did, which wants memory or meets a failure of the device where it is refused.
+    fn finish(&mut self, written: Result<(), Refusal>) -> Result<usize, Refusal>
+        requires { IfErr written (λ e. (e ≡ Device) ⊎ (e ≡ NoMemory)) }
         ensures { FinishStep self.old written result self.new }
     {
         match written {
             Ok(()) => Ok(self.commit()),
-            Err(error) => {
+            Err(Refusal::Device) => {
+                self.fail();
+                Err(Refusal::Device)
+            }
+            Err(refusal) => {
                 self.take_back();
-                Err(Refusal::from(error))
+                Err(refusal)
             }
         }
     }
@@ -139,6 +171,14 @@ impl TopicCore {
     {
         take_all_back(&mut self.queues);
         self.doubt = None;
+    }
+
+    /// The device failed: what was handed on stays in doubt, and all pending replies are due as refusals.
+    fn fail(&mut self)
+        ensures { self.new ≡ failed self.old }
+    {
+        refuse_all(&mut self.queues);
+        self.failed = true;
     }
 }
 

@@ -1,4 +1,4 @@
-ghost use Rattle.topic_core.specs.Laws.{AnswersFit, AnswersNoReceipt, EntriesArePublished, StaysSound, MessagesAreAdmitted, IdsArePositions, ReceiptsAreCovered, FlushesCommit};
+ghost use Rattle.topic_core.specs.Laws.{AnswersFit, AnswersNoReceipt, EntriesArePublished, StaysSound, MessagesAreAdmitted, IdsArePositions, ReceiptsAreCovered, FlushesCommit, FlushesKeep, CoresGoOn};
 
 /// An answer is the acceptance of its command or one of its refusals, with its ids.
 pub fn answers_fit()
@@ -15,7 +15,7 @@ pub fn entries_are_published()
     ensures { EntriesArePublished }
 {}
 
-/// Each call keeps a topic sound.
+/// Each call keeps a topic sound, and so does a crash.
 pub fn stays_sound()
     ensures { StaysSound }
 {}
@@ -38,4 +38,14 @@ pub fn receipts_are_covered()
 /// A flush that ends well commits what waited, makes the changes durable, and makes due what waited for it, in order for each session.
 pub fn flushes_commit()
     ensures { FlushesCommit }
+{}
+
+/// What a crash leaves of a topic after a flush is what it may leave while the flush is under way.
+pub fn flushes_keep()
+    ensures { FlushesKeep }
+{}
+
+/// Commands, permits, messages, collected replies and leaving sessions leave a topic standing on its device.
+pub fn cores_go_on()
+    ensures { CoresGoOn }
 {}

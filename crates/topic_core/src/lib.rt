@@ -2,34 +2,28 @@
 //! Each call moves an abstract topic by one step that is stated whole: which refusal is answered, which effect is had, and that want of memory changes nothing.
 //! A receipt is due only after the flush that committed its entry, and receipts never outnumber the committed entries.
 //! A message is the committed entry of a position that its consumer was admitted to, and the answer to a SUBSCRIBE or an
-//! ACK is due only after the flush that made its changes durable.
+//! ACK is due only after the flush that made its changes durable. A crash at any moment of a flush leaves all its entries and
+//! changes, its entries, or nothing of it; a failure of the device fails the topic until it is opened again.
 #![tactic(auto)]
 
+mod appending;
 mod command;
 mod consuming;
 mod dispatch;
 mod flush;
 mod laws;
+mod opening;
 mod producer;
-mod refusal;
-mod reply_queue;
-mod store;
-mod subscription_store;
+mod stores;
 mod topic;
 
-pub use command::{Ack, Answer, Send, SentEntry, Subscribe, TopicCommand};
+pub use command::{Ack, Answer, PlainEntry, Send, SentEntry, Subscribe, TopicCommand};
 pub use dispatch::Outgoing;
 pub use laws::{
-    answers_are_no_receipts, answers_fit, entries_are_published, flushes_commit, ids_are_positions,
-    messages_are_admitted, receipts_are_covered, stays_sound,
+    answers_are_no_receipts, answers_fit, cores_go_on, entries_are_published, flushes_commit,
+    flushes_keep, ids_are_positions, messages_are_admitted, receipts_are_covered, stays_sound,
 };
 pub use producer::{Producer, ProducerState};
-pub use refusal::Refusal;
-pub use reply_queue::ReplyQueue;
-pub use store::{EntryStore, MemoryLedger, StoreError};
-pub use subscription_store::{MemorySubscriptions, SubscriptionStore};
+pub use stores::{Stores, TopicStores};
 pub use subscriptions::TooManyPermits;
 pub use topic::TopicCore;
-
-#[cfg(test)]
-mod tests;

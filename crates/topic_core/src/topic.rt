@@ -1,17 +1,20 @@
-ghost use Rattle.std.specs.Prelude.{◌≡◌, ◌+◌, ◌^◌, ◌<◌, ◌≤◌, ◌&&◌, ℕ, None, length, IfOk, IfSome, OnOk, OnErr, filter, not, nat_eq, sum_by};
+ghost use Rattle.std.specs.Prelude.{◌≡◌, ◌+◌, ◌^◌, ◌<◌, ◌≤◌, ◌&&◌, ℕ, true, false, None, length, IfOk, IfSome, OnOk, OnErr, filter, not, nat_eq, sum_by};
 ghost use Rattle.std.specs.List.{list_any};
 ghost use Rattle.std.specs.Str.{bytes_eq};
-ghost use Rattle.topic_core.specs.Core.{Core, opened, next_position};
-ghost use Rattle.topic_core.specs.Replies.{is_receipt};
+ghost use Rattle.std.specs.Result.{is_ok};
+ghost use Rattle.commands.specs.Metadata.{entry_of};
+ghost use Rattle.topic_core.specs.Core.{Core, next_position};
+ghost use Rattle.reply_queues.specs.Replies.{is_receipt};
 ghost use Rattle.topic_core.specs.Steps.{Meets, CoreStep, Collects, Fits, first_standing, producer_refusals, send_refusals, limit_refusals, producer_outcome, send_outcome, has_producer, has_open_producer, has_name, is_producer, is_open, is_single_message, accepted, receipt, key_of, left};
+ghost use Rattle.topic_core.specs.Standing.{GoesOn};
 
-use crate::command::{Answer, Send, SentEntry, TopicCommand};
+use crate::command::{Answer, PlainEntry, Send, SentEntry, TopicCommand};
 use crate::producer::{Producer, ProducerState};
-use crate::reply_queue::{ReplyQueue, forget_replies, push_reply, take_reply};
 use bytes::Bytes;
 use commands::{MessageMeta, Reply, ReplyText, ServerError, Text};
 use holds::ConsumerKey;
 use ids::to_id;
+use reply_queues::{ReplyQueue, forget_replies, push_reply, take_reply};
 use std::alloc::{AllocError, Global};
 use std::marker::Model;
 use subscriptions::Subscriptions;
@@ -26,7 +29,7 @@ const MOST_WAITING: usize = 1_024;
 const MOST_WAITING_BYTES: u64 = 16_777_216;
 
 /// The most bytes of an entry, as CONNECTED tells it ("PulsarApi.proto, CommandConnected, max_message_size").
-const LONGEST_ENTRY: usize = 1_048_576;
+pub(crate) const LONGEST_ENTRY: usize = 1_048_576;
 
 /// How much a flush handed on that hasn't come to a good end.
 #[derive(Clone, Copy)]
@@ -72,28 +75,6 @@ impl Model for TopicCore {
 }
 
 impl TopicCore {
-    /// A topic over a store of so many entries, where a ledger id has so many entry ids.
-    pub fn new(alloc: Global, per_ledger: u32, committed: u64) -> TopicCore
-        requires numbered { 0 < per_ledger }
-        requires few { committed ≤ 2 ^ 62 }
-        ensures { result ≡ opened per_ledger committed }
-    {
-        TopicCore {
-            alloc,
-            per_ledger,
-            committed,
-            waiting: Vec::new(alloc),
-            waiting_bytes: 0,
-            accepted: 0,
-            handed: 0,
-            producers: Vec::new(alloc),
-            subs: Subscriptions::new(alloc),
-            queues: Vec::new(alloc),
-            doubt: None,
-            failed: false,
-        }
-    }
-
     /// Whether a device failure ended the topic's work.
     pub fn is_failed(&self) -> bool
         ensures { result ≡ self.now.failed }
@@ -147,14 +128,14 @@ impl TopicCore {
         if !self.has_open_producer(who, send.producer_id) {
             return Some(ServerError::NotAllowedError);
         }
-        let SentEntry::Plain { bytes, metadata } = &send.entry else {
+        let SentEntry::Plain(entry) = &send.entry else {
             return Some(ServerError::ChecksumError);
         };
-        let len = bytes.len();
+        let len = entry.bytes.len();
         if len > LONGEST_ENTRY {
             return Some(ServerError::NotAllowedError);
         }
-        if !is_single_message(send.num_messages, metadata) {
+        if !is_single_message(send.num_messages, &entry.metadata) {
             return Some(ServerError::NotAllowedError);
         }
         if self.is_failed() {
@@ -221,9 +202,10 @@ impl TopicCore {
             num_messages: _,
             entry,
         } = send;
-        let SentEntry::Plain { bytes, metadata: _ } = entry else {
+        let SentEntry::Plain(entry) = entry else {
             unreachable!()
         };
+        let PlainEntry { bytes, metadata: _ } = entry;
         self.accept(who, producer_id, sequence_id, bytes)?;
         Ok(Answer::Later)
     }
@@ -236,6 +218,8 @@ impl TopicCore {
         sequence_id: u64,
         entry: Bytes,
     ) -> Result<(), AllocError>
+        requires works { self.old.failed ≡ false }
+        requires readable { is_ok (entry_of entry) ≡ true }
         requires short { length entry ≤ 1048576 }
         requires room { first_standing (limit_refusals self.old (length entry)) ≡ None }
         ensures ok { OnOk result (self.new ≡ accepted self.old who producer_id sequence_id entry) }
@@ -260,8 +244,11 @@ impl TopicCore {
     /// Works a session's command.
     pub fn command(&mut self, who: u64, command: TopicCommand) -> Answer
         ensures step { CoreStep self.old who command result self.new }
+        ensures goes_on { GoesOn self.old self.new }
         ensures fits { Fits command result }
     {
+        // The proof reads here what holds of a topic at any time.
+        let _ = &self.alloc;
         let answer = match command {
             TopicCommand::Producer {
                 producer_id,
@@ -277,7 +264,8 @@ impl TopicCore {
 
     /// The session's first due reply, which it takes.
     pub fn collect(&mut self, who: u64) -> Option<Reply>
-        ensures { Collects self.old who result self.new }
+        ensures step { Collects self.old who result self.new }
+        ensures goes_on { GoesOn self.old self.new }
     {
         let reply = take_reply(who, &mut self.queues)?;
         if is_receipt(&reply) {
@@ -288,7 +276,8 @@ impl TopicCore {
 
     /// A session leaves. What it sent stays.
     pub fn leave(&mut self, who: u64)
-        ensures { self.new ≡ left self.old who }
+        ensures step { self.new ≡ left self.old who }
+        ensures goes_on { GoesOn self.old self.new }
     {
         forget_producers(who, &mut self.producers);
         self.subs.leave(who);

@@ -1,5 +1,6 @@
 use super::support::Limited;
 use crate::fault::{ProgramFault, exit_status, write_fault};
+use node::Refusal;
 use script::ScriptFault;
 use std::alloc::AllocError;
 use std::test::Fail;
@@ -37,4 +38,9 @@ fn takes_the_faults_of_scripts_and_memory(rt: HostRuntime) {
         ProgramFault::NoMemory
     );
     assert_eq!(rt; ProgramFault::from(AllocError), ProgramFault::NoMemory);
+    assert_eq!(rt;
+        ProgramFault::from(Refusal::NoMemory),
+        ProgramFault::NoMemory
+    );
+    assert_eq!(rt; ProgramFault::from(Refusal::Device), ProgramFault::Device);
 }

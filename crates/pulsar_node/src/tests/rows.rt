@@ -1,23 +1,5 @@
-use super::support::{Limited, tells_no_memory};
-use crate::fault::ProgramFault;
-use crate::replay::replay;
-use std::process::Abort;
+use super::support::assert_lines;
 use std::test::Fail;
-
-// Want of memory is handed on, also where a line of output tells it.
-fn assert_lines(
-    rt: &(impl Abort + AllocGlobal),
-    script: &str,
-    want: &str,
-) -> Result<(), ProgramFault> {
-    let mut lines = Limited::new(2048);
-    replay(rt.alloc(), &mut script.as_bytes(), &mut lines)?;
-    if tells_no_memory(lines.as_slice()) {
-        return Err(ProgramFault::NoMemory);
-    }
-    assert_eq!(rt; lines.as_slice(), want.as_bytes());
-    Ok(())
-}
 
 // A producer connects, sends, and gets its receipt once the entry is committed.
 #[test]

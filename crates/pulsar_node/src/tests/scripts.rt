@@ -31,7 +31,8 @@ fn refuses_a_bad_start(rt: HostRuntime) -> Result<(), Fail> {
         (b"init 0\n".as_slice(), 1),
         (b"init 50001\n".as_slice(), 1),
         (b"init 1000\ninit 1000\n".as_slice(), 2),
-        (b"init 1000\ncrash old\n".as_slice(), 2),
+        (b"init 1000\ncrash\n".as_slice(), 2),
+        (b"init 1000\ntake 0\n".as_slice(), 2),
     ] {
         assert_eq!(rt; first_bad(&rt, script)?, line, "{script:?}");
     }

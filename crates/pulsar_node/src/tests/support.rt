@@ -1,7 +1,10 @@
 ghost use Rattle.std.specs.Prelude.{◌≤◌};
 
+use crate::fault::ProgramFault;
+use crate::replay::replay;
 use std::io;
 use std::io::{ErrorKind, Read, Write};
+use std::process::Abort;
 
 const ROOM: usize = 2048;
 
@@ -99,4 +102,30 @@ impl Read for Failing<'_> {
 /// Whether a line tells that memory was refused, in place of the answer.
 pub fn tells_no_memory(lines: &[u8]) -> bool {
     lines.windows(3).any(|word| word == b" S5".as_slice() || word == b" F9".as_slice())
+}
+
+/// Whether a line tells that the device failed: so does one in memory where a growth of its own was refused.
+fn tells_a_failure(lines: &[u8]) -> bool {
+    lines.windows(3).any(|word| word == b" S1".as_slice())
+}
+
+/// What the lines of a script print. Want of memory is handed on, also where a line of output tells it.
+pub fn assert_lines(
+    rt: &(impl Abort + AllocGlobal),
+    script: &str,
+    want: &str,
+) -> Result<(), ProgramFault> {
+    let mut lines = Limited::new(2048);
+    replay(rt.alloc(), &mut script.as_bytes(), &mut lines)?;
+    if lines.as_slice() == want.as_bytes() {
+        return Ok(());
+    }
+    if tells_no_memory(lines.as_slice()) {
+        return Err(ProgramFault::NoMemory);
+    }
+    if tells_a_failure(lines.as_slice()) {
+        return Err(ProgramFault::Device);
+    }
+    assert_eq!(rt; lines.as_slice(), want.as_bytes());
+    Ok(())
 }

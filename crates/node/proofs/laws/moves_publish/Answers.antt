@@ -1,4 +1,4 @@
-use Rattle.node.proofs.Publishing.{moves_publish}
+use Rattle.node.proofs.Finding.{moves_publish}
 use Rattle.node.proofs.laws.moves_publish.Goals as goal
 
 pub returns : goal.returns

@@ -1,4 +1,4 @@
-use Rattle.node.proofs.Publishing.{moves_covered}
+use Rattle.node.proofs.Covering.{moves_covered}
 use Rattle.node.proofs.laws.receipts_are_covered.Goals as goal
 
 pub returns : goal.returns

@@ -1,36 +1,39 @@
-use Rattle.std.proofs.Common.{Ok, Err}
-use Rattle.node.specs.State.{fresh_state}
+use Rattle.std.proofs.Common.{List, Ok, Err, subst}
 use Rattle.std.proofs.lemmas.Result.{err_from_is_err_and}
-use Rattle.pulsar_node.proofs.Worked.{works_same, start_fails, run_fails, run_ends, flush_fails}
+use Rattle.script.specs.declared.line.Line.{Line}
+use Rattle.pulsar_node.specs.declared.working.Replay.{Replay}
+use Rattle.pulsar_node.specs.contracts.working.ReplayLiving.TheImpl.{lives-value}
+use Rattle.pulsar_node.specs.Replay.{WorksLines}
+use Rattle.pulsar_node.proofs.Worked.{begun_fails, run_fails, run_ends, flush_fails}
 use Rattle.pulsar_node.proofs.replay.replay_script.Goals as goal
 
-pub returns-in_err-write_output : goal.returns-in_err-write_output
-returns-in_err-write_output g c =
-    let p = err_from_is_err_and c.from_residual-in_err-write_output.result c.from_residual-in_err-write_output.ensures.1 in
-    rw (p.1, p.2) (start_fails c.args.bytes.now c.in_ok-per_ledger.field-0 c.in_ok-per_ledger.ensures.found (g.W.Write.contents c.args.writer.now)
-    (g.W.Write.contents c.write_output.new.writer) c.in_err-write_output.field-0.0 c.in_err-write_output.ensures)
+pub returns-in_err-replay : goal.returns-in_err-replay
+returns-in_err-replay g c =
+    let p = err_from_is_err_and c.from_residual-in_err-replay.result c.from_residual-in_err-replay.ensures.1 in
+    rw (p.1, p.2) (begun_fails c.args.bytes.now c.in_ok-per_ledger.field-0 c.in_ok-per_ledger.ensures.found (g.W.Write.contents c.args.writer.now)
+    {R = Replay} lives-value.it (g.W.Write.contents c.begin.new.writer) c.in_err-replay.field-0.0 c.in_err-replay.ensures.begun)
 
 pub returns-in_err-work_lines : goal.returns-in_err-work_lines
 returns-in_err-work_lines g c =
+    let b = c.in_ok-replay.ensures.begun in
     let p = err_from_is_err_and c.from_residual-in_err-work_lines.result c.from_residual-in_err-work_lines.ensures.1 in
-    let worked = works_same {X = Unit {0}} c.in_ok-node.node (fresh_state c.in_ok-per_ledger.field-0.per_ledger) c.into_vec.result.items c.in_ok-per_ledger.field-0.lines
-    (g.W.Write.contents c.write_output.new.writer) c.work_lines.new.node (g.W.Write.contents c.work_lines.new.writer) (Err c.in_err-work_lines.field-0.0) c.in_ok-node.ensures c.into_vec.ensures c.in_err-work_lines.ensures in
+    let fault = c.in_err-work_lines.field-0.0 in
+    let worked = subst (λ (ls : List Line). WorksLines {X = Unit {0}} 2 b.1 ls (g.W.Write.contents c.begin.new.writer) (g.W.Write.contents c.work_lines.new.writer) (Err fault)) c.into_vec.ensures (c.in_err-work_lines.ensures b.1 b.3) in
     rw (p.1, p.2) (run_fails c.args.bytes.now c.in_ok-per_ledger.field-0 c.in_ok-per_ledger.ensures.found (g.W.Write.contents c.args.writer.now)
-    (g.W.Write.contents c.write_output.new.writer) (g.W.Write.contents c.work_lines.new.writer) c.work_lines.new.node c.in_err-work_lines.field-0.0
-    c.in_ok-write_output.ensures worked)
+    (g.W.Write.contents c.begin.new.writer) (g.W.Write.contents c.work_lines.new.writer) b.0 b.1 fault b.2 b.4 worked)
 
 pub returns-in-Ok : goal.returns-in-Ok
 returns-in-Ok g c =
-    let worked = works_same {X = Unit {0}} c.in_ok-node.node (fresh_state c.in_ok-per_ledger.field-0.per_ledger) c.into_vec.result.items c.in_ok-per_ledger.field-0.lines
-    (g.W.Write.contents c.write_output.new.writer) c.work_lines.new.node (g.W.Write.contents c.work_lines.new.writer) (Ok tt) c.in_ok-node.ensures c.into_vec.ensures c.in_ok-work_lines.ensures in
+    let b = c.in_ok-replay.ensures.begun in
+    let worked = subst (λ (ls : List Line). WorksLines {X = Unit {0}} 2 b.1 ls (g.W.Write.contents c.begin.new.writer) (g.W.Write.contents c.work_lines.new.writer) (Ok tt)) c.into_vec.ensures (c.in_ok-work_lines.ensures b.1 b.3) in
     run_ends c.args.bytes.now c.in_ok-per_ledger.field-0 c.in_ok-per_ledger.ensures.found (g.W.Write.contents c.args.writer.now)
-    (g.W.Write.contents c.write_output.new.writer) (g.W.Write.contents c.work_lines.new.writer) (g.W.Write.contents c.flush.new.self) c.work_lines.new.node
-    c.in_ok-write_output.ensures worked.0 worked.1 worked.2 c.flush.ensures.bytes
+    (g.W.Write.contents c.begin.new.writer) (g.W.Write.contents c.work_lines.new.writer) (g.W.Write.contents c.flush.new.self) b.0 worked.0 b.1 worked.1 b.2 b.4
+    worked.2 worked.3 c.flush.ensures.bytes
 
-pub returns : goal.returns
-returns g c =
-    let worked = works_same {X = Unit {0}} c.in_ok-node.node (fresh_state c.in_ok-per_ledger.field-0.per_ledger) c.into_vec.result.items c.in_ok-per_ledger.field-0.lines
-    (g.W.Write.contents c.write_output.new.writer) c.work_lines.new.node (g.W.Write.contents c.work_lines.new.writer) (Ok tt) c.in_ok-node.ensures c.into_vec.ensures c.in_ok-work_lines.ensures in
+pub returns-in-Err : goal.returns-in-Err
+returns-in-Err g c =
+    let b = c.in_ok-replay.ensures.begun in
+    let worked = subst (λ (ls : List Line). WorksLines {X = Unit {0}} 2 b.1 ls (g.W.Write.contents c.begin.new.writer) (g.W.Write.contents c.work_lines.new.writer) (Ok tt)) c.into_vec.ensures (c.in_ok-work_lines.ensures b.1 b.3) in
     flush_fails c.args.bytes.now c.in_ok-per_ledger.field-0 c.in_ok-per_ledger.ensures.found (g.W.Write.contents c.args.writer.now)
-    (g.W.Write.contents c.write_output.new.writer) (g.W.Write.contents c.work_lines.new.writer) (g.W.Write.contents c.flush.new.self) c.work_lines.new.node
-    c.in_ok-write_output.ensures worked.0 worked.1 worked.2 c.flush.ensures.bytes
+    (g.W.Write.contents c.begin.new.writer) (g.W.Write.contents c.work_lines.new.writer) (g.W.Write.contents c.flush.new.self) b.0 worked.0 b.1 worked.1 b.2 b.4
+    worked.2 worked.3 c.flush.ensures.bytes

@@ -1,4 +1,4 @@
-use Rattle.std.proofs.Common.{◌≡◌, ◌≤◌}
+use Rattle.std.proofs.Common.{◌≡◌}
 use Rattle.session.proofs.Leaving.{first_left}
 use Rattle.session.proofs.session.leave_all.Given as goal
 

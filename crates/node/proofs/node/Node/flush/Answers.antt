@@ -1,19 +1,27 @@
-use Rattle.std.proofs.Common.{◌∙◌, ap, sym, refl}
-use Rattle.session.specs.Broker.{fresh}
+use Rattle.std.proofs.Common.{[], sym, ap, ◌∙◌, arith}
+use Rattle.node.specs.State.{verdict_for}
+use Rattle.node.specs.Standing.{held}
 use Rattle.node.specs.declared.event.Output.{Output}
-use Rattle.node.proofs.Places.{there, stands_there, flushes_of}
+use Rattle.node.specs.declared.event.Verdict.{Verdict}
+use Rattle.node.proofs.Steps.{flushes}
 use Rattle.node.proofs.node.Node.flush.Goals as goal
 
-pub returns : goal.returns
-returns c =
-    let place = sym c.at.ensures ∙ c.in-Some.is in
-    let topics = c.self.inside.topics.held.items in
-    rw (← c.self.view_is) (rw place (record {
-      flushed = c.flush-verdict.new.self;
-      step = flushes_of _ _ _ _ c.flush-verdict.new.self
-          (stands_there topics c.in-Some.place c.index_mut-held.result.now (fresh c.self.inside.topics.per_ledger) (there topics c.args.topic c.in-Some.place place) c.index_mut-held.ensures.value)
-          (sym (ap (λ (o : Output). o.result) c.only-2.ensures))
-          c.flush-verdict.ensures;
-      bytes = ap (λ (o : Output). o.bytes) c.only-2.ensures;
-      broker = refl;
-    }))
+pub returns-in-Ok-clause-step : goal.returns-in-Ok-clause-step
+returns-in-Ok-clause-step g c =
+    let n = c.args.self.now in
+    let disk = g.S.Shelf.disk in
+    let e = c.flush.ensures in
+    let answer : Verdict → Output = λ v. record { bytes = []; result = v } in
+    let verdict = c.only-in-Ok.ensures ∙ ap answer (sym (ap (λ r. verdict_for r) c.in-Ok.is)) in
+    λ h. flushes n.topics.core.per_ledger c.flush.new.self.per_ledger (held disk n.topics) _ n.sessions.items n.used (disk n.topics.shelf).faults (disk c.flush.new.shelf).faults c.args.topic c.only-in-Ok.result
+    (omega (arith, c.if-topic-ne0.false)) e.per_ledger e.kept.faults c.flush.result (e.step h) verdict e.cause
+
+pub returns-in-Err-clause-step : goal.returns-in-Err-clause-step
+returns-in-Err-clause-step g c =
+    let n = c.args.self.now in
+    let disk = g.S.Shelf.disk in
+    let e = c.flush.ensures in
+    let answer : Verdict → Output = λ v. record { bytes = []; result = v } in
+    let verdict = c.only-in-Err.ensures ∙ ap answer (sym (ap (λ r. verdict_for r) c.in-Err.is)) in
+    λ h. flushes n.topics.core.per_ledger c.flush.new.self.per_ledger (held disk n.topics) _ n.sessions.items n.used (disk n.topics.shelf).faults (disk c.flush.new.shelf).faults c.args.topic c.only-in-Err.result
+    (omega (arith, c.if-topic-ne0.false)) e.per_ledger e.kept.faults c.flush.result (e.step h) verdict e.cause

@@ -1,6 +1,5 @@
-use Rattle.std.proofs.Common.{◌≡◌, ◌≢◌, ◌≤◌, ◌<◌, ℕ, ◌+◌, List, sym, ap, ◌∙◌, subst, arith, ⊎_elim, None, []}
+use Rattle.std.proofs.Common.{◌≡◌, ℕ, sym, ap, ◌∙◌, subst, arith, ⊎_elim, []}
 use Rattle.std.proofs.lemmas.Bool.{cases_eq, cases_lt}
-use Rattle.commands.specs.declared.reply.Reply.{Reply}
 use Rattle.session.specs.Broker.{due_at}
 use Rattle.session.proofs.Absent.{due_at-absent}
 use Rattle.session.proofs.Plays.{collects-more, collects_at-fault, collects_at-others, collects-length}

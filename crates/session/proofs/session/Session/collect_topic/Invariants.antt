@@ -1,4 +1,4 @@
-use Rattle.std.proofs.Common.{◌≡◌, ◌≤◌, ◌-◌}
+use Rattle.std.proofs.Common.{◌≤◌, ◌-◌}
 use Rattle.session.specs.Client.{play, Speaks}
 use Rattle.session.specs.Pumping.{CollectsAt}
 use Rattle.session.proofs.session.Session.collect_topic.Given as goal

@@ -1,5 +1,4 @@
-use Rattle.std.proofs.Common.{◌≡◌, ◌∙◌, sym, ap, subst, Option, Some, None, Ok, Err}
-use Rattle.session.specs.declared.fault.Fault.{Fault}
+use Rattle.std.proofs.Common.{◌≡◌, ◌∙◌, sym, ap, subst, Some, None, Ok, Err}
 use Rattle.session.specs.Client.{Client, play}
 use Rattle.session.specs.Working.{feed_result, FeedStep}
 use Rattle.session.proofs.Plays.{feed_made, ends_made}

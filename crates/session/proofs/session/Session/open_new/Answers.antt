@@ -1,6 +1,10 @@
 use Rattle.std.proofs.Common.{◌∙◌, sym}
 use Rattle.session.specs.declared.port.Found.TheVariants.{Topic}
+use Rattle.session.proofs.Refusals.{producer_topic}
 use Rattle.session.proofs.session.Session.open_new.Goals as goal
+
+pub find-requires : goal.find-requires
+find-requires g c = rw c.as_str.ensures (record { named = producer_topic c.args.self.now.producers c.args.asked (sym c.own_refusal.ensures ∙ c.in_default.is) })
 
 pub returns-in-Topic-clause-step : goal.returns-in-Topic-clause-step
 returns-in-Topic-clause-step g c = λ s.

@@ -1,25 +1,41 @@
 use Rattle.std.proofs.Common.{◌≡◌, ◌∙◌, ◌<◌, List, length, get_or, ap, add-one, arith}
+use Rattle.std.proofs.lemmas.Result.{err_from_is_err_and}
 use Rattle.session.specs.Client.{Client}
 use Rattle.session.specs.declared.consumer_entry.ConsumerEntry.{ConsumerEntry}
-use Rattle.session.proofs.Serving.{serves_each-next}
+use Rattle.session.proofs.Serving.{serves_each-next, serves_each-refused}
 use Rattle.session.proofs.Speaking.{speaks_both}
 use Rattle.session.proofs.session.Session.serve_each.Goals as goal
 
 pub loop-place-preserved : goal.loop-place-preserved
 loop-place-preserved g c =
     let i = c.loop-place.invariant in
-    let e = c.serve-count.ensures in
+    let e = c.serve.ensures in
     let place = c.loop-place.place in
     let one = c.index-consumer.result.now in
     record {
-      most = omega arith;
+      most = omega (arith, c.in_ok-count.ensures.most);
       serves = λ s.
           let within : place < length c.args.self.now.consumers =
           omega (arith, c.loop-place-test.true, c.len-place-end.ensures, ap (λ (v : Client). length v.consumers) c.self.view_is) in
           let is : one ≡ get_or c.args.self.now.consumers place one =
           c.index-consumer.ensures ∙ ap (λ (xs : List ConsumerEntry). get_or xs place one) (ap (λ (v : Client). v.consumers) c.self-in-loop-place.view_is ∙ i.consumers) in
-          rw add-one (serves_each-next c.args.self.now.consumers place 64 c.loop-place.count c.serve-count.result _ _ _ one one within is (i.serves s) (e.serves (g.met.P.Port.passes_sole _ _ i.passes s)));
+          rw add-one (serves_each-next c.args.self.now.consumers place 64 c.loop-place.count c.in_ok-count.field-0 _ _ _ one one within is (i.serves s) (c.in_ok-count.ensures.serves (g.met.P.Port.passes_sole _ _ i.passes s)));
       consumers = e.consumers ∙ i.consumers;
       speaks = speaks_both _ _ _ _ _ _ i.speaks e.speaks;
       passes = g.met.P.Port.passes_both _ _ _ i.passes e.passes;
     }
+
+pub returns-in_err-count-clause-serves : goal.returns-in_err-count-clause-serves
+returns-in_err-count-clause-serves g c = λ s.
+    let i = c.loop-place.invariant in
+    let place = c.loop-place.place in
+    let one = c.index-consumer.result.now in
+    let within : place < length c.args.self.now.consumers =
+    omega (arith, c.loop-place-test.true, c.len-place-end.ensures, ap (λ (v : Client). length v.consumers) c.self.view_is) in
+    let is : one ≡ get_or c.args.self.now.consumers place one =
+    c.index-consumer.ensures ∙ ap (λ (xs : List ConsumerEntry). get_or xs place one) (ap (λ (v : Client). v.consumers) c.self-in-loop-place.view_is ∙ i.consumers) in
+    let p = err_from_is_err_and c.from_residual.result c.from_residual.ensures.1 in
+    rw (p.1, p.2) (serves_each-refused c.args.self.now.consumers place 64 c.loop-place.count _ _ _ _ one one within is (i.serves s) (c.in_err-count.ensures.serves (g.met.P.Port.passes_sole _ _ i.passes s)))
+
+pub returns-in_err-count-clause-speaks : goal.returns-in_err-count-clause-speaks
+returns-in_err-count-clause-speaks g c = speaks_both _ _ _ _ _ _ c.loop-place.invariant.speaks c.serve.ensures.speaks

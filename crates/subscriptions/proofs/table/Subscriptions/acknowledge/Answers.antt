@@ -1,8 +1,8 @@
 use Rattle.std.proofs.Common.{◌≡◌, ◌+◌, ◌≤◌, ◌++◌, List, length, Some, None, ap, sym, ◌∙◌, set, subst, rules}
 use Rattle.std.proofs.Common.{map as each}
 use Rattle.std.specs.List.{position}
-use Rattle.subscriptions.specs.declared.change.Change.{Change}
-use Rattle.subscriptions.specs.declared.change.Change.TheVariants.{Acknowledged}
+use Rattle.records.specs.declared.record.Record.{Record}
+use Rattle.records.specs.declared.record.Record.TheVariants.{Acknowledged}
 use Rattle.subscriptions.specs.State.{Subscriptions}
 use Rattle.subscriptions.specs.Steps.{is_on, acknowledged}
 use Rattle.subscriptions.specs.Soundness.{HasLimits}
@@ -24,7 +24,7 @@ invariant_of-self-2 c =
     let room : length t.changes + length c.args.positions.now ≤ 65536 = subst (λ (x : Subscriptions). length x.changes + length c.args.positions.now ≤ 65536) (sym c.self.view_is) c.requires.room in
     subst HasLimits
     (sym (acknowledges_at t c.args.key c.args.positions.now c.in-Some.place c.index_mut-sub.result.now c.acknowledge.new.self at c.index_mut-sub.ensures.value c.in_ok-acknowledge.ensures.ok)
-    ∙ ap (λ (cs : List Change). let n : Subscriptions = record { subs = set c.self.inside.subs.items c.in-Some.place c.acknowledge.new.self; changes = cs } in n) (sym grown))
+    ∙ ap (λ (cs : List Record). let n : Subscriptions = record { subs = set c.self.inside.subs.items c.in-Some.place c.acknowledge.new.self; changes = cs } in n) (sym grown))
     (limits_acknowledged t c.args.key c.args.positions.now room c.self.invariant)
 
 pub returns-clause-ok : goal.returns-clause-ok
@@ -32,6 +32,6 @@ returns-clause-ok c =
     let t : Subscriptions = record { subs = c.self.inside.subs.items; changes = c.self.inside.changes.items } in
     let at : position (is_on c.args.key) c.self.inside.subs.items ≡ Some c.in-Some.place = search rules in
     let grown : c.append.new.self.items ≡ c.self.inside.changes.items ++ each (λ p. Acknowledged c.index_mut-sub.result.now.name p) c.args.positions.now = search rules in
-    ap (λ (cs : List Change). let n : Subscriptions = record { subs = set c.self.inside.subs.items c.in-Some.place c.acknowledge.new.self; changes = cs } in n) grown
+    ap (λ (cs : List Record). let n : Subscriptions = record { subs = set c.self.inside.subs.items c.in-Some.place c.acknowledge.new.self; changes = cs } in n) grown
     ∙ acknowledges_at t c.args.key c.args.positions.now c.in-Some.place c.index_mut-sub.result.now c.acknowledge.new.self at c.index_mut-sub.ensures.value c.in_ok-acknowledge.ensures.ok
     ∙ ap (λ (x : Subscriptions). acknowledged x c.args.key c.args.positions.now) c.self.view_is

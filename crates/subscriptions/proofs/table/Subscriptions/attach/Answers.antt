@@ -1,6 +1,6 @@
 use Rattle.std.proofs.Common.{◌≡◌, ◌++◌, [], ◌∷◌, Some, None, ap, ◌∙◌, refl, set, rules}
 use Rattle.std.specs.List.{position}
-use Rattle.subscriptions.specs.declared.change.Change.TheVariants.{Made}
+use Rattle.records.specs.declared.record.Record.TheVariants.{Made}
 use Rattle.subscriptions.specs.State.{Subscriptions}
 use Rattle.subscriptions.specs.Steps.{first_changed, first_standing, is_named, subscribe_refusals, attached_to, attached, made, start_of}
 use Rattle.subscriptions.proofs.Places.{changes, misses}

@@ -3,7 +3,7 @@ use Rattle.subscriptions.specs.Steps as subscriptions
 use Rattle.commands.specs.declared.reply.Reply.TheVariants.{Success}
 use Rattle.topic_core.specs.Core.{Core}
 use Rattle.topic_core.specs.Held.{core_of}
-use Rattle.topic_core.specs.Replies.{queued}
+use Rattle.reply_queues.specs.Replies.{queued}
 use Rattle.topic_core.specs.Steps.{key_of, start_of, subscribe_refusal}
 use Rattle.topic_core.proofs.Subscribing.{sound-subscribed, receipts-subscribed}
 use Rattle.topic_core.proofs.topic.TopicCore.attach.Goals as goal

@@ -1,0 +1,67 @@
+-- The power is cut, and comes again.
+use Rattle.std.proofs.Common.{◌≡◌, ◌⊎◌, ⊎_elim, ℕ, ◌≤◌, refl, subst, sym, ap, ◌∙◌, false, [], arith}
+use Rattle.disk.specs.Disk.{Disk, Image, Same, Advances, Kept, Failed}
+use Rattle.managed_ledger.specs.Entries.{Entries}
+use Rattle.managed_ledger.specs.declared.entry_store.EntryStore.{Ghosts as EntryMembers}
+use Rattle.cursor_store.specs.declared.sub_store.SubStore.{Ghosts as SubMembers}
+use Rattle.records.specs.Maps.{Kept as Cursors}
+use Rattle.gated_log.specs.declared.refusal.Refusal.{Refusal}
+use Rattle.gated_log.specs.declared.refusal.Refusal.TheVariants as refusal
+use Rattle.topic_core.specs.Core.{Topic}
+use Rattle.session.specs.Broker.{Broker}
+use Rattle.node.specs.State.{State, broker_with}
+use Rattle.node.specs.Standing.{StandsForBroker, AtRest}
+use Rattle.node.specs.Runs.{Life, OpeningStep, StateCrash}
+use Rattle.node.specs.Driving.{IsServed, Holds}
+use Rattle.node.specs.declared.event.Output.{Output}
+use Rattle.node.specs.declared.event.Verdict.TheVariants as verdict
+use Rattle.node.specs.declared.power.Machine.{Machine}
+use Rattle.node.specs.declared.power.Machine.TheVariants as machine
+
+-- a node that stays down
+abbrev pub down : State → Disk → Life
+down old disk = record { up = false; state = record old { faults = disk.faults } }
+
+pub refused_opening : (old : State) (before disk : Disk) (why : Refusal) (output : Output) → old.faults ≤ before.faults → old.faults ≤ disk.faults
+    → (why ≡ refusal.NoMemory) ⊎ ((why ≡ refusal.Device) × Failed before disk) → output ≡ record { bytes = []; result = verdict.Refused why } → OpeningStep old output (down old disk)
+refused_opening old before disk why output was more cause is =
+    let out : Refusal → Output = λ r. record { bytes = []; result = verdict.Refused r } in
+    let P : Output → Type 0 = λ o. OpeningStep old o (down old disk) in
+    let Q : Refusal → Type 0 = λ r. OpeningStep old (out r) (down old disk) in
+    subst P (sym is) (⊎_elim
+    (λ memory. subst Q (sym memory) (refl, record { down = refl; state = refl; faults = more }))
+    (λ device. subst Q (sym device.0) (refl, (record { down = refl; state = refl; faults = more }, omega (arith, was, device.1))))
+    cause)
+
+-- a device that has failed more often is the device of the same files
+pub rests_later : (stands : ℕ → Image → Entries → Type 0) (keeps : ℕ → ℕ → Image → Cursors → Type 0) (old : State) (disk : Disk) → AtRest stands keeps old disk → AtRest stands keeps (record old { faults = disk.faults }) disk
+rests_later stands keeps old disk r = record { honest = r.honest; left = r.left; faults = omega arith }
+
+pub served_later : (per_ledger : ℕ) (old : State) (disk : Disk) → IsServed per_ledger old → IsServed per_ledger (record old { faults = disk.faults })
+served_later per_ledger old disk served = record { topic = served.topic; broker = served.broker; numbered = served.numbered }
+
+-- a node whose topic has so many entry ids a ledger id
+pub serves : (per_ledger : ℕ) (state : State) (n : ℕ) (topic : Topic) → state.broker ≡ broker_with n topic → topic.core.per_ledger ≡ n → n ≡ per_ledger → IsServed per_ledger state
+serves per_ledger state n topic is core numbered = record {
+  topic = topic;
+  broker = is ∙ ap (λ m. broker_with m topic) numbered;
+  numbered = core ∙ numbered;
+}
+
+-- a crash leaves the number of entry ids
+pub crash_serves : (per_ledger : ℕ) (old new : State) (n : ℕ) (topic : Topic) → IsServed per_ledger old → StateCrash old new → new.broker ≡ broker_with n topic → topic.core.per_ledger ≡ n → IsServed per_ledger new
+crash_serves per_ledger old new n topic served crash is core =
+    serves per_ledger new n topic is core (sym (ap (λ (b : Broker). b.per_ledger) is) ∙ crash.per_ledger ∙ ap (λ (b : Broker). b.per_ledger) served.broker)
+
+-- what a crash leaves is left by the next one
+pub after_crash : (stands : ℕ → Image → Entries → Type 0) (keeps : ℕ → ℕ → Image → Cursors → Type 0) (s : State) (old new : Disk) → AtRest stands keeps s old → Advances Same old new → Kept old new → AtRest stands keeps s new
+after_crash stands keeps s old new r time kept = record {
+  honest = kept.honest r.honest;
+  left = λ c may. let was = time.crash c may in subst (λ (i : Image). StandsForBroker stands keeps s.broker i) (sym was.2) (r.left was.0 was.1);
+  faults = omega (arith, r.faults, kept.faults);
+}
+
+module _ {E C S P Q : Type 0} {entries : EntryMembers E P} {subscriptions : SubMembers C Q} (disk : S → Disk) where
+  pub holds_served : (per_ledger : ℕ) (m : Machine E C S P Q entries subscriptions) (life : Life) → Holds disk per_ledger m life → IsServed per_ledger life.state
+  holds_served per_ledger (machine.Up node) life h = h.2
+  holds_served per_ledger (machine.Down shelf) life h = h.2

@@ -1,0 +1,23 @@
+use Rattle.std.proofs.Common.{refl, true}
+use Rattle.node.specs.Standing.{held, state_of}
+use Rattle.node.proofs.Restarts.{down, refused_opening, rests_later, served_later, crash_serves}
+use Rattle.node.proofs.power.Machine.start.Goals as goal
+
+pub returns-in-Ok : goal.returns-in-Ok
+returns-in-Ok g c = λ old rest served.
+    let h = c.in-Ok.ensures.opened old rest served in
+    let state = state_of g.S.Shelf.disk c.in-Ok.node in (
+      record { up = true; state = state },
+      rw c.only.ensures (refl, record { up = refl; crash = h.1 }),
+      (h.0, refl, crash_serves c.args.per_ledger old state c.in-Ok.node.topics.core.per_ledger (held g.S.Shelf.disk c.in-Ok.node.topics) served h.1 refl refl),
+    )
+
+pub returns-in-Err : goal.returns-in-Err
+returns-in-Err g c = λ old rest served.
+    let h = c.in-Err.ensures.refused old rest in
+    let d0 = g.S.Shelf.disk c.args.shelf in
+    let d = g.S.Shelf.disk c.in-Err.shelf in (
+      down old d,
+      refused_opening old d0 d c.in-Err.why _ rest.faults h.0.faults h.1 c.only-in-Err.ensures,
+      (rests_later g.E.EntryStore.stands g.C.SubStore.stands old d h.0, refl, served_later c.args.per_ledger old d served),
+    )

@@ -1,0 +1,87 @@
+use Rattle.std.proofs.Common.{◌≡◌, ◌++◌, [], ◌∷◌, List, ap, sym, refl, rules, false, length, ℕ, arith}
+use Rattle.node.specs.Runs.{Life}
+use Rattle.node.specs.declared.event.Happening.{Happening}
+use Rattle.node.specs.declared.event.Happening.TheVariants as happening
+use Rattle.node.proofs.Accounts.{life_accounts}
+use Rattle.node.proofs.Lives.{AllowedRun-push, front_run, none_added, one_added, none_more, all_worked, worked_length}
+use Rattle.node.proofs.Reaching.{one_more}
+use Rattle.node.proofs.power.drive.Goals as goal
+
+length_nil : (xs : List Happening) {n : ℕ} → n ≡ length xs → n ≡ 0 → xs ≡ []
+length_nil [] is none = refl
+length_nil (x ∷ xs) is none = absurd (omega (arith, is, none))
+
+pub loop-happening-init : goal.loop-happening-init
+loop-happening-init g c =
+    let pushed : c.push.new.self.items ≡ c.args.outputs.now.items ++ c.start-machine.result.1 ∷ [] = search rules in
+    record {
+      prefix = sym c.into_iter-happening-iterator.ensures.into_iter_gives.0;
+      run = λ first rest served.
+          let s = c.start-machine.ensures first rest served in
+          (c.start-machine.result.1 ∷ [], s.0, pushed, (s.0, s.1, refl), s.2);
+    }
+
+pub loop-happening-preserved : goal.loop-happening-preserved
+loop-happening-preserved g c =
+    let i = c.loop-happening.invariant in
+    let pushed : c.push-in-loop-happening.new.self.items ≡ c.loop-happening.outputs.items ++ c.happen-next.result.1 ∷ [] = search rules in
+    record {
+      prefix = one_more _ _ _ _ _ i.prefix c.in-Some.ensures.steps.0;
+      run = λ first rest served.
+          let r = i.run first rest served in
+          let s = c.happen-next.ensures r.1 r.4 in
+          let start : Life = record { up = false; state = first } in (
+            r.0 ++ c.happen-next.result.1 ∷ [],
+            s.0,
+            one_added c.args.outputs.now.items c.loop-happening.outputs.items _ r.0 c.happen-next.result.1 r.2 pushed,
+            AllowedRun-push start (happening.Crash ∷ c.loop-happening.yielded) r.0 r.1 c.in-Some.happening c.happen-next.result.1 s.0 r.3 s.1,
+            s.2,
+          );
+    }
+
+pub returns-in_err-reserve : goal.returns-in_err-reserve
+returns-in_err-reserve g c = λ first rest served.
+    let start : Life = record { up = false; state = first } in
+    record {
+      answers = [];
+      last = start;
+      added = none_added c.args.outputs.now.items _ c.reserve.ensures.items;
+      run = refl;
+      whole = search rules;
+      accounts = λ at_start. life_accounts start [] [] start refl at_start;
+    }
+
+pub returns-in_err-reserve-2 : goal.returns-in_err-reserve-2
+returns-in_err-reserve-2 g c = λ first rest served.
+    let i = c.loop-happening.invariant in
+    let r = i.run first rest served in
+    let start : Life = record { up = false; state = first } in
+    let worked = happening.Crash ∷ c.loop-happening.yielded in
+    let run = front_run start (happening.Crash ∷ c.args.happenings.items) worked c.loop-happening.happening-iterator.rest.items r.0 r.1 (ap (λ (hs : List Happening). happening.Crash ∷ hs) i.prefix) r.3 in
+    record {
+      answers = r.0;
+      last = r.1;
+      added = none_more c.args.outputs.now.items r.0 c.loop-happening.outputs.items _ c.reserve-in-loop-happening.ensures.items r.2;
+      run = run;
+      whole = search rules;
+      accounts = λ at_start. life_accounts start _ r.0 r.1 run at_start;
+    }
+
+pub returns : goal.returns
+returns g c = λ first rest served.
+    let i = c.loop-happening.invariant in
+    let r = i.run first rest served in
+    let start : Life = record { up = false; state = first } in
+    let it = c.loop-happening.happening-iterator.rest in
+    let worked = happening.Crash ∷ c.loop-happening.yielded in
+    let run = front_run start (happening.Crash ∷ c.args.happenings.items) worked it.items r.0 r.1 (ap (λ (hs : List Happening). happening.Crash ∷ hs) i.prefix) r.3 in
+    let z : it.items ≡ [] = length_nil _ it.ok.0 c.in-None.ensures.steps.0 in
+    let e : c.loop-happening.yielded ≡ c.args.happenings.items = all_worked c.args.happenings.items c.loop-happening.yielded it.items i.prefix z in
+    record {
+      answers = r.0;
+      last = r.1;
+      added = r.2;
+      run = run;
+      whole = (worked_length start c.loop-happening.yielded c.args.happenings.items r.0 r.1 happening.Crash e r.3, r.4);
+      accounts = λ at_start. life_accounts start _ r.0 r.1 run at_start;
+    }

@@ -1,0 +1,133 @@
+// A node that is driven through events and crashes.
+ghost use Rattle.std.specs.Prelude.{◌≡◌, ◌<◌, ◌≤◌, ◌++◌, ◌∷◌, List, ℕ, IfOk, OnOk, false, length, take};
+ghost use Rattle.node.specs.State.{State};
+ghost use Rattle.node.specs.Standing.{AtRest};
+ghost use Rattle.node.specs.Driving.{Holds, IsServed, StatusOf, Drove};
+ghost use Rattle.node.specs.Runs.{Life, OpeningStep, HappeningStep};
+ghost use Rattle.node.specs.declared.event.Happening.TheVariants as happening;
+
+use crate::event::{Event, Happening, Output, Verdict};
+use crate::node::{Node, only};
+use crate::status::TopicStatus;
+use cursor_store::SubStore;
+use disk::{CrashShelf, Fuse};
+use managed_ledger::EntryStore;
+use std::alloc::{AllocError, Global};
+use topic_core::{Stores, TopicStores};
+
+/// A machine: its node where that works, or its device alone where the node is down.
+#[derive(Drop)]
+pub enum Machine<E: EntryStore, C: SubStore, S> {
+    Up(Node<E, C, S>),
+    Down(S),
+}
+
+impl<E: EntryStore, C: SubStore, S: CrashShelf + Drop> Machine<E, C, S> {
+    /// The power comes, and the node is opened. The output has no bytes.
+    pub fn start(alloc: Global, per_ledger: u32, shelf: S) -> (Machine<E, C, S>, Output)
+        requires numbered { 1 ≤ per_ledger }
+        ensures { (old : State) → AtRest E.stands C.stands old (S.disk shelf) → IsServed per_ledger old →
+            (life : Life) × OpeningStep old result.1 life × Holds S.disk per_ledger result.0 life }
+    {
+        match Node::open(alloc, per_ledger, shelf) {
+            Ok(node) => (Machine::Up(node), only(alloc, Verdict::Done)),
+            Err((why, shelf)) => (Machine::Down(shelf), only(alloc, Verdict::Refused(why))),
+        }
+    }
+
+    /// The device alone, with what the node wrote.
+    pub fn into_shelf(self) -> S
+        ensures { (per_ledger : ℕ) (life : Life) → Holds S.disk per_ledger self life → AtRest E.stands C.stands life.state (S.disk result) }
+    {
+        match self {
+            Machine::Up(node) => node.into_shelf(),
+            Machine::Down(shelf) => shelf,
+        }
+    }
+
+    /// The power is cut, and comes again.
+    pub fn crash(self, alloc: Global, per_ledger: u32) -> (Machine<E, C, S>, Output)
+        requires numbered { 1 ≤ per_ledger }
+        ensures { (old : Life) → Holds S.disk per_ledger self old →
+            (new : Life) × HappeningStep old (happening.Crash) result.1 new × Holds S.disk per_ledger result.0 new }
+    {
+        let mut shelf = self.into_shelf();
+        shelf.crash();
+        Machine::start(alloc, per_ledger, shelf)
+    }
+
+    /// Works an event. A node that is down knows no session and no topic.
+    pub fn event(&mut self, alloc: Global, event: Event) -> Output
+        ensures { (per_ledger : ℕ) (old : Life) → Holds S.disk per_ledger self.old old →
+            (new : Life) × HappeningStep old (happening.Event event) result new × Holds S.disk per_ledger self.new new }
+    {
+        match self {
+            Machine::Up(node) => node.step(event),
+            Machine::Down(_) => only(alloc, Verdict::Unknown),
+        }
+    }
+
+    /// Lays a fuse for a failure of the device beside those laid before. Where there is no memory for it, no fuse is laid.
+    pub fn arm(&mut self, fuse: Fuse) -> Result<(), AllocError>
+        ensures { (per_ledger : ℕ) (life : Life) → Holds S.disk per_ledger self.old life → Holds S.disk per_ledger self.new life }
+    {
+        match self {
+            Machine::Up(node) => node.topics.shelf.arm(fuse),
+            Machine::Down(shelf) => shelf.arm(fuse),
+        }
+    }
+
+    /// What the topic has. A node that is down tells nothing.
+    pub fn status(&self) -> Option<TopicStatus>
+        ensures { (per_ledger : ℕ) (life : Life) → Holds S.disk per_ledger self.now life → StatusOf life.up life.state result }
+    {
+        match self {
+            Machine::Up(node) => Some(node.status()),
+            Machine::Down(_) => None,
+        }
+    }
+
+    /// An event, or the power is cut and comes again.
+    fn happen(
+        mut self,
+        alloc: Global,
+        per_ledger: u32,
+        happening: Happening,
+    ) -> (Machine<E, C, S>, Output)
+        requires numbered { 1 ≤ per_ledger }
+        ensures { (old : Life) → Holds S.disk per_ledger self old →
+            (new : Life) × HappeningStep old happening result.1 new × Holds S.disk per_ledger result.0 new }
+    {
+        match happening {
+            Happening::Event(event) => {
+                let output = self.event(alloc, event);
+                (self, output)
+            }
+            Happening::Crash => self.crash(alloc, per_ledger),
+        }
+    }
+}
+
+/// Opens the node that the device holds, and works through events and crashes, one output each after that of the opening.
+pub fn drive<E: EntryStore, C: SubStore, S: CrashShelf + Drop>(
+    alloc: Global,
+    per_ledger: u32,
+    shelf: S,
+    happenings: Vec<Happening>,
+    outputs: &mut Vec<Output>,
+) -> Result<Machine<E, C, S>, AllocError>
+    requires numbered { 1 ≤ per_ledger }
+    ensures { (first : State) → AtRest E.stands C.stands first (S.disk shelf) → IsServed per_ledger first →
+        Drove S.disk per_ledger first happenings.items outputs.old.items result outputs.new.items }
+{
+    outputs.reserve(1)?;
+    let (mut machine, output) = Machine::start(alloc, per_ledger, shelf);
+    outputs.push(output).unwrap();
+    for happening in happenings {
+        outputs.reserve(1)?;
+        let (next, output) = machine.happen(alloc, per_ledger, happening);
+        machine = next;
+        outputs.push(output).unwrap();
+    }
+    Ok(machine)
+}

@@ -1,0 +1,25 @@
+use Rattle.std.proofs.Common.{◌≡◌, ◌+◌, ◌≤◌, ◌++◌, ℕ, List, length}
+use Rattle.std.specs.Io.KnownBytes.{Appends}
+use Rattle.std.specs.Vec.Iter.{into_iter_items}
+use Rattle.disk_mem.specs.Device.{disk_of}
+use Rattle.node.specs.Runs.{Life}
+use Rattle.node.specs.Driving.{Holds}
+use Rattle.pulsar_node.specs.Replay.{Prints}
+use Rattle.pulsar_node.proofs.working.Replay.work_lines.Given as goal
+
+-- the lines so far were worked, and what they print was written
+abbrev pub invariant-loop-line : goal.invariant-loop-line
+invariant-loop-line g l = record {
+  starts : (goal.iterator-loop-line g).can_next l.line-iterator;
+  ends : (goal.iterator-loop-line g).is_finite l.line-iterator;
+  all : l.yielded ++ into_iter_items l.line-iterator ≡ l.fn.lines.items;
+  line : l.self.line ≡ length l.yielded + 1;
+  numbered : 1 ≤ l.self.per_ledger;
+  worked :
+      (old : Life) → Holds disk_of l.fn.self.per_ledger l.fn.self.machine old
+      → (text : List ℕ)
+      × (mid : Life)
+      × Prints 2 old l.yielded text mid
+      × Holds disk_of l.self.per_ledger l.self.machine mid
+      × Appends (g.W.Write.contents l.fn.writer) (g.W.Write.contents l.writer) text;
+}

@@ -1,0 +1,8 @@
+use Rattle.std.proofs.Common.{◌≡◌, [], rules}
+use Rattle.subscriptions.proofs.Sound.{sound_opened}
+use Rattle.subscriptions.proofs.subscription.Subscription.opened.Goals as goal
+
+pub invariant_of-result : goal.invariant_of-result
+invariant_of-result c =
+    let nobody : c.new.result.items ≡ [] = search rules in
+    rw (nobody, c.opened.ensures.acked, c.opened.ensures.deliveries) (sound_opened c.args.name c.args.acked)

@@ -1,0 +1,49 @@
+-- What a crash leaves of a topic, and what an opening makes of a failed one.
+use Rattle.std.specs.Prelude.{◌≡◌, ◌⊎◌, ℕ, Bool, true, false, Result, Ok, Err, List, ◌++◌, length}
+use Rattle.gated_log.specs.declared.refusal.Refusal.{Refusal}
+use Rattle.gated_log.specs.declared.refusal.Refusal.TheVariants as refusal
+use Rattle.records.specs.Maps.{Kept}
+use Rattle.records.specs.Records.{after_all}
+use Rattle.topic_core.specs.Core.{Core, Topic, opened, entries_in_doubt, changes_in_doubt}
+
+-- the ledger with all entries in doubt, and the durable subscriptions with all changes in doubt
+abbrev pub longer : Topic → List (List ℕ)
+longer t = t.ledger ++ entries_in_doubt t.core
+
+abbrev pub changed : Topic → Kept
+changed t = after_all (changes_in_doubt t.core) t.kept
+
+-- A crash leaves this ledger and these durable subscriptions: the old ones, or the ledger has the entries in doubt too, or
+-- both have what is in doubt. Changes come only where the entries came.
+abbrev pub IsLeft : Topic → List (List ℕ) → Kept → Type 0
+IsLeft old ledger kept =
+    ((ledger ≡ old.ledger) × (kept ≡ old.kept))
+    ⊎ (((ledger ≡ longer old) × (kept ≡ old.kept))
+    ⊎ ((ledger ≡ longer old) × (kept ≡ changed old)))
+
+-- what a crash leaves of a topic: its ledger and its durable subscriptions, just opened
+pub record TopicCrash (old new : Topic) : Type 0 where
+  pub left : IsLeft old new.ledger new.kept
+  pub core : new.core ≡ opened old.core.per_ledger (length new.ledger) new.kept
+
+-- a failed topic that was opened again: what it owes and what it counted stay
+abbrev pub reopened : Core → ℕ → Kept → Core
+reopened t committed kept = record (opened t.per_ledger committed kept) { accepted = t.accepted; handed = t.handed; queues = t.queues }
+
+-- the opening of a failed topic: a crash's outcome, or it is refused and the topic stays as it was
+abbrev pub ReopenEnds : Topic → Result (Unit {0}) Refusal → Topic → Type 0
+ReopenEnds old (Ok done) new = IsLeft old new.ledger new.kept × (new.core ≡ reopened old.core (length new.ledger) new.kept)
+ReopenEnds old (Err refusal.NoMemory) new = new ≡ old
+ReopenEnds old (Err refusal.Device) new = new ≡ old
+ReopenEnds old (Err (refusal.Damaged file offset)) new = ⊥
+ReopenEnds old (Err refusal.NotInitialised) new = ⊥
+ReopenEnds old (Err refusal.Version) new = ⊥
+ReopenEnds old (Err refusal.TooLarge) new = ⊥
+
+-- of a topic that didn't fail an opening changes nothing
+abbrev pub ReopenIn : Bool → Topic → Result (Unit {0}) Refusal → Topic → Type 0
+ReopenIn true old result new = ReopenEnds old result new
+ReopenIn false old result new = (result ≡ Ok tt) × (new ≡ old)
+
+abbrev pub ReopenStep : Topic → Result (Unit {0}) Refusal → Topic → Type 0
+ReopenStep old result new = ReopenIn old.core.failed old result new
