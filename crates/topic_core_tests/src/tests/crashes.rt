@@ -4,6 +4,7 @@ ghost use Rattle.std.specs.Prelude.{◌<◌};
 use super::Topic;
 use super::failures::{failed, left, waiting};
 use disk::{CrashForm, CrashShelf, Fuse};
+use gated_log::Refusal;
 use std::alloc::Global;
 use std::test::Fail;
 
@@ -30,7 +31,7 @@ fn after(alloc: Global, per_ledger: u32, form: CrashForm, fuse: Fuse) -> Result<
     found(alloc, topic, per_ledger)
 }
 
-// For each call of a flush what is found after a stop or a failure there. The calls are the write of the entries' batch, its
+// For each call of a flush what is found after a stop or a failure there, which is the same but where memory is refused inside the device. The calls are the write of the entries' batch, its
 // sync, the write of its gate, and its sync, and the same for the changes.
 fn afters(alloc: Global, form: CrashForm) -> Result<[(u64, bool); 8], Fail> {
     let mut all = [(0, false); 8];
@@ -38,7 +39,7 @@ fn afters(alloc: Global, form: CrashForm) -> Result<[(u64, bool); 8], Fail> {
         let stopped = after(alloc, 1000, form, Fuse::Stop(call as u64 + 1))?;
         let failed_once = after(alloc, 1000, form, Fuse::Fail(call as u64 + 1))?;
         if stopped != failed_once {
-            return Err(Fail::new("a failure leaves something else than a stop"));
+            return Err(Fail::from(Refusal::Device));
         }
         all[call] = stopped;
     }

@@ -208,11 +208,12 @@ fn reopen_again(topic: &mut Topic) -> Result<(), Fail>
     requires { AreMatched topic.old.core topic.old.stores }
     ensures { AreMatched topic.new.core topic.new.stores }
 {
+    let before = topic.counts();
     let first = topic.reopen();
     if first != Err(Refusal::NoMemory) {
         return Ok(first?);
     }
-    if !topic.core.is_failed() || topic.counts() != (1, 1) {
+    if !topic.core.is_failed() || topic.counts() != before {
         return Err(Fail::new("want of memory changed the topic"));
     }
     Ok(topic.reopen()?)
