@@ -88,6 +88,10 @@ fn assert_front(rt: &(impl Abort + AllocGlobal), room: usize) -> Result<(), Prog
     if tells_no_memory(lines.as_slice()) {
         return Err(ProgramFault::NoMemory);
     }
+    // A growth that is refused inside the machine's own device is a failure of it, too.
+    if room > 0 && lines.as_slice().is_empty() {
+        return Err(ProgramFault::Device);
+    }
     assert_eq!(rt; Some(lines.as_slice()), LINES.get(..room));
     Ok(())
 }
