@@ -5,12 +5,12 @@ use Rattle.commands.specs.declared.fault.CommandFault.{CommandFault}
 use Rattle.commands.specs.declared.command.Command.{Command}
 use Rattle.commands.specs.declared.command.Command.TheVariants as command
 use Rattle.commands.specs.declared.command.CommandType.{CommandType}
-use Rattle.commands.specs.declared.command.CommandType.TheVariants.{Connect, Subscribe, Producer, Send, Ack, Flow, Ping, Pong}
+use Rattle.commands.specs.declared.command.CommandType.TheVariants.{Connect, Subscribe, Producer, Send, Ack, Flow, Unsubscribe, CloseProducer, Ping, Pong}
 use Rattle.commands.specs.Reading.{◌>>=◌, required, present}
 use Rattle.commands.specs.Message.{message_fields, u64_field, message_field}
 use Rattle.commands.specs.Connection.{connect_of, empty_of}
-use Rattle.commands.specs.Producing.{producer_of, send_of}
-use Rattle.commands.specs.Consuming.{subscribe_of, ack_of, flow_of}
+use Rattle.commands.specs.Producing.{producer_of, send_of, close_producer_of}
+use Rattle.commands.specs.Consuming.{subscribe_of, ack_of, flow_of, unsubscribe_of}
 pub use Rattle.commands.specs.Metadata.{size_at, entry_of}
 
 -- the client commands by their numbers
@@ -22,6 +22,8 @@ command_type k =
     else if k == 6 then Some Send
     else if k == 10 then Some Ack
     else if k == 11 then Some Flow
+    else if k == 12 then Some Unsubscribe
+    else if k == 15 then Some CloseProducer
     else if k == 18 then Some Ping
     else if k == 19 then Some Pong
     else None
@@ -34,6 +36,8 @@ command_in Producer body = producer_of body >>= λ c. Ok (command.Producer c)
 command_in Send body = send_of body >>= λ c. Ok (command.Send c)
 command_in Ack body = ack_of body >>= λ c. Ok (command.Ack c)
 command_in Flow body = flow_of body >>= λ c. Ok (command.Flow c)
+command_in Unsubscribe body = unsubscribe_of body >>= λ c. Ok (command.Unsubscribe c)
+command_in CloseProducer body = close_producer_of body >>= λ c. Ok (command.CloseProducer c)
 command_in Ping body = empty_of body >>= λ c. Ok command.Ping
 command_in Pong body = empty_of body >>= λ c. Ok command.Pong
 

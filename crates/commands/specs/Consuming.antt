@@ -11,6 +11,7 @@ use Rattle.commands.specs.declared.consuming.AckType.{AckType}
 use Rattle.commands.specs.declared.consuming.AckType.TheVariants.{Individual, Cumulative}
 use Rattle.commands.specs.declared.consuming.Ack.{Ack}
 use Rattle.commands.specs.declared.consuming.Flow.{Flow}
+use Rattle.commands.specs.declared.consuming.Unsubscribe.{Unsubscribe}
 use Rattle.commands.specs.Reading.{◌>>=◌, required}
 use Rattle.commands.specs.Message.{message_fields, u64_field, u32_field, bool_field, text_field, message_value_field, repeated_field}
 use Rattle.commands.specs.MessageIds.{message_id_of}
@@ -73,3 +74,10 @@ flow_of bytes = do
   consumer_id ← u64_field 1 fields >>= required
   message_permits ← u32_field 2 fields >>= required
   Ok (record { consumer_id = consumer_id; message_permits = message_permits })
+
+unfoldable pub unsubscribe_of : List ℕ → Result Unsubscribe CommandFault
+unsubscribe_of bytes = do
+  fields ← message_fields bytes
+  consumer_id ← u64_field 1 fields >>= required
+  request_id ← u64_field 2 fields >>= required
+  Ok (record { consumer_id = consumer_id; request_id = request_id })

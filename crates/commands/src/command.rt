@@ -3,11 +3,15 @@ ghost use Rattle.commands.specs.Reading.{Reads};
 ghost use Rattle.commands.specs.Commands.{command_type, command_in, command_of};
 
 use crate::connection::{Connect, read_connect, read_empty};
-use crate::consuming::{Ack, Flow, Subscribe, read_ack, read_flow, read_subscribe};
+use crate::consuming::{
+    Ack, Flow, Subscribe, Unsubscribe, read_ack, read_flow, read_subscribe, read_unsubscribe,
+};
 use crate::fault::CommandFault;
 use crate::kinds::required;
 use crate::message::Message;
-use crate::producing::{Producer, Send, read_producer, read_send};
+use crate::producing::{
+    CloseProducer, Producer, Send, read_close_producer, read_producer, read_send,
+};
 use std::alloc::Global;
 
 /// What a client says.
@@ -19,6 +23,8 @@ pub enum Command {
     Send(Send),
     Ack(Ack),
     Flow(Flow),
+    Unsubscribe(Unsubscribe),
+    CloseProducer(CloseProducer),
     Ping,
     Pong,
     /// A command of another type, of which nothing but the type is read.
@@ -34,6 +40,8 @@ enum CommandType {
     Send,
     Ack,
     Flow,
+    Unsubscribe,
+    CloseProducer,
     Ping,
     Pong,
 }
@@ -48,6 +56,8 @@ fn command_type(number: u64) -> Option<CommandType>
         6 => Some(CommandType::Send),
         10 => Some(CommandType::Ack),
         11 => Some(CommandType::Flow),
+        12 => Some(CommandType::Unsubscribe),
+        15 => Some(CommandType::CloseProducer),
         18 => Some(CommandType::Ping),
         19 => Some(CommandType::Pong),
         _ => None,
@@ -65,6 +75,8 @@ fn read_body(alloc: Global, kind: CommandType, body: &[u8]) -> Result<Command, C
         CommandType::Send => Ok(Command::Send(read_send(body)?)),
         CommandType::Ack => Ok(Command::Ack(read_ack(alloc, body)?)),
         CommandType::Flow => Ok(Command::Flow(read_flow(body)?)),
+        CommandType::Unsubscribe => Ok(Command::Unsubscribe(read_unsubscribe(body)?)),
+        CommandType::CloseProducer => Ok(Command::CloseProducer(read_close_producer(body)?)),
         CommandType::Ping => {
             read_empty(body)?;
             Ok(Command::Ping)

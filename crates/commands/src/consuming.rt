@@ -1,6 +1,6 @@
 ghost use Rattle.std.specs.Prelude.{◌≡◌};
 ghost use Rattle.commands.specs.Reading.{Reads};
-ghost use Rattle.commands.specs.Consuming.{subscription_type, initial_position, ack_type, subscribe_of, ack_of, flow_of};
+ghost use Rattle.commands.specs.Consuming.{subscription_type, initial_position, ack_type, subscribe_of, ack_of, flow_of, unsubscribe_of};
 
 use crate::fault::CommandFault;
 use crate::key_shared::{KeySharedMeta, read_key_shared_meta_field};
@@ -65,6 +65,13 @@ pub struct Ack {
 pub struct Flow {
     pub consumer_id: u64,
     pub message_permits: u32,
+}
+
+/// A client removes the subscription of a consumer (PulsarApi.proto, CommandUnsubscribe).
+#[derive(Clone, Copy, Debug, PartialEq, Eq)]
+pub struct Unsubscribe {
+    pub consumer_id: u64,
+    pub request_id: u64,
 }
 
 fn subscription_type(number: u64) -> Result<SubscriptionType, CommandFault>
@@ -138,5 +145,16 @@ pub fn read_flow(bytes: &[u8]) -> Result<Flow, CommandFault>
     Ok(Flow {
         consumer_id: required(message.u64(1)?)?,
         message_permits: required(message.u32(2)?)?,
+    })
+}
+
+#[tactic(auto, unfolding(crate::specs::Consuming::unsubscribe_of))]
+pub fn read_unsubscribe(bytes: &[u8]) -> Result<Unsubscribe, CommandFault>
+    ensures { result ≡ unsubscribe_of bytes.now }
+{
+    let message = Message::read(bytes)?;
+    Ok(Unsubscribe {
+        consumer_id: required(message.u64(1)?)?,
+        request_id: required(message.u64(2)?)?,
     })
 }

@@ -24,13 +24,15 @@ mod writing;
 
 pub use command::{Command, read_command};
 pub use connection::Connect;
-pub use consuming::{Ack, AckType, Flow, InitialPosition, Subscribe, SubscriptionType};
+pub use consuming::{
+    Ack, AckType, Flow, InitialPosition, Subscribe, SubscriptionType, Unsubscribe,
+};
 pub use fault::CommandFault;
 pub use ids::{MessageId, MessageIdData};
 pub use key_shared::{IntRange, KeySharedMeta, KeySharedMode};
 pub use laws::{reads_commands, reads_entries, reads_occurrences, spells_fields, tells_replies};
 pub use metadata::{MessageMeta, read_entry, read_meta, size_at};
-pub use producing::{Producer, Send};
+pub use producing::{CloseProducer, Producer, Send};
 pub use reply::Reply;
 pub use reply_text::ReplyText;
 pub use sequence::Sequence;

@@ -1,6 +1,6 @@
 ghost use Rattle.std.specs.Prelude.{◌≡◌};
 ghost use Rattle.commands.specs.Reading.{Reads};
-ghost use Rattle.commands.specs.Producing.{producer_of, send_of};
+ghost use Rattle.commands.specs.Producing.{producer_of, send_of, close_producer_of};
 
 use crate::fault::CommandFault;
 use crate::kinds::required;
@@ -25,6 +25,13 @@ pub struct Send {
     pub num_messages: i32,
 }
 
+/// A client closes a producer (PulsarApi.proto, CommandCloseProducer).
+#[derive(Clone, Copy, Debug, PartialEq, Eq)]
+pub struct CloseProducer {
+    pub producer_id: u64,
+    pub request_id: u64,
+}
+
 #[tactic(auto, unfolding(crate::specs::Producing::producer_of))]
 pub fn read_producer(alloc: Global, bytes: &[u8]) -> Result<Producer, CommandFault>
     ensures { Reads result (producer_of bytes.now) }
@@ -47,5 +54,16 @@ pub fn read_send(bytes: &[u8]) -> Result<Send, CommandFault>
         producer_id: required(message.u64(1)?)?,
         sequence_id: required(message.u64(2)?)?,
         num_messages: message.i32(3)?.unwrap_or(1),
+    })
+}
+
+#[tactic(auto, unfolding(crate::specs::Producing::close_producer_of))]
+pub fn read_close_producer(bytes: &[u8]) -> Result<CloseProducer, CommandFault>
+    ensures { result ≡ close_producer_of bytes.now }
+{
+    let message = Message::read(bytes)?;
+    Ok(CloseProducer {
+        producer_id: required(message.u64(1)?)?,
+        request_id: required(message.u64(2)?)?,
     })
 }

@@ -2,9 +2,9 @@ mod consuming;
 mod plain;
 
 use commands::{
-    Ack, Command, CommandFault, Connect, Flow, MessageId, MessageMeta, Producer, Reply, ReplyText,
-    Send, Sequence, ServerError, Subscribe, Text, read_command, read_entry, read_meta, size_at,
-    write_reply,
+    Ack, CloseProducer, Command, CommandFault, Connect, Flow, MessageId, MessageMeta, Producer,
+    Reply, ReplyText, Send, Sequence, ServerError, Subscribe, Text, read_command, read_entry,
+    read_meta, size_at, write_reply,
 };
 use std::alloc::{AllocError, Global};
 use std::test::Fail;
@@ -71,6 +71,8 @@ fn is_connect(
         | Command::Send(_)
         | Command::Ack(_)
         | Command::Flow(_)
+        | Command::Unsubscribe(_)
+        | Command::CloseProducer(_)
         | Command::Ping
         | Command::Pong
         | Command::Other(_) => { Ok(false) }
@@ -85,6 +87,24 @@ fn sent(alloc: Global, text: &str) -> Result<Option<(u64, u64, i32)>, CommandFau
         | Command::Producer(_)
         | Command::Ack(_)
         | Command::Flow(_)
+        | Command::Unsubscribe(_)
+        | Command::CloseProducer(_)
+        | Command::Ping
+        | Command::Pong
+        | Command::Other(_) => { Ok(None) }
+    }
+}
+
+fn closed(alloc: Global, text: &str) -> Result<Option<CloseProducer>, CommandFault> {
+    match command_of(alloc, text)? {
+        Command::CloseProducer(close) => Ok(Some(close)),
+        Command::Connect(_)
+        | Command::Subscribe(_)
+        | Command::Producer(_)
+        | Command::Send(_)
+        | Command::Ack(_)
+        | Command::Flow(_)
+        | Command::Unsubscribe(_)
         | Command::Ping
         | Command::Pong
         | Command::Other(_) => { Ok(None) }
@@ -102,7 +122,9 @@ fn kind(alloc: Global, text: &str) -> Result<Option<u64>, CommandFault> {
         | Command::Producer(_)
         | Command::Send(_)
         | Command::Ack(_)
-        | Command::Flow(_) => { Ok(None) }
+        | Command::Flow(_)
+        | Command::Unsubscribe(_)
+        | Command::CloseProducer(_) => { Ok(None) }
     }
 }
 
@@ -124,6 +146,8 @@ fn is_producer(
         | Command::Send(_)
         | Command::Ack(_)
         | Command::Flow(_)
+        | Command::Unsubscribe(_)
+        | Command::CloseProducer(_)
         | Command::Ping
         | Command::Pong
         | Command::Other(_) => { Ok(false) }
@@ -180,8 +204,8 @@ fn types(rt: HostRuntime) -> Result<(), Fail> {
         kind(alloc, "08 ff ff ff ff ff ff ff ff ff 01")?,
         Some(u64::MAX)
     );
-    let unsubscribe = "08 0c 62 04 08 02 10 08";
-    assert_eq!(rt; kind(alloc, unsubscribe)?, Some(12));
+    let close_consumer = "08 10 82 01 04 08 02 10 08";
+    assert_eq!(rt; kind(alloc, close_consumer)?, Some(16));
     Ok(())
 }
 
@@ -231,6 +255,8 @@ fn unreadable(rt: HostRuntime) -> Result<(), Fail> {
         ("08 02 12 03 0a 01 ff", "no UTF-8"),
         ("08 02 12 02 20 05", "no client version"),
         ("08 06 32 02 08 01", "no sequence id"),
+        ("08 0f 7a 02 08 01", "no request to close"),
+        ("08 0f 7a 02 10 08", "no producer to close"),
         (
             "08 06 32 0f 08 01 10 00 18 ff ff ff ff f7 ff ff ff ff 01",
             "below the least number",
@@ -246,6 +272,27 @@ fn unreadable(rt: HostRuntime) -> Result<(), Fail> {
             Some(CommandFault::Unreadable),
             "{why}"
         );
+    }
+    Ok(())
+}
+
+#[test]
+fn closes(rt: HostRuntime) -> Result<(), Fail> {
+    let rows = [
+        ("08 0f 7a 04 08 01 10 08", 1, 8),
+        ("7a 02 08 01 08 0f 7a 02 10 08", 1, 8),
+        (
+            "08 0f 7a 0d 08 00 10 ff ff ff ff ff ff ff ff ff 01",
+            0,
+            u64::MAX,
+        ),
+    ];
+    for (text, producer_id, request_id) in rows {
+        let close = CloseProducer {
+            producer_id,
+            request_id,
+        };
+        assert_eq!(rt; closed(rt.alloc(), text)?, Some(close), "{text}");
     }
     Ok(())
 }

@@ -5,7 +5,7 @@ use Rattle.std.proofs.lemmas.List.{take-append-drop, length-take-le}
 use Rattle.std.proofs.Math.Seq.{take-append_seam, drop-append_seam}
 use Rattle.std.specs.Int.{w32, from_be_bytes}
 use Rattle.commands.specs.declared.command.Command.{Command}
-use Rattle.commands.specs.declared.command.Command.TheVariants.{Connect, Subscribe, Producer, Send, Ack, Flow, Ping, Pong, Other}
+use Rattle.commands.specs.declared.command.Command.TheVariants.{Connect, Subscribe, Producer, Send, Ack, Flow, Unsubscribe, CloseProducer, Ping, Pong, Other}
 use Rattle.commands.specs.declared.metadata.MessageMeta.{MessageMeta}
 use Rattle.commands.specs.declared.fault.CommandFault.{CommandFault}
 use Rattle.commands.specs.Metadata.{size_at, entry_of}
@@ -195,6 +195,8 @@ entry-from (Subscribe c) bytes entry h = nothing-from bytes entry h
 entry-from (Producer c) bytes entry h = nothing-from bytes entry h
 entry-from (Ack c) bytes entry h = nothing-from bytes entry h
 entry-from (Flow c) bytes entry h = nothing-from bytes entry h
+entry-from (Unsubscribe c) bytes entry h = nothing-from bytes entry h
+entry-from (CloseProducer c) bytes entry h = nothing-from bytes entry h
 entry-from Ping bytes entry h = nothing-from bytes entry h
 entry-from Pong bytes entry h = nothing-from bytes entry h
 
@@ -208,6 +210,8 @@ entry-to (Subscribe c) bytes entry h = nothing-to bytes entry h
 entry-to (Producer c) bytes entry h = nothing-to bytes entry h
 entry-to (Ack c) bytes entry h = nothing-to bytes entry h
 entry-to (Flow c) bytes entry h = nothing-to bytes entry h
+entry-to (Unsubscribe c) bytes entry h = nothing-to bytes entry h
+entry-to (CloseProducer c) bytes entry h = nothing-to bytes entry h
 entry-to Ping bytes entry h = nothing-to bytes entry h
 entry-to Pong bytes entry h = nothing-to bytes entry h
 
@@ -221,5 +225,7 @@ entry-fault (Subscribe c) bytes fault h = nothing-fault bytes fault h
 entry-fault (Producer c) bytes fault h = nothing-fault bytes fault h
 entry-fault (Ack c) bytes fault h = nothing-fault bytes fault h
 entry-fault (Flow c) bytes fault h = nothing-fault bytes fault h
+entry-fault (Unsubscribe c) bytes fault h = nothing-fault bytes fault h
+entry-fault (CloseProducer c) bytes fault h = nothing-fault bytes fault h
 entry-fault Ping bytes fault h = nothing-fault bytes fault h
 entry-fault Pong bytes fault h = nothing-fault bytes fault h

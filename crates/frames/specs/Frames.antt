@@ -2,7 +2,7 @@
 use Rattle.std.specs.Prelude.{◌≡◌, ◌≤◌, ℕ, ◌+◌, List, [], ◌∷◌, ◌++◌, length, take, Ok}
 use Rattle.std.specs.Int.{w32, from_be_bytes, to_be_bytes}
 use Rattle.commands.specs.declared.command.Command.{Command}
-use Rattle.commands.specs.declared.command.Command.TheVariants.{Connect, Subscribe, Producer, Send, Ack, Flow, Ping, Pong, Other}
+use Rattle.commands.specs.declared.command.Command.TheVariants.{Connect, Subscribe, Producer, Send, Ack, Flow, Unsubscribe, CloseProducer, Ping, Pong, Other}
 use Rattle.commands.specs.declared.metadata.MessageMeta.{MessageMeta}
 use Rattle.commands.specs.Commands.{command_of}
 use Rattle.commands.specs.Metadata.{meta_of}
@@ -58,6 +58,8 @@ IsEntry (Subscribe c) behind entry = IsNothing behind entry
 IsEntry (Producer c) behind entry = IsNothing behind entry
 IsEntry (Ack c) behind entry = IsNothing behind entry
 IsEntry (Flow c) behind entry = IsNothing behind entry
+IsEntry (Unsubscribe c) behind entry = IsNothing behind entry
+IsEntry (CloseProducer c) behind entry = IsNothing behind entry
 IsEntry Ping behind entry = IsNothing behind entry
 IsEntry Pong behind entry = IsNothing behind entry
 

@@ -113,6 +113,8 @@ fn entry_behind(
         | Command::Producer(_)
         | Command::Ack(_)
         | Command::Flow(_)
+        | Command::Unsubscribe(_)
+        | Command::CloseProducer(_)
         | Command::Ping
         | Command::Pong => nothing(&frame[start..]),
     }

@@ -76,6 +76,8 @@ fn is_connect(frame: &Frame) -> bool {
         | Command::Send(_)
         | Command::Ack(_)
         | Command::Flow(_)
+        | Command::Unsubscribe(_)
+        | Command::CloseProducer(_)
         | Command::Ping
         | Command::Pong
         | Command::Other(_) => false,
@@ -108,6 +110,8 @@ fn is_plain(frame: &Frame, kind: u8, behind: &[u8]) -> bool {
         Command::Send(_) => kind == 6,
         Command::Ack(_) => kind == 10,
         Command::Flow(_) => kind == 11,
+        Command::Unsubscribe(_) => kind == 12,
+        Command::CloseProducer(_) => kind == 15,
         Command::Ping => kind == 18,
         Command::Other(other) => *other == u64::from(kind),
         Command::Producer(_) | Command::Pong => false,
@@ -230,6 +234,34 @@ fn subscribe_flow_and_ack(rt: HostRuntime) -> Result<(), Fail> {
     assert_eq!(rt; read, Ok(()));
     assert_eq!(rt; frames.len(), 3);
     are_plain(&rt, frames.as_slice(), CONSUMER, &[])
+}
+
+#[test]
+fn close_producer_and_unsubscribe(rt: HostRuntime) -> Result<(), Fail> {
+    let stream =
+        b"\x00\x00\x00\x0c\x00\x00\x00\x08\x08\x0f\x7a\x04\x08\x01\x10\x08\x00\x00\x00\x0c\x00\x00\x00\x08\x08\x0c\x62\x04\x08\x02\x10\x08";
+    let (frames, read) = read_both_ways(&rt, rt.alloc(), stream)?;
+    assert_eq!(rt; read, Ok(()));
+    assert_eq!(rt; frames.len(), 2);
+    are_plain(&rt, frames.as_slice(), stream, &[])
+}
+
+#[test]
+fn parts_behind_close_producer_and_unsubscribe(rt: HostRuntime) -> Result<(), Fail> {
+    let alloc = rt.alloc();
+    let fault = Err(Fault::BadPayload);
+    ends(
+        &rt,
+        alloc,
+        b"\x00\x00\x00\x0d\x00\x00\x00\x08\x08\x0f\x7a\x04\x08\x01\x10\x08\x00",
+        fault,
+    )?;
+    ends(
+        &rt,
+        alloc,
+        b"\x00\x00\x00\x0d\x00\x00\x00\x08\x08\x0c\x62\x04\x08\x02\x10\x08\x00",
+        fault,
+    )
 }
 
 #[test]

@@ -17,6 +17,7 @@ use Rattle.node.proofs.Sound.{moves_sound, fresh_broker_sound}
 use Rattle.node.proofs.Covering.{moves_covered}
 use Rattle.node.proofs.Finding.{moves_found, moves_publish}
 use Rattle.node.proofs.Delivering.{moves_delivered}
+use Rattle.node.proofs.Promising.{word_kept}
 use Rattle.node.proofs.Unfolding.{life_unfolds}
 
 fresh_quiet : (n : ℕ) → IsQuiet (fresh n)
@@ -39,6 +40,7 @@ account t told u course sound quiet = record {
   covered = λ (none : AllByRecursion (λ move. is_crash move ≡ false) course.moves).
       subst (λ (hs : List Handed). receipts_told hs + receipts_due u.core.queues ≤ length u.ledger) (sym course.tells) (moves_covered t course.moves u course.steps none sound);
   found = subst (λ (hs : List Handed). FindsEach (sends_by t course.moves u course.steps) u.ledger hs) (sym course.tells) (moves_found t course.moves u course.steps quiet);
+  word = word_kept t course.moves u course.steps quiet sound;
   delivered = subst (λ (hs : List Handed). DeliversEach t course.moves u.ledger hs) (sym course.tells) (moves_delivered t course.moves u course.steps quiet);
 }
 

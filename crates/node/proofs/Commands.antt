@@ -10,6 +10,8 @@ use Rattle.topic_core.specs.declared.command.Send.{Send}
 use Rattle.topic_core.specs.declared.command.TopicCommand.TheVariants as asked
 use Rattle.topic_core.specs.declared.command.Subscribe.{Subscribe}
 use Rattle.topic_core.specs.declared.command.Ack.{Ack}
+use Rattle.topic_core.specs.declared.command.CloseProducer.{CloseProducer}
+use Rattle.topic_core.specs.declared.command.Unsubscribe.{Unsubscribe}
 use Rattle.topic_core.specs.Core.{Core}
 use Rattle.reply_queues.specs.Replies.{queued}
 use Rattle.holds.specs.declared.consumer.ConsumerKey.{ConsumerKey}
@@ -17,9 +19,10 @@ use Rattle.subscriptions.specs.State.{Subscriptions}
 use Rattle.subscriptions.specs.Steps as subscriptions
 use Rattle.subscriptions.specs.declared.consumer.TooManyPermits.{TooManyPermits}
 use Rattle.topic_core.specs.Dispatch.{sent}
-use Rattle.topic_core.specs.Steps.{Outcome, GrantStep, key_of, CoreStep, Meets, refused_or, first_standing, producer_refusals, send_refusals, subscribe_refusal, attach_refusal, ack_refusals, ack_refused, ack_accepted, with_producer, accepted, subscribed, bytes_of}
+use Rattle.topic_core.specs.Steps.{Outcome, GrantStep, key_of, CoreStep, Meets, refused_or, first_standing, producer_refusals, send_refusals, subscribe_refusal, attach_refusal, ack_refusals, ack_refused, ack_accepted, close_refusals, closing, unsubscribe_refusal, unsubscribed, with_producer, accepted, subscribed, bytes_of}
 use Rattle.topic_core.proofs.Sends.{takes_entry}
 use Rattle.topic_core.proofs.Subscribing.{accepts}
+use Rattle.topic_core.proofs.Closings.{close-works, unsubscribe-works}
 use Rattle.node.specs.Telling.{IsAtOnce}
 
 not_later : (r : Reply) → Now r ≡ Later → ⊥
@@ -135,6 +138,30 @@ pub ack_core : (a : Answer) (t : Core) (who : ℕ) (ack : Ack) (u : Core) → Co
 ack_core a t who ack u step = awaits_by who _ t a u
     (refused_awaits who (first_standing (ack_refusals t who ack)) (ack_refused ack.consumer_id ack.request_id) t (ack_accepted t who ack ack.request_id)
     (λ none. accepted_awaits ack.request_id t who ack (accepts t who ack none).works))
+    step
+
+-- a reply that is no receipt and no message awaits a flush
+awaits_success : (who request : ℕ) (t u : Core) → u.per_ledger ≡ t.per_ledger → u.committed ≡ t.committed → u.waiting ≡ t.waiting → u.handed ≡ t.handed → u.failed ≡ t.failed
+    → t.failed ≡ false → u.queues ≡ queued who (Success request) t.queues → Awaits who t u
+awaits_success who request t u per_ledger committed waiting handed failed works queues = record {
+  per_ledger = per_ledger;
+  committed = committed;
+  waiting = waiting;
+  handed = handed;
+  failed = failed;
+  queues = inr (Success request, record { no_receipt = refl; no_message = refl }, works, queues);
+}
+
+pub close_core : (a : Answer) (t : Core) (who : ℕ) (close : CloseProducer) (u : Core) → CoreStep t who (asked.CloseProducer close) a u → Awaits who t u
+close_core a t who close u step = awaits_by who _ t a u
+    (refused_awaits who (first_standing (close_refusals t who close)) (λ error. Now (Error close.request_id error)) t (record { answer = Later; core = closing t who close })
+    (λ none. awaits_success who close.request_id t (closing t who close) refl refl refl refl refl (close-works t who close none) refl))
+    step
+
+pub unsubscribe_core : (a : Answer) (t : Core) (who : ℕ) (unsubscribe : Unsubscribe) (u : Core) → CoreStep t who (asked.Unsubscribe unsubscribe) a u → Awaits who t u
+unsubscribe_core a t who unsubscribe u step = awaits_by who _ t a u
+    (refused_awaits who (unsubscribe_refusal t who unsubscribe) (λ error. Now (Error unsubscribe.request_id error)) t (record { answer = Later; core = unsubscribed t who unsubscribe })
+    (λ none. awaits_success who unsubscribe.request_id t (unsubscribed t who unsubscribe) refl refl refl refl refl (unsubscribe-works t who unsubscribe none) refl))
     step
 
 granted_by : (failed : Bool) (who : ℕ) (t : Core) (subs : Subscriptions) → Awaits who t (cond failed t (record t { subs = subs }))

@@ -16,4 +16,10 @@ pub mod Covering
 pub mod Owed
 pub mod Finding
 pub mod Delivering
+pub mod Turns
+pub mod Queues
+pub mod Lasting
+pub mod Holding
+pub mod Accepting
+pub mod Promising
 pub mod Accounts

@@ -7,6 +7,8 @@ use Rattle.commands.specs.declared.producing.Send.{Send as Sent}
 use Rattle.commands.specs.declared.consuming.Subscribe.{Subscribe as Wanted}
 use Rattle.commands.specs.declared.consuming.Ack.{Ack as Acked}
 use Rattle.commands.specs.declared.consuming.Flow.{Flow as Given}
+use Rattle.commands.specs.declared.consuming.Unsubscribe.{Unsubscribe as Unwanted}
+use Rattle.commands.specs.declared.producing.CloseProducer.{CloseProducer as Closed}
 use Rattle.commands.specs.declared.reply.Reply.{Reply}
 use Rattle.commands.specs.declared.reply.Reply.TheVariants as reply
 use Rattle.commands.specs.declared.server_error.ServerError.{ServerError}
@@ -34,7 +36,7 @@ use Rattle.topic_core.proofs.Steps.{step-fits}
 use Rattle.subscriptions.specs.declared.consumer.TooManyPermits.{TooManyPermits}
 use Rattle.session.specs.Broker.{Broker, fresh, topic_at, with_topic, with_core, made, number_of, FindIn, CommandStep, CollectedAt, DispatchAt, left_topic, left_all}
 use Rattle.session.specs.Client.{Client, Play, plain, Says, SaysAlone, Answered, Ends, frame_of, left_if, left_if_ended}
-use Rattle.session.specs.Producing.{FoundStep, ProducerIn, own_refusals, with_live_producers, topic_of, sent_entry, send_command, SendIn, producer_command}
+use Rattle.session.specs.Producing.{FoundStep, ProducerIn, own_refusals, with_live_producers, topic_of, sent_entry, send_command, SendIn, producer_command, CloseIn, close_command}
 use Rattle.session.specs.Consuming as consuming
 use Rattle.session.specs.Working.{WorksCommand, Connects, FrameIn, FramesStep, FeedIn, connected_client, with_progress, ended_if}
 use Rattle.session.specs.Pumping.{Collects, Sends, FindsNoMemory, ServesEach, ServesAll, ServesIf, PumpIn}
@@ -119,6 +121,10 @@ now_is (topic_command.Subscribe subscribe) (reply.Error q e) h = record { no_rec
 now_is (topic_command.Subscribe subscribe) _ h = absurd h
 now_is (topic_command.Ack ack) (reply.AckResponse i (Some e) q) h = record { no_receipt = refl; no_message = refl }
 now_is (topic_command.Ack ack) _ h = absurd h
+now_is (topic_command.CloseProducer close) (reply.Error q e) h = record { no_receipt = refl; no_message = refl }
+now_is (topic_command.CloseProducer close) _ h = absurd h
+now_is (topic_command.Unsubscribe unsubscribe) (reply.Error q e) h = record { no_receipt = refl; no_message = refl }
+now_is (topic_command.Unsubscribe unsubscribe) _ h = absurd h
 
 answered : (old new : Play) (client : Client) (a : Answer) → client.number ≡ old.client.number → ((r : Reply) → a ≡ Now r → IsAtOnce r) → Unfolds old.client.number old.broker [] new.broker
     → Answered client old.out a new.client new.out → Plays old new
@@ -193,6 +199,14 @@ acks : (topic : Option ℕ) (old : Play) (c : Acked) (new : Play) → consuming.
 acks None old c new s = refuses_ack c.request_id old c.consumer_id new s
 acks (Some topic) old c new s = asked old new old.client topic old.client.number (consuming.ack_command c) s.answer refl s.step s.answered
 
+closes : (topic : Option ℕ) (old : Play) (c : Closed) (new : Play) → CloseIn topic old c new → Plays old new
+closes None old c new s = says_alone old (reply.Error c.request_id NotAllowedError) new (record { no_receipt = refl; no_message = refl }) s
+closes (Some topic) old c new s = asked old new old.client topic old.client.number (close_command c) s.answer refl s.step s.answered
+
+unsubscribes : (topic : Option ℕ) (old : Play) (c : Unwanted) (new : Play) → consuming.UnsubscribeIn topic old c new → Plays old new
+unsubscribes None old c new s = says_alone old (reply.Error c.request_id ConsumerNotFound) new (record { no_receipt = refl; no_message = refl }) s
+unsubscribes (Some topic) old c new s = asked old new old.client topic old.client.number (consuming.unsubscribe_command c) s.answer refl s.step s.answered
+
 works : (c : Command) (old : Play) (entry : FrameEntry) (new : Play) → WorksCommand old c entry new → Plays old new
 works (command.Connect c) old entry new s = ends old new _ s
 works (command.Producer c) old entry new s =
@@ -203,6 +217,8 @@ works (command.Subscribe c) old entry new s =
     for_client old'.client old new refl (subscribes (first_standing (consuming.own_refusals old'.client.consumers c)) old' c new s)
 works (command.Flow c) old entry new s = grants (consuming.topic_of old.client.consumers c.consumer_id) old c new s
 works (command.Ack c) old entry new s = acks (consuming.topic_of old.client.consumers c.consumer_id) old c new s
+works (command.CloseProducer c) old entry new s = closes (topic_of old.client.producers c.producer_id) old c new s
+works (command.Unsubscribe c) old entry new s = unsubscribes (consuming.topic_of old.client.consumers c.consumer_id) old c new s
 works command.Ping old entry new s = says_alone old reply.Pong new (record { no_receipt = refl; no_message = refl }) s
 works command.Pong old entry new s = still_play old new s
 works (command.Other k) old entry new s = ends old new _ s
@@ -214,6 +230,8 @@ connects (command.Send c) old new s = ends old new _ s
 connects (command.Subscribe c) old new s = ends old new _ s
 connects (command.Flow c) old new s = ends old new _ s
 connects (command.Ack c) old new s = ends old new _ s
+connects (command.CloseProducer c) old new s = ends old new _ s
+connects (command.Unsubscribe c) old new s = ends old new _ s
 connects command.Ping old new s = ends old new _ s
 connects command.Pong old new s = ends old new _ s
 connects (command.Other k) old new s = ends old new _ s

@@ -33,7 +33,7 @@ takes_sound t u h takes s =
     let step : Collects t.core h.session (Some h.reply) c = (takes.first ∙ ap (λ (x : Topic). h.reply ∷ due_to h.session x.core.queues) takes.taken, refl) in
     subst (λ (x : Topic). IsSoundTopic x) (sym takes.taken) (collected-sound t h.session (Some h.reply) c step s)
 
-move_sound : (t : Topic) (m : Move) (u : Topic) → MoveStep t m u → IsSoundTopic t → IsSoundTopic u
+pub move_sound : (t : Topic) (m : Move) (u : Topic) → MoveStep t m u → IsSoundTopic t → IsSoundTopic u
 move_sound t (Command who command answer) u step s = command-sound t who command answer u step s
 move_sound t (Tell h) u step s = takes_sound t u h step s
 move_sound t (Lose h) u step s = takes_sound t u h step s

@@ -4,6 +4,7 @@ use Rattle.std.specs.declared.alloc.AllocError.{AllocError}
 use Rattle.disk.specs.Disk.{Disk}
 use Rattle.managed_ledger.specs.declared.entry_store.EntryStore.{Ghosts as EntryMembers}
 use Rattle.cursor_store.specs.declared.sub_store.SubStore.{Ghosts as SubMembers}
+use Rattle.subscriptions.specs.Statuses.{AreStatuses}
 use Rattle.topic_core.specs.Core.{Topic}
 use Rattle.session.specs.Broker.{topic_at}
 use Rattle.node.specs.State.{State, broker_with}
@@ -23,9 +24,9 @@ pub record IsServed (per_ledger : ℕ) (state : State) : Type 0 where
   pub broker : state.broker ≡ broker_with per_ledger topic
   pub numbered : topic.core.per_ledger ≡ per_ledger
 
--- what is told of the topic: where the node is down nothing, and else how many entries its ledger has
+-- what is told of the topic: where the node is down nothing, and else how many entries its ledger has, and the statuses of its subscriptions
 abbrev pub StatusOf : Bool → State → Option TopicStatus → Type 0
-StatusOf true state (Some status) = (status.number ≡ 0) × (status.entries ≡ length (topic_at state.broker 0).ledger)
+StatusOf true state (Some status) = (status.number ≡ 0) × (status.entries ≡ length (topic_at state.broker 0).ledger) × AreStatuses (topic_at state.broker 0).core.subs.subs status.subscriptions.items
 StatusOf true state None = ⊥
 StatusOf false state told = told ≡ None
 

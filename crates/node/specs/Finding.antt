@@ -36,6 +36,8 @@ sent_by per_ledger position who (asked.Send send) Nothing = []
 sent_by per_ledger position who (asked.Send send) NoMemory = []
 sent_by per_ledger position who (asked.Subscribe subscribe) answer = []
 sent_by per_ledger position who (asked.Ack ack) answer = []
+sent_by per_ledger position who (asked.CloseProducer close) answer = []
+sent_by per_ledger position who (asked.Unsubscribe unsubscribe) answer = []
 
 -- a SEND that a topic accepts gets the next position
 abbrev pub sends_on : Core → Move → List Sent

@@ -9,6 +9,7 @@ use Rattle.node.specs.Runs.{Run, Life, AllowedRun}
 use Rattle.node.specs.Moves.{Handed, Move, Moves, told_by, is_crash}
 use Rattle.node.specs.Telling.{Said, hearer, hearer_of, Spells, from_topic, AnswersAreAtOnce, receipts_told, RunUnfolds}
 use Rattle.node.specs.Finding.{sends_by, FindsEach, IsPublished, IsQuiet}
+use Rattle.node.specs.Promising.{IsKept, nothing_yet, word_by, AreInTurn}
 use Rattle.node.specs.Delivering.{DeliversEach}
 use Rattle.node.specs.declared.event.Event.{Event}
 use Rattle.node.specs.declared.event.Happening.{Happening}
@@ -49,13 +50,23 @@ abbrev pub ReceiptsAreFound : Type 0
 ReceiptsAreFound = (old : Topic) (moves : List Move) (new : Topic) (steps : Moves old moves new) → IsQuiet old
     → FindsEach (sends_by old moves new steps) new.ledger (told_by moves)
 
+-- What sessions take from a topic that was quiet and sound are the answers to their accepted commands, in turn, or refusals
+-- after a failure; and what was told of subscriptions stands in the durable ones: each one that was subscribed to is there, with
+-- the positions that were acknowledged, while no UNSUBSCRIBE of its name was accepted since that command.
+pub record WordIsKept (old : Topic) (moves : List Move) (new : Topic) (steps : Moves old moves new) : Type 0 where
+  pub in_turn : AreInTurn old moves new steps nothing_yet
+  pub kept : AllByRecursion (IsKept new.kept) (word_by old moves new steps nothing_yet).given
+
+abbrev pub WordsAreKept : Type 0
+WordsAreKept = (old : Topic) (moves : List Move) (new : Topic) (steps : Moves old moves new) → IsQuiet old → IsSoundTopic old → WordIsKept old moves new steps
+
 -- each message that was told on moves from a quiet topic was open and admitted where it went out, and is the entry that
 -- stands in the ledger at its position
 abbrev pub MessagesAreAdmitted : Type 0
 MessagesAreAdmitted = (old : Topic) (moves : List Move) (new : Topic) → Moves old moves new → IsQuiet old → DeliversEach old moves new.ledger (told_by moves)
 
--- what a topic did from its start on: the entries are those of accepted SENDs, the receipts among what it told are found,
--- and the messages were admitted
+-- what a topic did from its start on: the entries are those of accepted SENDs, the receipts among what it told are found, the
+-- answers came in turn and what they say of subscriptions stands, and the messages were admitted
 pub record Account (old : Topic) (told : List Handed) (new : Topic) : Type 0 where
   pub moves : List Move
   pub steps : Moves old moves new
@@ -64,6 +75,7 @@ pub record Account (old : Topic) (told : List Handed) (new : Topic) : Type 0 whe
   pub published : IsPublished (sends_by old moves new steps) old.ledger new.ledger
   pub covered : AllByRecursion (λ move. is_crash move ≡ false) moves → receipts_told told + receipts_due new.core.queues ≤ length new.ledger
   pub found : FindsEach (sends_by old moves new steps) new.ledger told
+  pub word : WordIsKept old moves new steps
   pub delivered : DeliversEach old moves new.ledger told
 
 -- what goes out to each session are frames, each whole; receipts and messages come from topics alone, and each topic can account for them

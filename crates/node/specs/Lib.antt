@@ -8,5 +8,6 @@ pub mod Driving
 pub mod Moves
 pub mod Telling
 pub mod Finding
+pub mod Promising
 pub mod Delivering
 pub mod Laws

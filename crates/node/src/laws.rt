@@ -1,4 +1,4 @@
-ghost use Rattle.node.specs.Laws.{RunsUnfold, LivesUnfold, StaysSound, MovesPublish, ReceiptsAreCovered, ReceiptsAreFound, MessagesAreAdmitted, LivesAccount};
+ghost use Rattle.node.specs.Laws.{RunsUnfold, LivesUnfold, StaysSound, MovesPublish, ReceiptsAreCovered, ReceiptsAreFound, WordsAreKept, MessagesAreAdmitted, LivesAccount};
 
 /// The bytes that go out to each session are frames, each whole, and each topic moves by allowed moves, on which it
 /// hands out just those replies that don't answer a command at once.
@@ -32,6 +32,13 @@ pub fn receipts_are_covered()
 /// receipt comes after the flush that committed its entry.
 pub fn receipts_are_found()
     ensures { ReceiptsAreFound }
+{}
+
+/// What sessions take from a topic are the answers to their accepted commands, in turn, or refusals after a failure. What was told
+/// of subscriptions stands ever after, through failures, openings and crashes: an answered SUBSCRIBE's is there, and the positions
+/// of an answered ACK are acknowledged on it, while no UNSUBSCRIBE of its name was accepted since that command.
+pub fn words_are_kept()
+    ensures { WordsAreKept }
 {}
 
 /// A message goes out only where its position is open on the consumer's subscription and admitted to it by mode and

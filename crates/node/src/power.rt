@@ -77,13 +77,13 @@ impl<E: EntryStore, C: SubStore, S: CrashShelf + Drop> Machine<E, C, S> {
         }
     }
 
-    /// What the topic has. A node that is down tells nothing.
-    pub fn status(&self) -> Option<TopicStatus>
-        ensures { (per_ledger : ℕ) (life : Life) → Holds S.disk per_ledger self.now life → StatusOf life.up life.state result }
+    /// What the topic has. A node that is down tells nothing, and an error is want of memory.
+    pub fn status(&self) -> Result<Option<TopicStatus>, AllocError>
+        ensures { (per_ledger : ℕ) (life : Life) → Holds S.disk per_ledger self.now life → IfOk result (StatusOf life.up life.state) }
     {
         match self {
-            Machine::Up(node) => Some(node.status()),
-            Machine::Down(_) => None,
+            Machine::Up(node) => Ok(Some(node.status()?)),
+            Machine::Down(_) => Ok(None),
         }
     }
 

@@ -6,7 +6,7 @@ use managed_ledger::ManagedLedger;
 use node::{
     Event, Fault, Happening, Machine, Node, Octets, Output, Refusal, Verdict, drive, lives_account,
     lives_unfold, messages_are_admitted, moves_publish, receipts_are_covered, receipts_are_found,
-    runs_unfold, stays_sound,
+    runs_unfold, stays_sound, words_are_kept,
 };
 use std::alloc::{AllocError, Global};
 use std::test::Fail;
@@ -171,7 +171,7 @@ fn a_machine_is_driven_through_events_and_crashes(rt: HostRuntime) -> Result<(),
         (&[], Verdict::Unknown),
     ];
     assert!(rt; are(outputs, &expected)?);
-    assert_eq!(rt; machine.status().map(|status| status.entries), Some(1));
+    assert_eq!(rt; machine.status()?.map(|status| status.entries), Some(1));
     Ok(())
 }
 
@@ -183,6 +183,7 @@ fn laws_cost_nothing() {
     moves_publish();
     receipts_are_covered();
     receipts_are_found();
+    words_are_kept();
     messages_are_admitted();
     lives_account();
 }

@@ -8,14 +8,13 @@ use Rattle.node.specs.Runs.{Life}
 use Rattle.node.specs.State.{State}
 use Rattle.node.specs.Driving as node
 use Rattle.node.specs.declared.status.TopicStatus.{TopicStatus}
-use Rattle.script.specs.Output.{topic_line}
 use Rattle.script.specs.declared.line.Line.{Line}
 use Rattle.script.specs.declared.script.Script.{Script}
 use Rattle.script.specs.Script.{IsScript}
 use Rattle.pulsar_node.specs.declared.event.Task.{Task}
 use Rattle.pulsar_node.specs.declared.fault.ProgramFault.{ProgramFault}
 use Rattle.pulsar_node.specs.declared.fault.ProgramFault.TheVariants.{Device, NoMemory, ScriptLine}
-use Rattle.pulsar_node.specs.Replay.{TaskStep, WorksTask, Begun, StatusOf, Tells, LineStep, Prints, Begins, Plays, IsFront, Writes, WorksFront, WorksLines, Replays, ReplaysAll, ReplaysFront, IsAllOf, IsOutage}
+use Rattle.pulsar_node.specs.Replay.{status_lines, IfRemembered, TaskStep, WorksTask, Begun, StatusOf, Tells, LineStep, Prints, Begins, Plays, IsFront, Writes, WorksFront, WorksLines, Replays, ReplaysAll, ReplaysFront, IsAllOf, IsOutage}
 
 -- one line more
 pub Prints-more : (number : ℕ) (old : Life) (lines : List Line) (text : List ℕ) (mid : Life) (line : Line) (more : List ℕ) (new : Life)
@@ -29,28 +28,18 @@ Prints-more number old (l ∷ lines) text mid line more new h step =
     (h.0, h.1 ++ more, h.2, h.3, rest, ap (λ (t : List ℕ). t ++ more) h.5 ∙ append_assoc h.0 h.1 more)
 
 -- what was written before a line, and of it
-pub front_more : (a b c : Option (List ℕ)) (before text : List ℕ) (fault : ProgramFault) → Appends a b before → Writes {X = Unit {0}} text b c (Err fault)
+front_more : (a b c : Option (List ℕ)) (before text : List ℕ) → Appends a b before → Writes {X = Unit {0}} text b c (Err Device)
     → (front : List ℕ) × IsFront front (before ++ text) × Appends a c front
-front_more a b c before text Device p q =
+front_more a b c before text p q =
     (before ++ q.0, (q.1.0, ap (λ (x : List ℕ). before ++ x) q.1.1 ∙ sym (append_assoc before q.0 q.1.0)), Appends-trans a b c before q.0 p q.2)
-front_more a b c before text NoMemory p q = (before, (text, refl), Appends-kept a b c before p q)
-front_more a b c before text (ScriptLine k) p q = absurd q
 
--- a front of the lines, by how the last of them ended
-works_front : (number : ℕ) (old : Life) (lines : List Line) (a c : Option (List ℕ)) (text : List ℕ) (b : Option (List ℕ)) (fault : ProgramFault)
-    → Writes {X = Unit {0}} text b c (Err fault) → WorksFront number old lines a c → WorksLines {X = Unit {0}} number old lines a c (Err fault)
-works_front number old lines a c text b Device q h = h
-works_front number old lines a c text b NoMemory q h = h
-works_front number old lines a c text b (ScriptLine k) q h = absurd q
-
--- one more line was worked, and a front of its line was written
+-- one more line was worked, and a front of its line was written, or memory was refused for it
 pub one_more_fails : (number : ℕ) (old mid new : Life) (yielded rest lines : List Line) (line : Line) (text more : List ℕ) (a b c : Option (List ℕ)) (fault : ProgramFault)
-    → Prints number old yielded text mid → LineStep (number + length yielded) mid line more new → Appends a b text → Writes {X = Unit {0}} more b c (Err fault)
+    → Prints number old yielded text mid → IfRemembered {X = Unit {0}} (Err fault) (LineStep (number + length yielded) mid line more new) → Appends a b text → Writes {X = Unit {0}} more b c (Err fault)
     → (yielded ++ line ∷ []) ++ rest ≡ lines → WorksLines {X = Unit {0}} number old lines a c (Err fault)
-one_more_fails number old mid new yielded rest lines line text more a b c fault prints step so_far written whole =
+one_more_fails number old mid new yielded rest lines line text more a b c Device prints step so_far written whole =
     let worked : take (length (yielded ++ line ∷ [])) lines ≡ yielded ++ line ∷ [] = ap (take (length (yielded ++ line ∷ []))) (sym whole) ∙ take-append_seam (yielded ++ line ∷ []) rest in
-    let front = front_more a b c text more fault so_far written in
-    works_front number old lines a c more b fault written (
+    let front = front_more a b c text more so_far written in (
       length (yielded ++ line ∷ []),
       text ++ more,
       new,
@@ -59,6 +48,17 @@ one_more_fails number old mid new yielded rest lines line text more a b c fault 
       front.1,
       front.2,
     )
+one_more_fails number old mid new yielded rest lines line text more a b c NoMemory prints step so_far written whole =
+    let worked : take (length yielded) lines ≡ yielded = ap (take (length yielded)) (sym whole ∙ append_assoc yielded (line ∷ []) rest) ∙ take-append_seam yielded (line ∷ rest) in (
+      length yielded,
+      text,
+      mid,
+      subst (λ (ls : List Line). Prints number old ls text mid) (sym worked) prints,
+      text,
+      ([], sym (append-nil text)),
+      Appends-kept a b c text so_far written,
+    )
+one_more_fails number old mid new yielded rest lines line text more a b c (ScriptLine k) prints step so_far written whole = absurd written
 
 -- which value there would have been is nothing to a fault
 pub writes_fault : (X Y : Type 0) (text : List ℕ) (a b : Option (List ℕ)) (fault : ProgramFault) → Writes {X = X} text a b (Err fault) → Writes {X = Y} text a b (Err fault)
@@ -66,10 +66,24 @@ writes_fault X Y text a b Device w = w
 writes_fault X Y text a b NoMemory w = w
 writes_fault X Y text a b (ScriptLine k) w = absurd w
 
+remembered : (X : Type 0) {P : Type 0} (fault : ProgramFault) → P → IfRemembered {X = X} (Err fault) P
+remembered X Device p = p
+remembered X NoMemory p = tt
+remembered X (ScriptLine k) p = p
+
+pub remembered_fault : (X Y P : Type 0) (fault : ProgramFault) → IfRemembered {X = X} (Err fault) P → IfRemembered {X = Y} (Err fault) P
+remembered_fault X Y P Device p = p
+remembered_fault X Y P NoMemory p = p
+remembered_fault X Y P (ScriptLine k) p = p
+
 -- a task was worked, and what it prints couldn't be written
 pub task_fails : {R : Type 0} (lives : R → Life → Type 0) (number : ℕ) (old : Life) (task : Task) (text : List ℕ) (new : Life) (a b : Option (List ℕ)) (fault : ProgramFault)
     → TaskStep number old task text new → Writes {X = Unit {0}} text a b (Err fault) → WorksTask lives number old task a b (Err fault)
-task_fails {R} lives number old task text new a b fault step writes = record { text = text; new = new; step = step; writes = writes_fault (Unit {0}) R text a b fault writes; goes_on = tt }
+task_fails {R} lives number old task text new a b fault step writes = record { text = text; new = new; step = remembered R fault step; writes = writes_fault (Unit {0}) R text a b fault writes; goes_on = tt }
+
+-- memory was refused
+pub task_forgets : {R : Type 0} (lives : R → Life → Type 0) (number : ℕ) (old : Life) (task : Task) (a : Option (List ℕ)) → WorksTask lives number old task a a (Err NoMemory)
+task_forgets lives number old task a = record { text = []; new = old; step = tt; writes = Keeps-refl a; goes_on = tt }
 
 -- the first line was worked, and couldn't be written
 pub begin_fails : {R : Type 0} (lives : R → Life → Type 0) (per_ledger : ℕ) (text : List ℕ) (life : Life) (a b : Option (List ℕ)) (fault : ProgramFault)
@@ -78,17 +92,29 @@ begin_fails lives per_ledger text life a b Device begins w = inr (text, life, be
 begin_fails lives per_ledger text life a b NoMemory begins w = w
 begin_fails lives per_ledger text life a b (ScriptLine k) begins w = absurd w
 
--- what a status tells of a machine, as a line
-status_line : (up : Bool) (state : State) (status : TopicStatus) → node.StatusOf up state (Some status) → StatusOf up state (topic_line status.number status.entries status.segments (codes "persistent://a/b/c"))
-status_line true state status h = (
-  status.segments,
-  ap (λ (n : ℕ). topic_line n status.entries status.segments (codes "persistent://a/b/c")) h.0
-      ∙ ap (λ (n : ℕ). topic_line 0 n status.segments (codes "persistent://a/b/c")) h.1,
-)
-status_line false state status h = absurd (let no : ⊥ = cc in no)
+-- what a status tells of a machine, as lines
+abbrev pub lines_of : TopicStatus → List ℕ
+lines_of status = status_lines status.number status.entries status.segments status.subscriptions.items
 
-pub tells : (old : Life) (status : TopicStatus) → node.StatusOf old.up old.state (Some status) → Tells old (topic_line status.number status.entries status.segments (codes "persistent://a/b/c")) old
-tells old status h = record { same = refl; printed = status_line old.up old.state status h }
+told_lines : (up : Bool) (state : State) (status : TopicStatus) → node.StatusOf up state (Some status) → StatusOf up state (lines_of status)
+told_lines true state status h = (
+  status.segments,
+  status.subscriptions.items,
+  h.2,
+  (λ i. status_lines (h.0 i) (h.1 i) status.segments status.subscriptions.items),
+)
+told_lines false state status h = absurd (let no : ⊥ = cc in no)
+
+pub tells : (old : Life) (status : TopicStatus) → node.StatusOf old.up old.state (Some status) → Tells old (lines_of status) old
+tells old status h = record { same = refl; printed = told_lines old.up old.state status h }
+
+no_lines : (up : Bool) (state : State) → node.StatusOf up state None → StatusOf up state []
+no_lines true state h = absurd h
+no_lines false state h = refl
+
+pub tells_nothing : (old : Life) (told : Option TopicStatus) → told ≡ None → node.StatusOf old.up old.state told → Tells old [] old
+tells_nothing old told none h =
+    record { same = refl; printed = no_lines old.up old.state (subst (λ (o : Option TopicStatus). node.StatusOf old.up old.state o) none h) }
 
 -- the lines that were worked, the next one and the others are the whole
 pub next_of_whole : (yielded rest after lines : List Line) (line : Line) → yielded ++ rest ≡ lines → rest ≡ line ∷ after → (yielded ++ line ∷ []) ++ after ≡ lines

@@ -1,6 +1,9 @@
 -- What a replay reads and writes.
 use Rattle.std.specs.Prelude.{◌≡◌, ℕ, ◌+◌, Bool, true, false, List, [], ◌∷◌, ◌++◌, length, take, codes, ◌⊎◌, Option, Some, None, Result, Ok, Err, IfOk}
+use Rattle.std.specs.List.{flat_map}
 use Rattle.std.specs.Io.KnownBytes.{Appends, Keeps}
+use Rattle.subscriptions.specs.Statuses.{AreStatuses}
+use Rattle.subscriptions.specs.declared.status.SubscriptionStatus.{SubscriptionStatus}
 use Rattle.session.specs.Broker.{topic_at}
 use Rattle.node.specs.State.{State, fresh_broker}
 use Rattle.node.specs.Runs.{Life, OpeningStep, HappeningStep}
@@ -12,7 +15,7 @@ use Rattle.script.specs.declared.script.Script.{Script}
 use Rattle.script.specs.declared.output.Outcome.TheVariants.{Done, Refused}
 use Rattle.script.specs.declared.output.StorageRefusal.TheVariants as refusal
 use Rattle.script.specs.Script.{IsScript, IsFirstBad}
-use Rattle.script.specs.Output.{output_line, topic_line}
+use Rattle.script.specs.Output.{output_line, topic_line, subscription_line}
 use Rattle.pulsar_node.specs.Event.{task_of, outcome_of}
 use Rattle.pulsar_node.specs.declared.event.Task.{Task}
 use Rattle.pulsar_node.specs.declared.event.Task.TheVariants as task
@@ -40,9 +43,17 @@ Cuts number old text new =
     Happens number old (happening.Crash) text new
     ⊎ ((new ≡ old) × (text ≡ output_line number [] (Refused refusal.NoMemory)))
 
--- the status line of the topic, with the entries of its ledger; a node that is down has none
+-- the status line of a topic, and behind it those of its subscriptions
+abbrev pub status_lines : ℕ → ℕ → ℕ → List SubscriptionStatus → List ℕ
+status_lines number entries segments statuses =
+    topic_line number entries segments (codes "persistent://a/b/c")
+    ++ flat_map (λ status. subscription_line number status.mark_delete status.ranges status.name) statuses
+
+-- the status lines of the topic, with the entries of its ledger, and of its subscriptions; a node that is down has none
 abbrev pub StatusOf : Bool → State → List ℕ → Type 0
-StatusOf true state text = (segments : ℕ) × (text ≡ topic_line 0 (length (topic_at state.broker 0).ledger) segments (codes "persistent://a/b/c"))
+StatusOf true state text =
+    (segments : ℕ) × (statuses : List SubscriptionStatus) × AreStatuses (topic_at state.broker 0).core.subs.subs statuses
+    × (text ≡ status_lines 0 (length (topic_at state.broker 0).ledger) segments statuses)
 StatusOf false state text = text ≡ []
 
 pub record Tells (old : Life) (text : List ℕ) (new : Life) : Type 0 where
@@ -111,11 +122,19 @@ WorksLines number old lines before after (Err Device) = WorksFront number old li
 WorksLines number old lines before after (Err NoMemory) = WorksFront number old lines before after
 WorksLines number old lines before after (Err (ScriptLine k)) = ⊥
 
--- the task of a line was worked, and what it prints written; where that went well the replay lives on
+-- where no memory was refused
+abbrev pub IfRemembered : {X : Type 0} → Result X ProgramFault → Type 0 → Type 0
+IfRemembered (Ok _) P = P
+IfRemembered (Err Device) P = P
+IfRemembered (Err NoMemory) P = Unit {0}
+IfRemembered (Err (ScriptLine k)) P = P
+
+-- The task of a line was worked, and what it prints written; where that went well the replay lives on. Where memory was refused
+-- nothing was written.
 pub record WorksTask {R : Type 0} (lives : R → Life → Type 0) (number : ℕ) (old : Life) (task : Task) (before after : Option (List ℕ)) (result : Result R ProgramFault) : Type 0 where
   pub text : List ℕ
   pub new : Life
-  pub step : TaskStep number old task text new
+  pub step : IfRemembered result (TaskStep number old task text new)
   pub writes : Writes text before after result
   pub goes_on : IfOk result (λ replay. lives replay new)
 

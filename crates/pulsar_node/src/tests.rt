@@ -1,5 +1,7 @@
+mod acknowledging;
 mod crashes;
 mod faults;
+mod limits;
 mod rows;
 mod scripts;
 mod support;

@@ -1,11 +1,11 @@
 // A replay under way: the machine that it works the lines of a script on.
-ghost use Rattle.std.specs.Prelude.{◌≡◌, ◌+◌, ◌<◌, ◌≤◌, ◌^◌, IfOk};
+ghost use Rattle.std.specs.Prelude.{◌≡◌, ◌+◌, ◌<◌, ◌≤◌, ◌^◌, IfOk, string_bytes};
 ghost use Rattle.node.specs.Driving.{Holds};
 ghost use Rattle.node.specs.Runs.{Life};
 ghost use Rattle.script.specs.Output.{output_line as line_of_output};
 ghost use Rattle.pulsar_node.specs.declared.event.Task.TheVariants as task;
 ghost use Rattle.pulsar_node.specs.Event.{task_of};
-ghost use Rattle.pulsar_node.specs.Replay.{printed_output, Begun, WorksTask, WorksLines, Writes};
+ghost use Rattle.pulsar_node.specs.Replay.{printed_output, status_lines as lines_of_status, Begun, WorksTask, WorksLines, Writes};
 
 use crate::event::{Task, outcome_of, task_of};
 use crate::fault::ProgramFault;
@@ -14,10 +14,10 @@ use cursor_store::CursorStore;
 use disk::{CrashForm, Fuse, Shelf};
 use disk_mem::MemShelf;
 use managed_ledger::ManagedLedger;
-use node::{Event, Machine, Node, Output};
-use script::{Line, Outcome, StorageRefusal, output_line, topic_line};
+use node::{Event, Machine, Node, Output, TopicStatus};
+use script::{Line, Outcome, StorageRefusal, output_line, subscription_line, topic_line};
 use session::SERVED_TOPIC;
-use std::alloc::Global;
+use std::alloc::{AllocError, Global};
 use std::io::Write;
 
 /// A broker whose device is in memory.
@@ -144,19 +144,37 @@ impl Replay {
         ensures line { IfOk result (λ replay. replay.line ≡ self.line) }
         ensures per_ledger { IfOk result (λ replay. replay.per_ledger ≡ self.per_ledger) }
     {
-        let Some(status) = self.machine.status() else {
+        let Some(status) = self.machine.status()? else {
             return Ok(self);
         };
-        let line = topic_line(
-            self.alloc,
-            status.number,
-            status.entries,
-            status.segments,
-            SERVED_TOPIC,
-        )?;
-        write_whole(line.as_bytes(), writer)?;
+        let text = status_text(self.alloc, &status)?;
+        write_whole(text.as_bytes(), writer)?;
         Ok(self)
     }
+}
+
+// The line of a topic, and behind it those of its subscriptions.
+fn status_text(alloc: Global, status: &TopicStatus) -> Result<String, AllocError>
+    ensures { IfOk result (λ text. string_bytes text ≡ lines_of_status status.now.number status.now.entries status.now.segments status.now.subscriptions.items) }
+{
+    let mut text = topic_line(
+        alloc,
+        status.number,
+        status.entries,
+        status.segments,
+        SERVED_TOPIC,
+    )?;
+    for subscription in &status.subscriptions {
+        let line = subscription_line(
+            alloc,
+            status.number,
+            subscription.mark_delete,
+            subscription.ranges as u64,
+            subscription.name.as_str(),
+        )?;
+        text.push_str(line.as_str())?;
+    }
+    Ok(text)
 }
 
 // Writes the line of an output, or a front of it.

@@ -52,3 +52,8 @@ right_in places n = replicate (places - length (decimal n)) 32 ++ decimal n
 abbrev pub topic_line : ℕ → ℕ → ℕ → List ℕ → List ℕ
 topic_line number entries segments name =
     codes "T " ++ (right_in 4 number ++ (32 ∷ right_in 10 entries ++ (32 ∷ right_in 6 segments ++ (32 ∷ name ++ 10 ∷ []))))
+
+-- `S`, the topic's number, the mark-delete position, the ranges after it and the subscription's name, one space apart
+abbrev pub subscription_line : ℕ → ℕ → ℕ → List ℕ → List ℕ
+subscription_line topic mark_delete ranges name =
+    codes "S " ++ (right_in 4 topic ++ (32 ∷ right_in 10 mark_delete ++ (32 ∷ right_in 6 ranges ++ (32 ∷ name ++ 10 ∷ []))))

@@ -1,6 +1,6 @@
 use crate::{
     CrashAs, Line, Outcome, Script, ScriptFault, Sequence, SessionFault, StorageRefusal,
-    one_reading, output_line, printed_bytes_are_read, read_script, topic_line,
+    one_reading, output_line, printed_bytes_are_read, read_script, subscription_line, topic_line,
 };
 use std::process::Abort;
 use std::test::Fail;
@@ -270,6 +270,37 @@ fn prints_status_lines(rt: HostRuntime) -> Result<(), Fail> {
     assert_eq!(rt;
         topic_line(alloc, u64::MAX, 0, 0, "")?.as_str(),
         "T 18446744073709551615          0      0 \n"
+    );
+    Ok(())
+}
+
+#[test]
+fn prints_status_lines_of_subscriptions(rt: HostRuntime) -> Result<(), Fail> {
+    let alloc = rt.alloc();
+    for (topic, mark_delete, ranges, want) in [
+        (0, 1, 1, "S    0          1      1 s\n"),
+        (63, 50_000, 0, "S   63      50000      0 s\n"),
+        (
+            9_999,
+            9_999_999_999,
+            999_999,
+            "S 9999 9999999999 999999 s\n",
+        ),
+        (
+            10_000,
+            10_000_000_000,
+            1_000_000,
+            "S 10000 10000000000 1000000 s\n",
+        ),
+    ] {
+        assert_eq!(rt;
+            subscription_line(alloc, topic, mark_delete, ranges, "s")?.as_str(),
+            want
+        );
+    }
+    assert_eq!(rt;
+        subscription_line(alloc, 0, u64::MAX, 0, "my-sub_0.b")?.as_str(),
+        "S    0 18446744073709551615      0 my-sub_0.b\n"
     );
     Ok(())
 }

@@ -5,14 +5,18 @@ use Rattle.std.specs.FinMap as map
 use Rattle.records.specs.Maps.{Kept}
 use Rattle.subscriptions.specs.State.{Subscriptions}
 use Rattle.subscriptions.specs.Steps as subscriptions
-use Rattle.commands.specs.declared.reply.Reply.TheVariants.{SendError, AckResponse}
+use Rattle.commands.specs.declared.reply.Reply.TheVariants.{SendError, Error, AckResponse}
+use Rattle.commands.specs.declared.server_error.ServerError.{ServerError}
 use Rattle.commands.specs.declared.server_error.ServerError.TheVariants.{NotAllowedError, ConsumerNotFound}
 use Rattle.topic_core.specs.Core.{Topic, opened}
 use Rattle.reply_queues.specs.Replies.{due_to}
 use Rattle.topic_core.specs.declared.command.Send.{Send}
+use Rattle.topic_core.specs.declared.command.TopicCommand.{TopicCommand}
 use Rattle.topic_core.specs.declared.command.TopicCommand.TheVariants as command
 use Rattle.topic_core.specs.declared.command.Answer.TheVariants.{Now, Nothing}
 use Rattle.commands.specs.declared.consuming.Ack.{Ack as Asked}
+use Rattle.commands.specs.declared.consuming.Unsubscribe.{Unsubscribe}
+use Rattle.commands.specs.declared.producing.CloseProducer.{CloseProducer}
 use Rattle.commands.specs.declared.consuming.AckType.{AckType}
 use Rattle.ids.specs.declared.message_id.MessageIdData.{MessageIdData}
 use Rattle.holds.specs.declared.consumer.ConsumerKey.{ConsumerKey}
@@ -20,8 +24,8 @@ use Rattle.topic_core.specs.Steps.{TopicStep, GrantStep, has_consumer, ack_refus
 use Rattle.topic_core.specs.Dispatch.{Admits}
 use Rattle.session.specs.Broker.{Broker, fresh, topic_at, with_topic, due_at, left_topic, CommandStep, GrantAt}
 use Rattle.session.specs.Client.{Play, SaysAlone}
-use Rattle.session.specs.Producing.{Asks}
-use Rattle.session.specs.Consuming.{RefusesAck, ack_command}
+use Rattle.session.specs.Producing.{Asks, close_command}
+use Rattle.session.specs.Consuming.{RefusesAck, ack_command, unsubscribe_command}
 
 pub topic_at-absent : (b : Broker) (number : ℕ) → length b.topics ≤ number → topic_at b number ≡ fresh b.per_ledger
 topic_at-absent b number h = get_or_past b.topics number (fresh b.per_ledger) h
@@ -132,6 +136,40 @@ acks-answer (Some request) old number asked new step h = record {
 pub acks-absent : (old : Play) (number : ℕ) (asked : Asked) (new : Play) → length old.broker.topics ≤ number →
     RefusesAck asked.request_id old asked.consumer_id new → Asks old number (ack_command asked) new
 acks-absent old number asked new h r = acks-answer asked.request_id old number asked new (absent-acks old.broker number old.client.number asked h) r
+
+-- a topic without producers refuses a CLOSE_PRODUCER
+over-closes : (n who : ℕ) (asked : CloseProducer) → TopicStep (over n no_subs) who (close_command asked) (Now (Error asked.request_id NotAllowedError)) (over n no_subs)
+over-closes n who asked = record { core = (refl, refl); ledger = refl; kept = refl }
+
+-- and one without subscriptions an UNSUBSCRIBE
+over-unsubscribes : (n who : ℕ) (asked : Unsubscribe) → TopicStep (over n no_subs) who (unsubscribe_command asked) (Now (Error asked.request_id ConsumerNotFound)) (over n no_subs)
+over-unsubscribes n who asked = record { core = (refl, refl); ledger = refl; kept = refl }
+
+-- what such a topic refuses at once, one that isn't there does
+abbrev Refused : Play → TopicCommand → ℕ → ServerError → Type 0
+Refused old asked request error = TopicStep (over old.broker.per_ledger no_subs) old.client.number asked (Now (Error request error)) (over old.broker.per_ledger no_subs)
+
+refuses-absent : (old : Play) (number : ℕ) (asked : TopicCommand) (request : ℕ) (error : ServerError) (new : Play) → length old.broker.topics ≤ number →
+    Refused old asked request error → SaysAlone old (Error request error) new → Asks old number asked new
+refuses-absent old number asked request error new h step said = record {
+  answer = Now (Error request error);
+  step = let P : Broker → Type 0 = λ b. CommandStep old.broker number old.client.number asked (Now (Error request error)) b in
+      let Q : Topic → Type 0 = λ t. TopicStep t old.client.number asked (Now (Error request error)) t in
+      subst P (sym said.1) (record {
+        step = subst Q (sym (topic_at-absent old.broker number h ∙ fresh-over old.broker.per_ledger)) step;
+        others = sym (with_topic-same old.broker number);
+      });
+  answered = said.0;
+}
+
+-- so the session may refuse them by itself
+pub closes-absent : (old : Play) (number : ℕ) (asked : CloseProducer) (new : Play) → length old.broker.topics ≤ number →
+    SaysAlone old (Error asked.request_id NotAllowedError) new → Asks old number (close_command asked) new
+closes-absent old number asked new h said = refuses-absent old number (close_command asked) asked.request_id NotAllowedError new h (over-closes old.broker.per_ledger old.client.number asked) said
+
+pub unsubscribes-absent : (old : Play) (number : ℕ) (asked : Unsubscribe) (new : Play) → length old.broker.topics ≤ number →
+    SaysAlone old (Error asked.request_id ConsumerNotFound) new → Asks old number (unsubscribe_command asked) new
+unsubscribes-absent old number asked new h said = refuses-absent old number (unsubscribe_command asked) asked.request_id ConsumerNotFound new h (over-unsubscribes old.broker.per_ledger old.client.number asked) said
 
 -- a topic that isn't there grants nothing
 pub grants-absent : (b : Broker) (number who id permits : ℕ) → length b.topics ≤ number → GrantAt b number who id permits (Ok tt) b

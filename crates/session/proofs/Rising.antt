@@ -4,10 +4,12 @@ use Rattle.std.proofs.lemmas.Bool.{cases_lt, ltb-false, eqb-false}
 use borrow.Author.Tests.{ltb-true}
 use Rattle.std.specs.List.{AllByRecursion, insert, position_or_len}
 use Rattle.commands.specs.declared.command.Command.{Command}
-use Rattle.commands.specs.declared.command.Command.TheVariants.{Connect, Producer, Send, Subscribe, Ack, Flow, Ping, Pong, Other}
+use Rattle.commands.specs.declared.command.Command.TheVariants.{Connect, Producer, Send, Subscribe, Ack, Flow, Unsubscribe, CloseProducer, Ping, Pong, Other}
 use Rattle.commands.specs.declared.consuming.Subscribe.{Subscribe as Wanted}
 use Rattle.commands.specs.declared.consuming.Ack.{Ack as Acked}
 use Rattle.commands.specs.declared.consuming.Flow.{Flow as Given}
+use Rattle.commands.specs.declared.consuming.Unsubscribe.{Unsubscribe as Removed}
+use Rattle.commands.specs.declared.producing.CloseProducer.{CloseProducer as Closed}
 use Rattle.commands.specs.declared.producing.Producer.{Producer as Asked}
 use Rattle.commands.specs.declared.producing.Send.{Send as Sent}
 use Rattle.commands.specs.declared.reply.Reply.{Reply}
@@ -28,7 +30,7 @@ use Rattle.session.specs.declared.pumping.More.{More}
 use Rattle.session.specs.declared.pumping.PumpFault.{PumpFault}
 use Rattle.session.specs.Client.{Client, Play, plain, Ends, Says, SaysAlone, Answered}
 use Rattle.session.specs.Producing as producing
-use Rattle.session.specs.Consuming.{is_live, has_entry, own_refusals, with_entry, is_later, with_consumer, granting, with_live_consumers, FoundStep, SubscribeIn, FlowIn, RefusesAck, AckIn}
+use Rattle.session.specs.Consuming.{is_live, has_entry, own_refusals, with_entry, is_later, with_consumer, granting, with_live_consumers, FoundStep, SubscribeIn, FlowIn, RefusesAck, AckIn, UnsubscribeIn}
 use Rattle.session.specs.Working.{WorksCommand, connected_client, Connects, FrameIn, FramesStep, FeedIn, FeedStep}
 use Rattle.session.specs.Pumping.{Collects, Sends, FindsNoMemory, ServesEach, ServesAll, ServesIf, PumpIn, PumpStep}
 use Rattle.session.specs.Laws.{AreRising}
@@ -154,6 +156,14 @@ acks : (topic : Option ℕ) (old : Play) (asked : Acked) (new : Play) → AckIn 
 acks None old asked new h = refuses_ack asked.request_id old asked.consumer_id new h
 acks (Some topic) old asked new h = answered h.answer old.client old.out new.client new.out h.answered
 
+closes : (topic : Option ℕ) (old : Play) (asked : Closed) (new : Play) → producing.CloseIn topic old asked new → Keeps old new
+closes None old asked new h = said_alone old _ new h
+closes (Some topic) old asked new h = answered h.answer old.client old.out new.client new.out h.answered
+
+unsubscribes : (topic : Option ℕ) (old : Play) (asked : Removed) (new : Play) → UnsubscribeIn topic old asked new → Keeps old new
+unsubscribes None old asked new h = said_alone old _ new h
+unsubscribes (Some topic) old asked new h = answered h.answer old.client old.out new.client new.out h.answered
+
 -- SUBSCRIBE keeps them rising
 abbrev Rises : Play → Play → Type 0
 Rises p q = AreRising p.client.consumers → AreRising q.client.consumers
@@ -188,6 +198,8 @@ works (Send c) old entry new h = rises old new (sends _ _ old c new h)
 works (Subscribe c) old entry new h = λ rise. subscribes (with_live_consumers old) c new h (rising-filter (is_live old.broker old.client.number) old.client.consumers rise)
 works (Flow c) old entry new h = rises old new (flows _ old c new h)
 works (Ack c) old entry new h = rises old new (acks _ old c new h)
+works (Unsubscribe c) old entry new h = rises old new (unsubscribes _ old c new h)
+works (CloseProducer c) old entry new h = rises old new (closes _ old c new h)
 works Ping old entry new h = rises old new (said_alone old _ new h)
 works Pong old entry new h = rises old new (still old new h)
 works (Other k) old entry new h = rises old new (ends old new _ h)
@@ -199,6 +211,8 @@ connects (Send c) old new h = ends old new _ h
 connects (Subscribe c) old new h = ends old new _ h
 connects (Flow c) old new h = ends old new _ h
 connects (Ack c) old new h = ends old new _ h
+connects (Unsubscribe c) old new h = ends old new _ h
+connects (CloseProducer c) old new h = ends old new _ h
 connects Ping old new h = ends old new _ h
 connects Pong old new h = ends old new _ h
 connects (Other k) old new h = ends old new _ h

@@ -1,13 +1,15 @@
 -- Each step of a session writes whole frames.
 use Rattle.std.proofs.Common.{◌≡◌, inl, inr, ℕ, ◌-◌, zero, suc, List, [], ◌∷◌, Bool, true, false, Option, Some, None, Result, Ok, Err, ap, ⊎_elim}
 use Rattle.commands.specs.declared.command.Command.{Command}
-use Rattle.commands.specs.declared.command.Command.TheVariants.{Connect, Producer, Send, Subscribe, Ack, Flow, Ping, Pong, Other}
+use Rattle.commands.specs.declared.command.Command.TheVariants.{Connect, Producer, Send, Subscribe, Ack, Flow, Unsubscribe, CloseProducer, Ping, Pong, Other}
 use Rattle.commands.specs.declared.producing.Producer.{Producer as Asked}
 use Rattle.commands.specs.declared.producing.Send.{Send as Sent}
 use Rattle.commands.specs.declared.reply.Reply.{Reply}
 use Rattle.commands.specs.declared.consuming.Subscribe.{Subscribe as Wanted}
 use Rattle.commands.specs.declared.consuming.Ack.{Ack as Acked}
 use Rattle.commands.specs.declared.consuming.Flow.{Flow as Given}
+use Rattle.commands.specs.declared.consuming.Unsubscribe.{Unsubscribe as Removed}
+use Rattle.commands.specs.declared.producing.CloseProducer.{CloseProducer as Closed}
 use Rattle.commands.specs.declared.server_error.ServerError.{ServerError}
 use Rattle.frames.specs.declared.frame.Frame.{Frame}
 use Rattle.frames.specs.declared.frame.FrameEntry.{FrameEntry}
@@ -19,9 +21,9 @@ use Rattle.session.specs.declared.pumping.More.{More}
 use Rattle.session.specs.declared.pumping.PumpFault.{PumpFault}
 use Rattle.session.specs.declared.consumer_entry.ConsumerEntry.{ConsumerEntry}
 use Rattle.session.specs.Client.{Play, plain, Ends, SaysAlone, Writes}
-use Rattle.session.specs.Producing.{FoundStep, ProducerIn, SendIn}
+use Rattle.session.specs.Producing.{FoundStep, ProducerIn, SendIn, CloseIn}
 use Rattle.session.specs.Consuming as consuming
-use Rattle.session.specs.Consuming.{SubscribeIn, FlowIn, RefusesAck, AckIn}
+use Rattle.session.specs.Consuming.{SubscribeIn, FlowIn, RefusesAck, AckIn, UnsubscribeIn}
 use Rattle.session.specs.Working.{WorksCommand, Connects, FrameIn, FramesStep, FeedIn}
 use Rattle.session.specs.Pumping.{Collects, Sends, Serves, ServesEach, ServesAll, ServesIf, PumpIn}
 use Rattle.session.specs.Laws.{FeedsWriteFrames, PumpsWriteFrames}
@@ -75,6 +77,14 @@ pub ack_writes : (topic : Option ℕ) (old : Play) (asked : Acked) (new : Play) 
 ack_writes None old asked new h = refused_ack_writes asked.request_id old asked.consumer_id new h
 ack_writes (Some topic) old asked new h = (speaks_answered old.client new.client old.out new.out h.answer h.answered).writes
 
+pub close_writes : (topic : Option ℕ) (old : Play) (asked : Closed) (new : Play) → CloseIn topic old asked new → Writes old.out new.out
+close_writes None old asked new h = says_writes old new _ h
+close_writes (Some topic) old asked new h = (speaks_answered old.client new.client old.out new.out h.answer h.answered).writes
+
+pub unsubscribe_writes : (topic : Option ℕ) (old : Play) (asked : Removed) (new : Play) → UnsubscribeIn topic old asked new → Writes old.out new.out
+unsubscribe_writes None old asked new h = says_writes old new _ h
+unsubscribe_writes (Some topic) old asked new h = (speaks_answered old.client new.client old.out new.out h.answer h.answered).writes
+
 pub command_writes : (c : Command) (old : Play) (entry : FrameEntry) (new : Play) → WorksCommand old c entry new → Writes old.out new.out
 command_writes (Connect c) old entry new h = ends_writes old new _ h
 command_writes (Producer c) old entry new h = producer_writes _ _ c new h
@@ -82,6 +92,8 @@ command_writes (Send c) old entry new h = send_writes _ _ old c new h
 command_writes (Subscribe c) old entry new h = subscribe_writes _ _ c new h
 command_writes (Flow c) old entry new h = flow_writes _ old c new h
 command_writes (Ack c) old entry new h = ack_writes _ old c new h
+command_writes (Unsubscribe c) old entry new h = unsubscribe_writes _ old c new h
+command_writes (CloseProducer c) old entry new h = close_writes _ old c new h
 command_writes Ping old entry new h = says_writes old new _ h
 command_writes Pong old entry new h = writes_same old new (ap (λ (p : Play). p.out) h)
 command_writes (Other k) old entry new h = ends_writes old new _ h
@@ -93,6 +105,8 @@ connects_writes (Send c) old new h = ends_writes old new _ h
 connects_writes (Subscribe c) old new h = ends_writes old new _ h
 connects_writes (Flow c) old new h = ends_writes old new _ h
 connects_writes (Ack c) old new h = ends_writes old new _ h
+connects_writes (Unsubscribe c) old new h = ends_writes old new _ h
+connects_writes (CloseProducer c) old new h = ends_writes old new _ h
 connects_writes Ping old new h = ends_writes old new _ h
 connects_writes Pong old new h = ends_writes old new _ h
 connects_writes (Other k) old new h = ends_writes old new _ h

@@ -1,10 +1,11 @@
--- SUBSCRIBE, FLOW and ACK, as a session works them.
+-- SUBSCRIBE, FLOW, ACK and UNSUBSCRIBE, as a session works them.
 use Rattle.std.specs.Prelude.{◌≡◌, ◌⊎◌, ℕ, Bool, true, false, not, ◌||◌, is_some, nat_eq, nat_lt, nat_le, Option, Some, None, Result, Ok, Err, List, ◌∷◌, [], length, filter, find}
 use Rattle.std.specs.Option.{option_map}
 use Rattle.std.specs.List.{list_any, insert, position_or_len}
 use Rattle.commands.specs.declared.consuming.Subscribe.{Subscribe}
 use Rattle.commands.specs.declared.consuming.Ack.{Ack}
 use Rattle.commands.specs.declared.consuming.Flow.{Flow}
+use Rattle.commands.specs.declared.consuming.Unsubscribe.{Unsubscribe}
 use Rattle.commands.specs.declared.consuming.SubscriptionType.{SubscriptionType}
 use Rattle.commands.specs.declared.consuming.SubscriptionType.TheVariants as type
 use Rattle.commands.specs.declared.reply.Reply.TheVariants as reply
@@ -157,3 +158,15 @@ AckIn (Some topic) old asked new = Asks old topic (ack_command asked) new
 -- ACK: a session without this consumer refuses it; else the topic works it
 abbrev pub AckStep : Play → Ack → Play → Type 0
 AckStep old asked new = AckIn (topic_of old.client.consumers asked.consumer_id) old asked new
+
+-- what an UNSUBSCRIBE hands to the topic
+abbrev pub unsubscribe_command : Unsubscribe → TopicCommand
+unsubscribe_command asked = topic_command.Unsubscribe (record { consumer_id = asked.consumer_id; request_id = asked.request_id })
+
+abbrev pub UnsubscribeIn : Option ℕ → Play → Unsubscribe → Play → Type 0
+UnsubscribeIn None old asked new = SaysAlone old (reply.Error asked.request_id ConsumerNotFound) new
+UnsubscribeIn (Some topic) old asked new = Asks old topic (unsubscribe_command asked) new
+
+-- UNSUBSCRIBE: a session without this consumer refuses it; else the topic works it
+abbrev pub UnsubscribeStep : Play → Unsubscribe → Play → Type 0
+UnsubscribeStep old asked new = UnsubscribeIn (topic_of old.client.consumers asked.consumer_id) old asked new

@@ -1,10 +1,11 @@
--- PRODUCER and SEND, as a session works them.
+-- PRODUCER, SEND and CLOSE_PRODUCER, as a session works them.
 use Rattle.std.specs.Prelude.{◌⊎◌, ℕ, Bool, true, false, not, nat_eq, nat_lt, nat_le, Option, Some, None, List, [], ◌∷◌, ◌++◌, length, filter, find, codes, if◌then◌else◌}
 use Rattle.std.specs.Option.{option_map}
 use Rattle.std.specs.List.{list_any}
 use Rattle.std.specs.Fmt.{decimal}
 use Rattle.commands.specs.declared.producing.Producer.{Producer}
 use Rattle.commands.specs.declared.producing.Send.{Send}
+use Rattle.commands.specs.declared.producing.CloseProducer.{CloseProducer}
 use Rattle.commands.specs.declared.reply.Reply.TheVariants as reply
 use Rattle.commands.specs.declared.server_error.ServerError.{ServerError}
 use Rattle.commands.specs.declared.server_error.ServerError.TheVariants.{TooManyRequests, InvalidTopicName, NotAllowedError}
@@ -134,7 +135,7 @@ sent_entry (behind.Entry entry) = Some (sent.Plain (plain_entry entry))
 abbrev pub send_command : Send → SentEntry → TopicCommand
 send_command asked entry = topic_command.Send (record { producer_id = asked.producer_id; sequence_id = asked.sequence_id; num_messages = asked.num_messages; entry = entry })
 
--- the topic works SEND, and its answer goes out
+-- the topic works a command, and its answer goes out
 pub record Asks (old : Play) (topic : ℕ) (command : TopicCommand) (new : Play) : Type 0 where
   pub answer : Answer
   pub step : CommandStep old.broker topic old.client.number command answer new.broker
@@ -148,3 +149,15 @@ SendIn (Some topic) (Some entry) old asked new = Asks old topic (send_command as
 -- SEND: a session without this producer refuses it; else the topic works it
 abbrev pub SendStep : Play → Send → FrameEntry → Play → Type 0
 SendStep old asked entry new = SendIn (topic_of old.client.producers asked.producer_id) (sent_entry entry) old asked new
+
+-- what a CLOSE_PRODUCER hands to the topic
+abbrev pub close_command : CloseProducer → TopicCommand
+close_command asked = topic_command.CloseProducer (record { producer_id = asked.producer_id; request_id = asked.request_id })
+
+abbrev pub CloseIn : Option ℕ → Play → CloseProducer → Play → Type 0
+CloseIn None old asked new = SaysAlone old (reply.Error asked.request_id NotAllowedError) new
+CloseIn (Some topic) old asked new = Asks old topic (close_command asked) new
+
+-- CLOSE_PRODUCER: a session without this producer refuses it; else the topic works it, and frees the id once it is closed
+abbrev pub CloseStep : Play → CloseProducer → Play → Type 0
+CloseStep old asked new = CloseIn (topic_of old.client.producers asked.producer_id) old asked new

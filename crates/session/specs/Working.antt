@@ -9,8 +9,8 @@ use Rattle.frames.specs.declared.frame.FrameEntry.{FrameEntry}
 use Rattle.frames.specs.Streams.{Progress, FeedsOn}
 use Rattle.session.specs.Client.{Client, Play, Ends, SaysAlone, left_if_ended}
 use Rattle.session.specs.Faults.{fault_of}
-use Rattle.session.specs.Producing.{ProducerStep, SendStep}
-use Rattle.session.specs.Consuming.{SubscribeStep, FlowStep, AckStep}
+use Rattle.session.specs.Producing.{ProducerStep, SendStep, CloseStep}
+use Rattle.session.specs.Consuming.{SubscribeStep, FlowStep, AckStep, UnsubscribeStep}
 use Rattle.session.specs.declared.fault.Fault.{Fault}
 use Rattle.session.specs.declared.fault.Fault.TheVariants as fault
 
@@ -22,6 +22,8 @@ WorksCommand old (command.Send c) entry new = SendStep old c entry new
 WorksCommand old (command.Subscribe c) entry new = SubscribeStep old c new
 WorksCommand old (command.Flow c) entry new = FlowStep old c new
 WorksCommand old (command.Ack c) entry new = AckStep old c new
+WorksCommand old (command.Unsubscribe c) entry new = UnsubscribeStep old c new
+WorksCommand old (command.CloseProducer c) entry new = CloseStep old c new
 WorksCommand old command.Ping entry new = SaysAlone old reply.Pong new
 WorksCommand old command.Pong entry new = new ≡ old
 WorksCommand old (command.Other k) entry new = Ends old fault.UnknownCommand new
@@ -37,6 +39,8 @@ Connects old (command.Send c) new = Ends old fault.OutOfTurn new
 Connects old (command.Subscribe c) new = Ends old fault.OutOfTurn new
 Connects old (command.Flow c) new = Ends old fault.OutOfTurn new
 Connects old (command.Ack c) new = Ends old fault.OutOfTurn new
+Connects old (command.Unsubscribe c) new = Ends old fault.OutOfTurn new
+Connects old (command.CloseProducer c) new = Ends old fault.OutOfTurn new
 Connects old command.Ping new = Ends old fault.OutOfTurn new
 Connects old command.Pong new = Ends old fault.OutOfTurn new
 Connects old (command.Other k) new = Ends old fault.UnknownCommand new

@@ -6,14 +6,14 @@ ghost use Rattle.topic_core.specs.Steps.{first_standing};
 ghost use Rattle.records.specs.Names.{is_name_byte, is_subscription_name};
 ghost use Rattle.session.specs.Broker.{Broker};
 ghost use Rattle.session.specs.Client.{Client, Play, play, plain, Says, Speaks};
-ghost use Rattle.session.specs.Consuming.{is_live, has_entry, is_served, own_refusals, IsNamed, subscribe_command, is_later, with_entry, Subscribes, FoundStep, SubscribeOf, SubscribeStep, topic_of, granting, FlowStep, RefusesAck, AckStep};
+ghost use Rattle.session.specs.Consuming.{is_live, has_entry, is_served, own_refusals, IsNamed, subscribe_command, is_later, with_entry, Subscribes, FoundStep, SubscribeOf, SubscribeStep, topic_of, granting, FlowStep, RefusesAck, AckStep, UnsubscribeStep};
 
 use crate::consumer_entry::ConsumerEntry;
 use crate::fault::Fault;
 use crate::port::{Found, Port};
 use crate::session::Session;
 use crate::topic_name::is_topic_name;
-use commands::{Ack, Flow, Reply, ServerError, Subscribe, SubscriptionType};
+use commands::{Ack, Flow, Reply, ServerError, Subscribe, SubscriptionType, Unsubscribe};
 use std::alloc::AllocError;
 use subscriptions::{Mode, TooManyPermits};
 use topic_core::{Answer, TopicCommand};
@@ -44,12 +44,12 @@ impl Session {
         ensures passes { P.passes port.old port.new }
     {
         if let Some(error) = self.own_consumer_refusal(&asked) {
-            return self.refuse_subscribe(asked.request_id, error, out);
+            return self.refuse_consumer(asked.request_id, error, out);
         }
         match port.find(asked.topic.as_str()) {
             Found::Topic(topic) => self.subscribe_on(topic, asked, port, out),
             Found::TooMany => {
-                self.refuse_subscribe(asked.request_id, ServerError::TooManyRequests, out)
+                self.refuse_consumer(asked.request_id, ServerError::TooManyRequests, out)
             }
             Found::NoMemory => self.end_by(Fault::NoMemory),
         }
@@ -61,7 +61,8 @@ impl Session {
         own_refusal(self.consumers.as_slice(), asked)
     }
 
-    fn refuse_subscribe(&mut self, request_id: u64, error: ServerError, out: &mut Vec<u8>)
+    /// Answers a request with an error.
+    fn refuse_consumer(&mut self, request_id: u64, error: ServerError, out: &mut Vec<u8>)
         ensures says { Says self.old out.old.items (plain (Error request_id error)) self.new out.new.items }
         ensures speaks { Speaks self.old out.old.items self.new out.new.items }
     {
@@ -188,6 +189,32 @@ impl Session {
             },
             out,
         )
+    }
+
+    /// Works UNSUBSCRIBE ("PulsarApi.proto, CommandUnsubscribe").
+    pub(crate) fn unsubscribe<P: Port>(
+        &mut self,
+        asked: Unsubscribe,
+        port: &mut P,
+        out: &mut Vec<u8>,
+    )
+        ensures step { P.sole port.old → UnsubscribeStep (play self.old (P.broker port.old) out.old.items) asked
+            (play self.new (P.broker port.new) out.new.items) }
+        ensures speaks { Speaks self.old out.old.items self.new out.new.items }
+        ensures passes { P.passes port.old port.new }
+    {
+        let Some(topic) = self.consumer_topic(asked.consumer_id) else {
+            return self.refuse_consumer(asked.request_id, ServerError::ConsumerNotFound, out);
+        };
+        if topic >= port.topics() {
+            return self.refuse_consumer(asked.request_id, ServerError::ConsumerNotFound, out);
+        }
+        let command = TopicCommand::Unsubscribe(topic_core::Unsubscribe {
+            consumer_id: asked.consumer_id,
+            request_id: asked.request_id,
+        });
+        let answer = port.command(topic, self.number, command);
+        self.answer(&answer, out)
     }
 }
 

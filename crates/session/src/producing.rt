@@ -4,14 +4,14 @@ ghost use Rattle.commands.specs.declared.server_error.ServerError.TheVariants.{N
 ghost use Rattle.session.specs.declared.port.Found.TheVariants.{Topic};
 ghost use Rattle.topic_core.specs.Steps.{first_standing};
 ghost use Rattle.session.specs.Client.{Client, Play, play, plain, Says, Answered, Speaks};
-ghost use Rattle.session.specs.Producing.{is_live, has_entry, given_len, own_refusals, own_name, name_for, producer_command, is_success, with_entry, with_live_producers, Opens, FoundStep, Finds, ProducerOf, ProducerStep, topic_of, plain_entry, sent_entry, send_command, SendStep};
+ghost use Rattle.session.specs.Producing.{is_live, has_entry, given_len, own_refusals, own_name, name_for, producer_command, is_success, with_entry, with_live_producers, Opens, FoundStep, Finds, ProducerOf, ProducerStep, topic_of, plain_entry, sent_entry, send_command, SendStep, CloseStep};
 
 use crate::fault::Fault;
 use crate::port::{Found, Port};
 use crate::producer_entry::ProducerEntry;
 use crate::session::Session;
 use crate::topic_name::is_topic_name;
-use commands::{Producer, Reply, ReplyText, Send, ServerError, Text};
+use commands::{CloseProducer, Producer, Reply, ReplyText, Send, ServerError, Text};
 use frames::FrameEntry;
 use std::alloc::{AllocError, Global};
 use topic_core::{Answer, PlainEntry, SentEntry, TopicCommand};
@@ -59,6 +59,7 @@ impl Session {
         own_refusal(self.producers.as_slice(), asked)
     }
 
+    /// Answers a request with an error.
     fn refuse_producer(&mut self, request_id: u64, error: ServerError, out: &mut Vec<u8>)
         ensures says { Says self.old out.old.items (plain (Error request_id error)) self.new out.new.items }
         ensures speaks { Speaks self.old out.old.items self.new out.new.items }
@@ -162,6 +163,28 @@ impl Session {
             sequence_id: asked.sequence_id,
             num_messages: asked.num_messages,
             entry,
+        });
+        let answer = port.command(topic, self.number, command);
+        self.answer(&answer, out)
+    }
+
+    /// Works CLOSE_PRODUCER ("PulsarApi.proto, CommandCloseProducer"). The id stays in use until the topic has closed the
+    /// producer.
+    pub(crate) fn close<P: Port>(&mut self, asked: CloseProducer, port: &mut P, out: &mut Vec<u8>)
+        ensures step { P.sole port.old → CloseStep (play self.old (P.broker port.old) out.old.items) asked
+            (play self.new (P.broker port.new) out.new.items) }
+        ensures speaks { Speaks self.old out.old.items self.new out.new.items }
+        ensures passes { P.passes port.old port.new }
+    {
+        let Some(topic) = self.topic_of(asked.producer_id) else {
+            return self.refuse_producer(asked.request_id, ServerError::NotAllowedError, out);
+        };
+        if port.topics() <= topic {
+            return self.refuse_producer(asked.request_id, ServerError::NotAllowedError, out);
+        }
+        let command = TopicCommand::CloseProducer(topic_core::CloseProducer {
+            producer_id: asked.producer_id,
+            request_id: asked.request_id,
         });
         let answer = port.command(topic, self.number, command);
         self.answer(&answer, out)

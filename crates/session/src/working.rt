@@ -95,6 +95,8 @@ impl Session {
             Command::Subscribe(asked) => self.subscribe(asked, port, out),
             Command::Flow(asked) => self.flow(asked, port, out),
             Command::Ack(asked) => self.ack(asked, port, out),
+            Command::Unsubscribe(asked) => self.unsubscribe(asked, port, out),
+            Command::CloseProducer(asked) => self.close(asked, port, out),
             Command::Ping => self.say(&Reply::Pong, out),
             Command::Pong => {}
             Command::Other(_) => self.end_by(Fault::UnknownCommand),
@@ -116,6 +118,8 @@ impl Session {
             | Command::Subscribe(_)
             | Command::Flow(_)
             | Command::Ack(_)
+            | Command::Unsubscribe(_)
+            | Command::CloseProducer(_)
             | Command::Ping
             | Command::Pong => self.end_by(Fault::OutOfTurn),
             Command::Other(_) => self.end_by(Fault::UnknownCommand),

@@ -26,11 +26,12 @@ use Rattle.records.specs.Records.{after, after_all, changed, changed_at, acknowl
 use Rattle.subscriptions.specs.declared.consumer.Mode.{Mode}
 use Rattle.subscriptions.specs.declared.consumer.Refusal.{Refusal}
 use Rattle.subscriptions.specs.State.{Subscription, Subscriptions}
-use Rattle.subscriptions.specs.Steps.{opened, opened_one, first_changed, first_standing, is_named, is_on, refusals_at, making_refusals, attached_at, attached_to, made, acked_on, acknowledgements, granted_on, sent_on, left_on, settled}
+use Rattle.subscriptions.specs.Steps.{opened, opened_one, first_changed, first_standing, is_named, is_on, refusals_at, making_refusals, attached_at, attached_to, made, acked_on, acknowledgements, acked_through_on, acknowledgement_through, first_removed, removal, granted_on, sent_on, left_on, settled}
 use Rattle.subscriptions.specs.Soundness.{IsSoundSubscription, HasLimits, IsSound, IsCommittedOn, IsCommitted}
 use Rattle.subscriptions.specs.Laws.{acked_as, AreDurable, IsKept, AreKept}
 use Rattle.subscriptions.proofs.Sound.{length_changed, sound_opened}
-use Rattle.subscriptions.proofs.Kept.{names, turned, get_insert, after_append, after_parts, after_ack, there_after_ack, same_name, acked_found, acked_spared, acked_each, attached_same, acknowledged_same}
+use Rattle.subscriptions.proofs.Kept.{names, turned, get_insert, after_append, after_parts, after_ack, there_after_ack, same_name, acked_found, acked_spared, acked_each, attached_same, acknowledged_same, through_same, after_through, removed_same}
+use Rattle.subscriptions.proofs.Places.{removed-none, none_found, length_removed}
 
 -- ---- durable subscriptions
 
@@ -185,6 +186,51 @@ ack_kept e kept t key ps (Some s) found limits all is =
       formed = formed_append e t.changes (each (λ p. Acknowledged s.name p) ps) kept is.formed (formed_acks e s.name ps (after_all t.changes kept) s.acked there named all);
     }
 
+through_kept : (e : ℕ) (kept : Kept) (t : Subscriptions) (key : ConsumerKey) (p : ℕ) (o : Option Subscription) → find (is_on key) t.subs ≡ o → HasLimits t → p < e → IsKept e kept t
+    → (let n : Subscriptions = record { subs = first_changed (is_on key) (acked_through_on p) t.subs; changes = t.changes ++ acknowledgement_through o p } in IsKept e kept n)
+through_kept e kept t key p None none limits low is = record {
+  same = through_same kept t key p None none limits.names is.same;
+  count = ap (λ m. map.len m) (after_append t.changes [] kept) ∙ is.count ∙ sym (length_changed (is_on key) (acked_through_on p) t.subs);
+  durable = is.durable;
+  formed = formed_append e t.changes [] kept is.formed tt;
+}
+through_kept e kept t key p (Some s) found limits low is =
+    let there = is.same s.name ∙ acked_found (is_on key) t.subs s limits.names found in
+    let named = (durable_all e t.changes kept is.formed is.durable).named s.name (some-there _ s.acked there) in
+    record {
+      same = through_same kept t key p (Some s) found limits.names is.same;
+      count = ap (λ m. map.len m) (after_append t.changes (AcknowledgedThrough s.name p ∷ []) kept ∙ after_through (after_all t.changes kept) s.name p s.acked there)
+          ∙ len-there (after_all t.changes kept) s.name (set.union s.acked (below (p + 1))) (some-there _ s.acked there)
+          ∙ is.count ∙ sym (length_changed (is_on key) (acked_through_on p) t.subs);
+      durable = is.durable;
+      formed = formed_append e t.changes (AcknowledgedThrough s.name p ∷ []) kept is.formed (record { name_is = named; placed = (some-there _ s.acked there, low) }, tt);
+    }
+
+len-gone : (kept : Kept) (n : List ℕ) → IsThere kept n → map.len (map.remove kept n) ≡ map.len kept - 1
+len-gone kept n there = map.len-remove nat_list_cmp_total kept n ∙ ap (λ b. cond b (map.len kept - 1) (map.len kept)) there
+
+one_fewer : (n m : ℕ) → m + 1 ≡ n → n - 1 ≡ m
+one_fewer n m h = omega (arith, h)
+
+removed_kept : (e : ℕ) (kept : Kept) (t : Subscriptions) (key : ConsumerKey) (o : Option Subscription) → find (is_on key) t.subs ≡ o → HasLimits t → IsKept e kept t
+    → (let n : Subscriptions = record { subs = first_removed (is_on key) t.subs; changes = t.changes ++ removal o } in IsKept e kept n)
+removed_kept e kept t key None none limits is = record {
+  same = removed_same kept t key None none limits.names is.same;
+  count = ap (λ m. map.len m) (after_append t.changes [] kept) ∙ is.count ∙ sym (ap (λ (xs : List Subscription). length xs) (removed-none (is_on key) t.subs (none_found (is_on key) t.subs none)));
+  durable = is.durable;
+  formed = formed_append e t.changes [] kept is.formed tt;
+}
+removed_kept e kept t key (Some s) found limits is =
+    let there = is.same s.name ∙ acked_found (is_on key) t.subs s limits.names found in
+    let named = (durable_all e t.changes kept is.formed is.durable).named s.name (some-there _ s.acked there) in
+    record {
+      same = removed_same kept t key (Some s) found limits.names is.same;
+      count = ap (λ m. map.len m) (after_append t.changes (Removed s.name ∷ []) kept) ∙ len-gone (after_all t.changes kept) s.name (some-there _ s.acked there)
+          ∙ ap (λ n. n - 1) is.count ∙ one_fewer (length t.subs) (length (first_removed (is_on key) t.subs)) (length_removed (is_on key) t.subs s found);
+      durable = is.durable;
+      formed = formed_append e t.changes (Removed s.name ∷ []) kept is.formed (record { name_is = named; placed = some-there _ s.acked there }, tt);
+    }
+
 length_each : {X : Type 0} {Y : Type 0} (f : X → Y) (xs : List X) → length (each (λ x. f x) xs) ≡ length xs
 length_each f [] = refl
 length_each f (x ∷ xs) = omega (arith, length_each f xs)
@@ -289,6 +335,8 @@ are_kept = record {
   attach = λ e kept t name mode key start allowed named low is. attach_kept e kept t name mode key start (find (is_named name) t.subs) refl allowed named low is;
   grant = λ e kept t key permits is. kept_spared e kept t _ (λ q. acked_spared (is_on key) (granted_on key permits) (record { name = λ _. refl; acked = λ _. refl }) q t.subs) (length_changed (is_on key) (granted_on key permits) t.subs) is;
   acknowledge = λ e kept t key ps limits all is. ack_kept e kept t key ps (find (is_on key) t.subs) refl limits all is;
+  acknowledge_through = λ e kept t key p limits low is. through_kept e kept t key p (find (is_on key) t.subs) refl limits low is;
+  unsubscribe = λ e kept t key limits is. removed_kept e kept t key (find (is_on key) t.subs) refl limits is;
   send = λ e kept t key i is. kept_spared e kept t _ (λ q. acked_spared (is_on key) (sent_on key i) (record { name = λ _. refl; acked = λ _. refl }) q t.subs) (length_changed (is_on key) (sent_on key i) t.subs) is;
   leave = λ e kept t who is. kept_spared e kept t _ (λ q. acked_each (left_on who) (record { name = λ _. refl; acked = λ _. refl }) q t.subs) (length_each (left_on who) t.subs) is;
   settle = settle_kept;

@@ -1,16 +1,16 @@
 -- What one subscription does, of all: by where the one of a name or of a consumer stands.
 use Rattle.std.proofs.Common.{Result, Ok, Err, ◌≡◌, ℕ, Bool, false, List, [], ◌∷◌, ◌++◌, get_or, set, refl, ap, sym, subst, ◌∙◌, Some, None, Option}
 use Rattle.std.specs.Prelude.{map as each, IfSome, IfNone, OnErr}
-use Rattle.std.specs.List.{find, position}
+use Rattle.std.specs.List.{find, position, remove}
 use Rattle.holds.specs.declared.consumer.ConsumerKey.{ConsumerKey}
 use Rattle.subscriptions.specs.declared.consumer.Mode.{Mode}
 use Rattle.subscriptions.specs.declared.consumer.Refusal.{Refusal}
 use Rattle.records.specs.declared.record.Record.{Record}
-use Rattle.records.specs.declared.record.Record.TheVariants.{Made, Acknowledged}
+use Rattle.records.specs.declared.record.Record.TheVariants.{Made, Acknowledged, Removed, AcknowledgedThrough}
 use Rattle.subscriptions.specs.State.{Subscription, Subscriptions}
-use Rattle.subscriptions.specs.Steps.{first_changed, first_standing, is_named, is_on, subscribe_refusals, refusals_at, making_refusals, attach_refusals, attached_to, attached_at, attached, made, granted, granted_on, grants_too_many, is_past, is_past_on, is_consumer, acknowledged, acknowledgements, acked_on, Admits, AdmitsAt, AdmitsOn, sent_before, times_at}
+use Rattle.subscriptions.specs.Steps.{first_changed, first_standing, is_named, is_on, subscribe_refusals, refusals_at, making_refusals, attach_refusals, attached_to, attached_at, attached, made, granted, granted_on, grants_too_many, is_past, is_past_on, is_consumer, acknowledged, acknowledgements, acked_on, acknowledged_through, acknowledgement_through, acked_through_on, first_removed, unsubscribed, removal, is_shared, Admits, AdmitsAt, AdmitsOn, sent_before, times_at}
 use Rattle.holds.specs.Deliveries.{times}
-use Rattle.subscriptions.proofs.Places.{changes, finds, stays, misses}
+use Rattle.subscriptions.proofs.Places.{changes, finds, stays, misses, removes, removed-none, none_found}
 
 -- what holds anyhow holds where there is an error
 pub on_err : {T E P : Type 0} (r : Result T E) → P → OnErr r P
@@ -79,6 +79,28 @@ module _ (t : Subscriptions) (key : ConsumerKey) where
   acknowledges_at ps i s s' at read is =
       ap (λ xs. with_both xs (t.changes ++ each (λ p. Acknowledged s.name p) ps)) (changes (is_on key) (acked_on ps) t.subs i s s' at read is)
       ∙ sym (ap (λ (o : Option Subscription). with_both (first_changed (is_on key) (acked_on ps) t.subs) (t.changes ++ acknowledgements o ps)) (finds (is_on key) t.subs i s at read))
+
+  pub through_none : (p : ℕ) → position (is_on key) t.subs ≡ None → t ≡ acknowledged_through t key p
+  through_none p at =
+      ap with_subs (stays (is_on key) (acked_through_on p) t.subs at)
+      ∙ ap (with_both (first_changed (is_on key) (acked_through_on p) t.subs)) (sym (nothing_more t.changes) ∙ sym (ap (λ (o : Option Subscription). t.changes ++ acknowledgement_through o p) (misses (is_on key) t.subs at)))
+
+  pub through_at : (p : ℕ) (i : ℕ) (s s' : Subscription) → position (is_on key) t.subs ≡ Some i → s ≡ get_or t.subs i s → s' ≡ acked_through_on p s
+      → with_both (set t.subs i s') (t.changes ++ AcknowledgedThrough s.name p ∷ []) ≡ acknowledged_through t key p
+  through_at p i s s' at read is =
+      ap (λ xs. with_both xs (t.changes ++ AcknowledgedThrough s.name p ∷ [])) (changes (is_on key) (acked_through_on p) t.subs i s s' at read is)
+      ∙ sym (ap (λ (o : Option Subscription). with_both (first_changed (is_on key) (acked_through_on p) t.subs) (t.changes ++ acknowledgement_through o p)) (finds (is_on key) t.subs i s at read))
+
+  pub unsubscribes_none : position (is_on key) t.subs ≡ None → t ≡ unsubscribed t key
+  unsubscribes_none at =
+      ap with_subs (sym (removed-none (is_on key) t.subs (none_found (is_on key) t.subs (misses (is_on key) t.subs at))))
+      ∙ ap (with_both (first_removed (is_on key) t.subs)) (sym (nothing_more t.changes) ∙ sym (ap (λ (o : Option Subscription). t.changes ++ removal o) (misses (is_on key) t.subs at)))
+
+  pub unsubscribes_at : (i : ℕ) (s : Subscription) → position (is_on key) t.subs ≡ Some i → s ≡ get_or t.subs i s
+      → with_both (remove t.subs i) (t.changes ++ Removed s.name ∷ []) ≡ unsubscribed t key
+  unsubscribes_at i s at read =
+      ap (λ xs. with_both xs (t.changes ++ Removed s.name ∷ [])) (removes (is_on key) t.subs i s at)
+      ∙ sym (ap (λ (o : Option Subscription). with_both (first_removed (is_on key) t.subs) (t.changes ++ removal o)) (finds (is_on key) t.subs i s at read))
 
   pub admits_none : (committed i : ℕ) → position (is_on key) t.subs ≡ None → Admits t key committed i → ⊥
   admits_none committed i at a = let none : AdmitsAt None key committed i = subst (λ (o : Option Subscription). AdmitsAt o key committed i) (misses (is_on key) t.subs at) a in none

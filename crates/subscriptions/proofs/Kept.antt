@@ -1,5 +1,5 @@
 -- The names and sets of the subscriptions are what the changes make of the kept ones, after each step.
-use Rattle.std.proofs.Common.{◌≡◌, ℕ, zero, suc, Bool, false, true, nat_eq, cond, ◌||◌, List, [], ◌∷◌, ◌++◌, take, drop, ◌∙◌, ap, sym, refl, arith, Some, None, Option}
+use Rattle.std.proofs.Common.{◌≡◌, ℕ, zero, suc, ◌+◌, Bool, false, true, nat_eq, cond, ◌||◌, List, [], ◌∷◌, ◌++◌, take, drop, ◌∙◌, ap, sym, refl, arith, Some, None, Option}
 use Rattle.std.proofs.lemmas.Bool.{true≢false}
 use Rattle.std.proofs.lemmas.Bool.Decides.{nat_tests}
 use Rattle.std.proofs.lemmas.Slice.Eq.{bytes_eq-Decides}
@@ -14,17 +14,18 @@ use Rattle.std.specs.FinMap as map
 use Rattle.std.specs.Prelude.{map as each}
 use Rattle.cursor.specs.Positions.{Positions, below, same_positions, has_insert}
 use Rattle.records.specs.declared.record.Record.{Record}
-use Rattle.records.specs.declared.record.Record.TheVariants.{Made, Acknowledged}
+use Rattle.records.specs.declared.record.Record.TheVariants.{Made, Removed, Acknowledged, AcknowledgedThrough}
 use Rattle.records.specs.Maps.{Kept}
 use Rattle.records.specs.Records.{after, after_all, changed_at, acknowledged}
 use Rattle.subscriptions.specs.State.{Subscription, Subscriptions}
 use Rattle.subscriptions.specs.Progress.{joined}
-use Rattle.subscriptions.specs.Steps.{first_changed, is_named, is_on, acked_on, acknowledgements, attached_at, attached_to, made}
+use Rattle.subscriptions.specs.Steps.{first_changed, first_removed, is_named, is_on, acked_on, acknowledgements, acked_through_on, acknowledgement_through, removal, attached_at, attached_to, made}
 use Rattle.subscriptions.specs.Laws.{acked_as}
 use Rattle.subscriptions.specs.declared.consumer.Mode.{Mode}
+use Rattle.holds.specs.Deliveries.{Deliveries}
 use Rattle.holds.specs.declared.consumer.ConsumerKey.{ConsumerKey}
-use Rattle.subscriptions.proofs.Settled.{is_in, has_joined, joined_none}
-use Rattle.subscriptions.proofs.Places.{changed-none, none_found}
+use Rattle.subscriptions.proofs.Settled.{is_in, has_joined, joined_none, forgotten, forgotten_below}
+use Rattle.subscriptions.proofs.Places.{changed-none, removed-none, none_found}
 
 -- ---- names
 
@@ -176,21 +177,54 @@ chosen : (b : Bool) (x y : Subscription) (r : Option Subscription) → option_ma
 chosen true x y r = refl
 chosen false x y r = refl
 
+-- what acknowledges more and forgets deliveries
+abbrev pub acked_by : (Positions → Positions) → (Deliveries → Deliveries) → Subscription → Subscription
+acked_by more forget s = record s { acked = more s.acked; deliveries = forget s.deliveries }
+
 -- the subscription that a consumer is on acknowledges positions
-pub acked_changed : (test : Subscription → Bool) (ps : List ℕ) (q : List ℕ) (xs : List Subscription) (s : Subscription) → IsDistinct bytes_eq (names xs) → find test xs ≡ Some s
-    → acked_as q (first_changed test (acked_on ps) xs) ≡ cond (bytes_eq q s.name) (Some (joined s.acked ps)) (acked_as q xs)
-acked_changed test ps q [] s d is = absurd (cc)
-acked_changed test ps q (x ∷ xs) s d is = elim (test x) as (λ b. cond b (Some x) (find test xs) ≡ Some s → acked_as q (cond b (acked_on ps x ∷ xs) (x ∷ first_changed test (acked_on ps) xs)) ≡ cond (bytes_eq q s.name) (Some (joined s.acked ps)) (acked_as q (x ∷ xs))) [
+pub acked_changed : (test : Subscription → Bool) (more : Positions → Positions) (forget : Deliveries → Deliveries) (q : List ℕ) (xs : List Subscription) (s : Subscription) → IsDistinct bytes_eq (names xs) → find test xs ≡ Some s
+    → acked_as q (first_changed test (acked_by more forget) xs) ≡ cond (bytes_eq q s.name) (Some (more s.acked)) (acked_as q xs)
+acked_changed test more forget q [] s d is = absurd (cc)
+acked_changed test more forget q (x ∷ xs) s d is = elim (test x) as (λ b. cond b (Some x) (find test xs) ≡ Some s → acked_as q (cond b (acked_by more forget x ∷ xs) (x ∷ first_changed test (acked_by more forget) xs)) ≡ cond (bytes_eq q s.name) (Some (more s.acked)) (acked_as q (x ∷ xs))) [
   | true ↦ λ is. let same : x ≡ s = cc in
-      ap (λ b. option_map (λ (z : Subscription). z.acked) (cond b (Some (acked_on ps x)) (find (is_named q) xs))) (turned x.name q)
-      ∙ chosen (bytes_eq q x.name) (acked_on ps x) x (find (is_named q) xs)
-      ∙ ap (λ b. cond (bytes_eq q x.name) (Some (joined x.acked ps)) (option_map (λ (z : Subscription). z.acked) (cond b (Some x) (find (is_named q) xs)))) (sym (turned x.name q))
-      ∙ ap (λ (y : Subscription). cond (bytes_eq q y.name) (Some (joined y.acked ps)) (acked_as q (x ∷ xs))) same
+      ap (λ b. option_map (λ (z : Subscription). z.acked) (cond b (Some (acked_by more forget x)) (find (is_named q) xs))) (turned x.name q)
+      ∙ chosen (bytes_eq q x.name) (acked_by more forget x) x (find (is_named q) xs)
+      ∙ ap (λ b. cond (bytes_eq q x.name) (Some (more x.acked)) (option_map (λ (z : Subscription). z.acked) (cond b (Some x) (find (is_named q) xs)))) (sym (turned x.name q))
+      ∙ ap (λ (y : Subscription). cond (bytes_eq q y.name) (Some (more y.acked)) (acked_as q (x ∷ xs))) same
   | false ↦ λ is. elim (bytes_eq x.name q) as (λ b. bytes_eq x.name q ≡ b
-      → option_map (λ (z : Subscription). z.acked) (cond b (Some x) (find (is_named q) (first_changed test (acked_on ps) xs))) ≡ cond (bytes_eq q s.name) (Some (joined s.acked ps)) (option_map (λ (z : Subscription). z.acked) (cond b (Some x) (find (is_named q) xs)))) [
-        | true ↦ λ here. sym (ap (λ b. cond b (Some (joined s.acked ps)) (Some x.acked))
+      → option_map (λ (z : Subscription). z.acked) (cond b (Some x) (find (is_named q) (first_changed test (acked_by more forget) xs))) ≡ cond (bytes_eq q s.name) (Some (more s.acked)) (option_map (λ (z : Subscription). z.acked) (cond b (Some x) (find (is_named q) xs)))) [
+        | true ↦ λ here. sym (ap (λ b. cond b (Some (more s.acked)) (Some x.acked))
             (ap (λ n. bytes_eq n s.name) (sym (same_name x.name q here)) ∙ found_apart x.name test xs s (IsDistinct-head bytes_eq x.name (names xs) d) is))
-        | false ↦ λ here. acked_changed test ps q xs s (IsDistinct-tail bytes_eq x.name (names xs) d) is
+        | false ↦ λ here. acked_changed test more forget q xs s (IsDistinct-tail bytes_eq x.name (names xs) d) is
+      ] refl
+] is
+
+-- a name that differs from each of a list's is not among them
+none_named : (n : List ℕ) (xs : List Subscription) → AllByRecursion (λ y. bytes_eq n y ≡ false) (names xs) → acked_as n xs ≡ None
+none_named n [] apart = refl
+none_named n (x ∷ xs) apart =
+    ap (λ b. option_map (λ (z : Subscription). z.acked) (cond b (Some x) (find (is_named n) xs))) (turned x.name n ∙ apart.0) ∙ none_named n xs apart.1
+
+-- the first one goes
+gone_here : (q : List ℕ) (x : Subscription) (xs : List Subscription) (b : Bool) → bytes_eq q x.name ≡ b → AllByRecursion (λ y. bytes_eq x.name y ≡ false) (names xs)
+    → acked_as q xs ≡ cond b None (option_map (λ (z : Subscription). z.acked) (cond b (Some x) (find (is_named q) xs)))
+gone_here q x xs true is apart = ap (λ n. acked_as n xs) (same_name q x.name is) ∙ none_named x.name xs apart
+gone_here q x xs false is apart = refl
+
+-- the subscription that a consumer is on goes
+pub acked_removed : (test : Subscription → Bool) (q : List ℕ) (xs : List Subscription) (s : Subscription) → IsDistinct bytes_eq (names xs) → find test xs ≡ Some s
+    → acked_as q (first_removed test xs) ≡ cond (bytes_eq q s.name) None (acked_as q xs)
+acked_removed test q [] s d is = absurd (cc)
+acked_removed test q (x ∷ xs) s d is = elim (test x) as (λ b. cond b (Some x) (find test xs) ≡ Some s → acked_as q (cond b xs (x ∷ first_removed test xs)) ≡ cond (bytes_eq q s.name) None (acked_as q (x ∷ xs))) [
+  | true ↦ λ is. let same : x ≡ s = cc in
+      gone_here q x xs (bytes_eq q x.name) refl (IsDistinct-head bytes_eq x.name (names xs) d)
+      ∙ ap (λ b. cond (bytes_eq q x.name) None (option_map (λ (z : Subscription). z.acked) (cond b (Some x) (find (is_named q) xs)))) (sym (turned x.name q))
+      ∙ ap (λ (y : Subscription). cond (bytes_eq q y.name) None (acked_as q (x ∷ xs))) same
+  | false ↦ λ is. elim (bytes_eq x.name q) as (λ b. bytes_eq x.name q ≡ b
+      → option_map (λ (z : Subscription). z.acked) (cond b (Some x) (find (is_named q) (first_removed test xs))) ≡ cond (bytes_eq q s.name) None (option_map (λ (z : Subscription). z.acked) (cond b (Some x) (find (is_named q) xs)))) [
+        | true ↦ λ here. sym (ap (λ b. cond b None (Some x.acked))
+            (ap (λ n. bytes_eq n s.name) (sym (same_name x.name q here)) ∙ found_apart x.name test xs s (IsDistinct-head bytes_eq x.name (names xs) d) is))
+        | false ↦ λ here. acked_removed test q xs s (IsDistinct-tail bytes_eq x.name (names xs) d) is
       ] refl
 ] is
 
@@ -218,4 +252,33 @@ acknowledged_same kept t key ps (Some s) found d is q =
     ap (λ m. map.get m q) (after_append t.changes (each (λ p. Acknowledged s.name p) ps) kept)
     ∙ after_acks s.name ps (after_all t.changes kept) s.acked q (is s.name ∙ acked_found (is_on key) t.subs s d found)
     ∙ ap (λ x. cond (bytes_eq q s.name) (Some (joined s.acked ps)) x) (is q)
-    ∙ sym (acked_changed (is_on key) ps q t.subs s d found)
+    ∙ sym (acked_changed (is_on key) (λ a. joined a ps) (λ d. forgotten d ps) q t.subs s d found)
+
+-- one acknowledgement of all up to a position
+pub after_through : (kept : Kept) (n : List ℕ) (p : ℕ) (s : Positions) → map.get kept n ≡ Some s → after (AcknowledgedThrough n p) kept ≡ map.insert kept n (set.union s (below (p + 1)))
+after_through kept n p s there = ap (λ o. changed_at o kept n (acknowledged (AcknowledgedThrough n p))) there
+
+pub through_same : (kept : Kept) (t : Subscriptions) (key : ConsumerKey) (p : ℕ) (o : Option Subscription) → find (is_on key) t.subs ≡ o → IsDistinct bytes_eq (names t.subs)
+    → AreSame kept t → (q : List ℕ) → map.get (after_all (t.changes ++ acknowledgement_through o p) kept) q ≡ acked_as q (first_changed (is_on key) (acked_through_on p) t.subs)
+through_same kept t key p None none d is q =
+    ap (λ m. map.get m q) (after_append t.changes [] kept) ∙ is q
+    ∙ sym (ap (acked_as q) (changed-none (is_on key) (acked_through_on p) t.subs (none_found (is_on key) t.subs none)))
+through_same kept t key p (Some s) found d is q =
+    ap (λ m. map.get m q) (after_append t.changes (AcknowledgedThrough s.name p ∷ []) kept ∙ after_through (after_all t.changes kept) s.name p s.acked (is s.name ∙ acked_found (is_on key) t.subs s d found))
+    ∙ get_insert (after_all t.changes kept) s.name (set.union s.acked (below (p + 1))) q
+    ∙ ap (λ x. cond (bytes_eq q s.name) (Some (set.union s.acked (below (p + 1)))) x) (is q)
+    ∙ sym (acked_changed (is_on key) (λ a. set.union a (below (p + 1))) (λ d. forgotten_below d (p + 1)) q t.subs s d found)
+
+pub get_remove : (kept : Kept) (n q : List ℕ) → map.get (map.remove kept n) q ≡ cond (bytes_eq q n) None (map.get kept q)
+get_remove kept n q = map.get-remove nat_list_cmp_total kept n q ∙ ap (λ b. cond b None (map.get kept q)) (is_eq-slice_cmp q n)
+
+pub removed_same : (kept : Kept) (t : Subscriptions) (key : ConsumerKey) (o : Option Subscription) → find (is_on key) t.subs ≡ o → IsDistinct bytes_eq (names t.subs)
+    → AreSame kept t → (q : List ℕ) → map.get (after_all (t.changes ++ removal o) kept) q ≡ acked_as q (first_removed (is_on key) t.subs)
+removed_same kept t key None none d is q =
+    ap (λ m. map.get m q) (after_append t.changes [] kept) ∙ is q
+    ∙ sym (ap (acked_as q) (removed-none (is_on key) t.subs (none_found (is_on key) t.subs none)))
+removed_same kept t key (Some s) found d is q =
+    ap (λ m. map.get m q) (after_append t.changes (Removed s.name ∷ []) kept)
+    ∙ get_remove (after_all t.changes kept) s.name q
+    ∙ ap (λ x. cond (bytes_eq q s.name) None x) (is q)
+    ∙ sym (acked_removed (is_on key) q t.subs s d found)

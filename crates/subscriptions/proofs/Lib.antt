@@ -6,3 +6,4 @@ pub mod Kept
 pub mod Limits
 pub mod Found
 pub mod Durable
+pub mod Told

@@ -1,7 +1,7 @@
 -- Each step keeps the limits of a topic's subscriptions, and each of them sound.
-use Rattle.std.proofs.Common.{◌≡◌, ℕ, ◌+◌, ◌<◌, ◌≤◌, Bool, false, true, nat_eq, nat_le, cond, ◌||◌, List, [], ◌∷◌, ◌++◌, length, ◌∙◌, ap, sym, subst, refl, arith, Some, None, Option, length-append, length-drop}
+use Rattle.std.proofs.Common.{◌≡◌, ℕ, ◌+◌, ◌<◌, ◌≤◌, Bool, false, true, nat_eq, nat_lt, nat_le, cond, ◌||◌, List, [], ◌∷◌, ◌++◌, length, ◌∙◌, ap, sym, subst, refl, arith, Some, None, Option, length-append, length-drop}
 use Rattle.std.proofs.lemmas.Bool.Decides.{nat_tests}
-use Rattle.std.proofs.lemmas.Map.Keys.{IsDistinct-push}
+use Rattle.std.proofs.lemmas.Map.Keys.{IsDistinct-push, IsDistinct-head, IsDistinct-tail, IsDistinct-cons}
 use Rattle.std.specs.List.{list_any, find, AllByRecursion, IsDistinct}
 use Rattle.std.specs.Cmp.Lexicographic.{nat_list_eq_equiv}
 use Rattle.std.specs.Str.{bytes_eq}
@@ -18,13 +18,14 @@ use Rattle.subscriptions.specs.declared.consumer.Refusal.{Refusal}
 use Rattle.records.specs.declared.record.Record.{Record}
 use Rattle.records.specs.declared.record.Record.TheVariants.{Acknowledged}
 use Rattle.subscriptions.specs.State.{Subscription, Subscriptions}
-use Rattle.subscriptions.specs.Steps.{first_changed, first_standing, is_named, is_on, refusals_at, making_refusals, attach_refusals, attached_to, attached_at, made, granted_on, grants_too_many, is_past_on, acknowledged, acknowledgements, acked_on, Admits, AdmitsAt, AdmitsOn, sent_on, left, left_on, freed, settled}
+use Rattle.subscriptions.specs.Steps.{first_changed, first_standing, is_named, is_on, refusals_at, making_refusals, attach_refusals, attached_to, attached_at, made, granted_on, grants_too_many, is_past_on, acknowledged, acknowledgements, acked_on, acknowledged_through, acknowledgement_through, acked_through_on, first_removed, is_shared, unsubscribe_refusals, unsubscribed, removal, Admits, AdmitsAt, AdmitsOn, sent_on, left, left_on, freed, settled}
 use Rattle.subscriptions.specs.Soundness.{IsSoundSubscription, HasLimits, IsSound, IsCommittedOn, IsCommitted}
 use Rattle.subscriptions.specs.Laws.{StaysSound, DeliveriesAreCommitted, PickedIsOpen, IsOpenFor}
-use Rattle.subscriptions.proofs.Sound.{length_changed, all_changed, all_pushed, sound_made, sound_attached, sound_granted, sound_acked, sound_sent, sound_left, get_freed}
+use Rattle.subscriptions.proofs.Sound.{length_changed, all_changed, all_pushed, sound_made, sound_attached, sound_granted, sound_acked, sound_acked_through, sound_sent, sound_left, get_freed}
 use Rattle.subscriptions.proofs.Kept.{names, turned}
 use Rattle.subscriptions.proofs.Durable.{opened_sound, opened_committed}
-use Rattle.subscriptions.proofs.Settled.{is_in, get_forgotten}
+use Rattle.subscriptions.proofs.Settled.{is_in, get_forgotten, get_forgotten_below}
+use Rattle.subscriptions.proofs.Places.{all_removed, length_fewer}
 
 pub names_changed : (test : Subscription → Bool) (f : Subscription → Subscription) → ((s : Subscription) → (f s).name ≡ s.name) → (subs : List Subscription) → names (first_changed test f subs) ≡ names subs
 names_changed test f same [] = refl
@@ -105,6 +106,44 @@ limits_acknowledged t key ps room l = record {
   changes = rw length-append (omega (arith, length_acks (find (is_on key) t.subs) ps));
 }
 
+length_through : (o : Option Subscription) (p : ℕ) → length (acknowledgement_through o p) ≤ 1
+length_through None p = omega arith
+length_through (Some s) p = omega arith
+
+pub limits_through : (t : Subscriptions) (key : ConsumerKey) (p : ℕ) → length t.changes + 1 ≤ 65536 → HasLimits t → HasLimits (acknowledged_through t key p)
+limits_through t key p room l = record {
+  names = subst (IsDistinct bytes_eq) (sym (names_changed (is_on key) (acked_through_on p) (λ _. refl) t.subs)) l.names;
+  subscriptions = rw length_changed l.subscriptions;
+  changes = rw length-append (omega (arith, length_through (find (is_on key) t.subs) p));
+}
+
+apart_removed : (n : List ℕ) (test : Subscription → Bool) (subs : List Subscription) → AllByRecursion (λ y. bytes_eq n y ≡ false) (names subs) → AllByRecursion (λ y. bytes_eq n y ≡ false) (names (first_removed test subs))
+apart_removed n test [] apart = tt
+apart_removed n test (x ∷ xs) apart = elim (test x) as (λ b. AllByRecursion (λ y. bytes_eq n y ≡ false) (names (cond b xs (x ∷ first_removed test xs)))) [
+  | true ↦ apart.1
+  | false ↦ (apart.0, apart_removed n test xs apart.1)
+]
+
+distinct_removed : (test : Subscription → Bool) (subs : List Subscription) → IsDistinct bytes_eq (names subs) → IsDistinct bytes_eq (names (first_removed test subs))
+distinct_removed test [] d = d
+distinct_removed test (x ∷ xs) d = elim (test x) as (λ b. IsDistinct bytes_eq (names (cond b xs (x ∷ first_removed test xs)))) [
+  | true ↦ IsDistinct-tail bytes_eq x.name (names xs) d
+  | false ↦ IsDistinct-cons bytes_eq x.name (names (first_removed test xs)) (apart_removed x.name test xs (IsDistinct-head bytes_eq x.name (names xs) d))
+      (distinct_removed test xs (IsDistinct-tail bytes_eq x.name (names xs) d))
+]
+
+length_removal : (o : Option Subscription) → length (removal o) ≤ 1
+length_removal None = omega arith
+length_removal (Some s) = omega arith
+
+pub limits_unsubscribed : (t : Subscriptions) (key : ConsumerKey) → first_standing (unsubscribe_refusals t key) ≡ None → HasLimits t → HasLimits (unsubscribed t key)
+limits_unsubscribed t key allowed l =
+    let rows = two_rows (is_shared (find (is_on key) t.subs)) (nat_le 65536 (length t.changes)) _ _ allowed in record {
+      names = distinct_removed (is_on key) t.subs l.names;
+      subscriptions = omega (arith, l.subscriptions, length_fewer (is_on key) t.subs);
+      changes = rw length-append (omega (arith, length_removal (find (is_on key) t.subs), below_65536 (length t.changes) rows.1));
+    }
+
 all_each : (f : Subscription → Subscription) → ((s : Subscription) → IsSoundSubscription s → IsSoundSubscription (f s)) → (subs : List Subscription) → AllByRecursion IsSoundSubscription subs → AllByRecursion IsSoundSubscription (each (λ s. f s) subs)
 all_each f to [] all = tt
 all_each f to (x ∷ xs) all = (to x all.0, all_each f to xs all.1)
@@ -144,6 +183,14 @@ each_sound = record {
     limits = limits_acknowledged t key ps room sound.limits;
     each_one = all_changed (is_on key) (acked_on ps) IsSoundSubscription t.subs (λ x is ok. sound_acked ps x ok) sound.each_one;
   };
+  acknowledge_through = λ t key p room sound. record {
+    limits = limits_through t key p room sound.limits;
+    each_one = all_changed (is_on key) (acked_through_on p) IsSoundSubscription t.subs (λ x is ok. sound_acked_through p x ok) sound.each_one;
+  };
+  unsubscribe = λ t key allowed sound. record {
+    limits = limits_unsubscribed t key allowed sound.limits;
+    each_one = all_removed (is_on key) IsSoundSubscription t.subs sound.each_one;
+  };
   send = λ t key committed i a sound. record {
     limits = limits_changed t (is_on key) (sent_on key i) (λ _. refl) sound.limits;
     each_one = all_changed (is_on key) (sent_on key i) IsSoundSubscription t.subs (λ x is ok. sound_sent key committed i x (admitted_at key committed i t x is a) ok) sound.each_one;
@@ -172,6 +219,9 @@ committed_sent committed i key s a c j h =
 committed_acked : (committed : ℕ) (ps : List ℕ) (s : Subscription) → IsCommittedOn committed s → IsCommittedOn committed (acked_on ps s)
 committed_acked committed ps s c j h = get_forgotten s.deliveries ps j ∙ either_none (is_in j ps) (map.get s.deliveries j) (c j h)
 
+committed_through : (committed : ℕ) (p : ℕ) (s : Subscription) → IsCommittedOn committed s → IsCommittedOn committed (acked_through_on p s)
+committed_through committed p s c j h = get_forgotten_below s.deliveries (p + 1) j ∙ either_none (nat_lt j (p + 1)) (map.get s.deliveries j) (c j h)
+
 committed_left : (committed who : ℕ) (s : Subscription) → IsCommittedOn committed s → IsCommittedOn committed (left_on who s)
 committed_left committed who s c j h = get_freed who s.deliveries j ∙ ap (option_map (freed who)) (c j h)
 
@@ -192,6 +242,8 @@ each_committed = record {
   attach = λ committed t name mode key start all. committed_attach committed t name mode key start (find (is_named name) t.subs) all;
   grant = λ committed t key permits all. all_changed (is_on key) (granted_on key permits) (IsCommittedOn committed) t.subs (λ x is c. c) all;
   acknowledge = λ committed t key ps all. all_changed (is_on key) (acked_on ps) (IsCommittedOn committed) t.subs (λ x is c. committed_acked committed ps x c) all;
+  acknowledge_through = λ committed t key p all. all_changed (is_on key) (acked_through_on p) (IsCommittedOn committed) t.subs (λ x is c. committed_through committed p x c) all;
+  unsubscribe = λ committed t key all. all_removed (is_on key) (IsCommittedOn committed) t.subs all;
   send = λ committed t key i a all. all_changed (is_on key) (sent_on key i) (IsCommittedOn committed) t.subs (λ x is c. committed_sent committed i key x (admitted_at key committed i t x is a) c) all;
   leave = λ committed t who all. each_left committed who t.subs all;
   settle = λ committed t count all. all;

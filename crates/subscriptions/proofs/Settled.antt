@@ -9,7 +9,7 @@ use Rattle.std.specs.Option.{option_map}
 use Rattle.std.specs.Ordering.{nat_cmp}
 use Rattle.std.specs.FinSet as set
 use Rattle.std.specs.FinMap as map
-use Rattle.cursor.specs.Positions.{Positions, Has, Lacks, IsFirstOpen, below, same_positions, has_empty, has_insert, has_union}
+use Rattle.cursor.specs.Positions.{Positions, Has, Lacks, IsFirstOpen, below, same_positions, has_empty, has_insert, has_union, has_below}
 use Rattle.holds.specs.Deliveries.{Deliveries, holder, holder_in, sent_to}
 use Rattle.holds.specs.Backlog.{IsOpenAt, IsLeast}
 use Rattle.holds.specs.declared.consumer.ConsumerKey.{ConsumerKey}
@@ -67,7 +67,7 @@ joined_append acked late ps = same_positions _ _ (λ q.
     ∙ or_three (set.contains acked q) (is_in q late) (is_in q ps)
     ∙ sym (has_joined (joined acked late) ps q ∙ ap (λ b. b || is_in q ps) (has_joined acked late q)))
 
-symmetric_eq : (p q : ℕ) → nat_eq p q ≡ nat_eq q p
+pub symmetric_eq : (p q : ℕ) → nat_eq p q ≡ nat_eq q p
 symmetric_eq p q = grind (arith, nat_tests)
 
 -- the last one that is late goes into the set
@@ -113,6 +113,45 @@ settled_acked frontier acked d ps s = record {
       s.settled i low (or_left_false _ _ either)
       (ap holder_in (sym (get_forgotten d ps i ∙ ap (λ b. cond b None (map.get d i)) (or_right_false _ _ either))) ∙ free);
   apart = apart_acked acked d ps s.apart;
+}
+
+-- ---- all positions up to one
+
+abbrev pub forgotten_below : Deliveries → ℕ → Deliveries
+forgotten_below d n = map.retain_keys d (λ p. not (nat_lt p n))
+
+pub get_forgotten_below : (d : Deliveries) (n q : ℕ) → map.get (forgotten_below d n) q ≡ cond (nat_lt q n) None (map.get d q)
+get_forgotten_below d n q = get_retained d (λ p. not (nat_lt p n)) q ∙ cond_not (nat_lt q n) (map.get d q) None
+
+or_exchanged : (a b c : Bool) → ((a || b) || c) ≡ ((a || c) || b)
+or_exchanged true b c = refl
+or_exchanged false true true = refl
+or_exchanged false true false = refl
+or_exchanged false false true = refl
+or_exchanged false false false = refl
+
+pub has_through : (acked : Positions) (n q : ℕ) → set.contains (set.union acked (below n)) q ≡ (set.contains acked q || nat_lt q n)
+has_through acked n q = has_union acked (below n) q ∙ ap (λ b. set.contains acked q || b) (has_below n q)
+
+-- the late ones join as before
+pub joined_through : (acked : Positions) (late : List ℕ) (n : ℕ) → joined (set.union acked (below n)) late ≡ set.union (joined acked late) (below n)
+joined_through acked late n = same_positions _ _ (λ q.
+    has_joined (set.union acked (below n)) late q ∙ ap (λ b. b || is_in q late) (has_through acked n q)
+    ∙ or_exchanged (set.contains acked q) (nat_lt q n) (is_in q late)
+    ∙ sym (has_through (joined acked late) n q ∙ ap (λ b. b || nat_lt q n) (has_joined acked late q)))
+
+pub apart_through : (acked : Positions) (d : Deliveries) (n : ℕ) → AreApart acked d → AreApart (set.union acked (below n)) (forgotten_below d n)
+apart_through acked d n apart i has =
+    get_forgotten_below d n i ∙ none_either (nat_lt i n) (set.contains acked i) (map.get d i) (sym (has_through acked n i) ∙ has) (apart i)
+
+pub settled_through : (frontier : ℕ) (acked : Positions) (d : Deliveries) (n : ℕ) → IsSettled frontier acked d → IsSettled frontier (set.union acked (below n)) (forgotten_below d n)
+settled_through frontier acked d n s = record {
+  fits = s.fits;
+  settled = λ i low lacks free.
+      let either = sym (has_through acked n i) ∙ lacks in
+      s.settled i low (or_left_false _ _ either)
+      (ap holder_in (sym (get_forgotten_below d n i ∙ ap (λ b. cond b None (map.get d i)) (or_right_false _ _ either))) ∙ free);
+  apart = apart_through acked d n s.apart;
 }
 
 -- nothing was sent

@@ -19,9 +19,9 @@ use Rattle.subscriptions.specs.declared.consumer.Consumer.{Consumer}
 use Rattle.subscriptions.specs.declared.consumer.Refusal.{Refusal}
 use Rattle.subscriptions.specs.State.{Subscription}
 use Rattle.subscriptions.specs.Freeing.{is_among, freed_among}
-use Rattle.subscriptions.specs.Steps.{first_changed, first_standing, is_consumer, is_on, has_some, is_exclusive, same_mode, attach_refusals, attached_to, made, opened_one, granted_to, granted_on, is_past, acked_on, has_permit, AdmitsOn, sent_one, sent_on, is_of, freed, freed_by, left_on}
+use Rattle.subscriptions.specs.Steps.{first_changed, first_standing, is_consumer, is_on, has_some, is_exclusive, same_mode, attach_refusals, attached_to, made, opened_one, granted_to, granted_on, is_past, acked_on, acked_through_on, has_permit, AdmitsOn, sent_one, sent_on, is_of, freed, freed_by, left_on}
 use Rattle.subscriptions.specs.Soundness.{IsWithinPermits, IsSoundSubscription}
-use Rattle.subscriptions.proofs.Settled.{is_in, get_forgotten, apart_acked, apart_empty, apart_sent, given_back_apart}
+use Rattle.subscriptions.proofs.Settled.{is_in, get_forgotten, get_forgotten_below, apart_acked, apart_through, apart_empty, apart_sent, given_back_apart}
 
 -- ---- lists
 
@@ -163,6 +163,15 @@ sound_acked ps s sound = record {
   permits = sound.permits;
   unacknowledged = apart_acked s.acked s.deliveries ps sound.unacknowledged;
   held = λ i k h. sound.held i k (kept_holder (is_in i ps) (map.get s.deliveries i) k (ap holder_in (sym (get_forgotten s.deliveries ps i)) ∙ h));
+}
+
+pub sound_acked_through : (position : ℕ) (s : Subscription) → IsSoundSubscription s → IsSoundSubscription (acked_through_on position s)
+sound_acked_through position s sound = record {
+  few = sound.few;
+  single = sound.single;
+  permits = sound.permits;
+  unacknowledged = apart_through s.acked s.deliveries (position + 1) sound.unacknowledged;
+  held = λ i k h. sound.held i k (kept_holder (nat_lt i (position + 1)) (map.get s.deliveries i) k (ap holder_in (sym (get_forgotten_below s.deliveries (position + 1) i)) ∙ h));
 }
 
 pub permit_of : (c : Consumer) → has_permit (Some c) ≡ true → c.sent + 1 ≤ c.granted

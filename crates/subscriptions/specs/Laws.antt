@@ -11,7 +11,7 @@ use Rattle.records.specs.Names.{is_subscription_name}
 use Rattle.records.specs.Maps.{Kept}
 use Rattle.records.specs.Records.{IsThere, AreFormed, after_all}
 use Rattle.subscriptions.specs.State.{Subscription, Subscriptions}
-use Rattle.subscriptions.specs.Steps.{none_yet, opened, first_standing, subscribe_refusals, attached, granted, grants_too_many, acknowledged, sent, left, settled, Admits, is_named, is_on}
+use Rattle.subscriptions.specs.Steps.{none_yet, opened, first_standing, subscribe_refusals, attached, granted, grants_too_many, acknowledged, acknowledged_through, unsubscribe_refusals, unsubscribed, sent, left, settled, Admits, is_named, is_on}
 use Rattle.subscriptions.specs.Soundness.{IsSound, HasLimits, IsCommitted}
 
 -- durable subscriptions that a topic may have: 64 at most, each name of its form
@@ -37,6 +37,8 @@ pub record StaysSound : Type 0 where
   pub attach : (t : Subscriptions) (name : List ℕ) (mode : Mode) (key : ConsumerKey) (start : ℕ) → first_standing (subscribe_refusals t name mode) ≡ None → IsSound t → IsSound (attached t name mode key start)
   pub grant : (t : Subscriptions) (key : ConsumerKey) (permits : ℕ) → grants_too_many t key permits ≡ false → IsSound t → IsSound (granted t key permits)
   pub acknowledge : (t : Subscriptions) (key : ConsumerKey) (positions : List ℕ) → length t.changes + length positions ≤ 65536 → IsSound t → IsSound (acknowledged t key positions)
+  pub acknowledge_through : (t : Subscriptions) (key : ConsumerKey) (position : ℕ) → length t.changes + 1 ≤ 65536 → IsSound t → IsSound (acknowledged_through t key position)
+  pub unsubscribe : (t : Subscriptions) (key : ConsumerKey) → first_standing (unsubscribe_refusals t key) ≡ None → IsSound t → IsSound (unsubscribed t key)
   pub send : (t : Subscriptions) (key : ConsumerKey) (committed i : ℕ) → Admits t key committed i → IsSound t → IsSound (sent t key i)
   pub leave : (t : Subscriptions) (who : ℕ) → IsSound t → IsSound (left t who)
   pub settle : (t : Subscriptions) (count : ℕ) → IsSound t → IsSound (settled t count)
@@ -50,6 +52,10 @@ pub record AreKept : Type 0 where
   pub grant : (entries : ℕ) (kept : Kept) (t : Subscriptions) (key : ConsumerKey) (permits : ℕ) → IsKept entries kept t → IsKept entries kept (granted t key permits)
   pub acknowledge : (entries : ℕ) (kept : Kept) (t : Subscriptions) (key : ConsumerKey) (positions : List ℕ)
       → HasLimits t → AllByRecursion (λ p. p < entries) positions → IsKept entries kept t → IsKept entries kept (acknowledged t key positions)
+  pub acknowledge_through : (entries : ℕ) (kept : Kept) (t : Subscriptions) (key : ConsumerKey) (position : ℕ)
+      → HasLimits t → position < entries → IsKept entries kept t → IsKept entries kept (acknowledged_through t key position)
+  pub unsubscribe : (entries : ℕ) (kept : Kept) (t : Subscriptions) (key : ConsumerKey)
+      → HasLimits t → IsKept entries kept t → IsKept entries kept (unsubscribed t key)
   pub send : (entries : ℕ) (kept : Kept) (t : Subscriptions) (key : ConsumerKey) (i : ℕ) → IsKept entries kept t → IsKept entries kept (sent t key i)
   pub leave : (entries : ℕ) (kept : Kept) (t : Subscriptions) (who : ℕ) → IsKept entries kept t → IsKept entries kept (left t who)
   pub settle : (entries : ℕ) (kept : Kept) (t : Subscriptions) (count : ℕ) → IsKept entries kept t → IsKept entries (after_all (take count t.changes) kept) (settled t count)
@@ -62,6 +68,8 @@ pub record DeliveriesAreCommitted : Type 0 where
   pub attach : (committed : ℕ) (t : Subscriptions) (name : List ℕ) (mode : Mode) (key : ConsumerKey) (start : ℕ) → IsCommitted committed t → IsCommitted committed (attached t name mode key start)
   pub grant : (committed : ℕ) (t : Subscriptions) (key : ConsumerKey) (permits : ℕ) → IsCommitted committed t → IsCommitted committed (granted t key permits)
   pub acknowledge : (committed : ℕ) (t : Subscriptions) (key : ConsumerKey) (positions : List ℕ) → IsCommitted committed t → IsCommitted committed (acknowledged t key positions)
+  pub acknowledge_through : (committed : ℕ) (t : Subscriptions) (key : ConsumerKey) (position : ℕ) → IsCommitted committed t → IsCommitted committed (acknowledged_through t key position)
+  pub unsubscribe : (committed : ℕ) (t : Subscriptions) (key : ConsumerKey) → IsCommitted committed t → IsCommitted committed (unsubscribed t key)
   pub send : (committed : ℕ) (t : Subscriptions) (key : ConsumerKey) (i : ℕ) → Admits t key committed i → IsCommitted committed t → IsCommitted committed (sent t key i)
   pub leave : (committed : ℕ) (t : Subscriptions) (who : ℕ) → IsCommitted committed t → IsCommitted committed (left t who)
   pub settle : (committed : ℕ) (t : Subscriptions) (count : ℕ) → IsCommitted committed t → IsCommitted committed (settled t count)

@@ -5,3 +5,4 @@ pub mod Soundness
 pub mod Freeing
 pub mod Held
 pub mod Laws
+pub mod Statuses

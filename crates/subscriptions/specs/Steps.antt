@@ -18,7 +18,7 @@ use Rattle.subscriptions.specs.declared.initial_position.InitialPosition.{Initia
 use Rattle.subscriptions.specs.declared.initial_position.InitialPosition.TheVariants.{Latest, Earliest}
 use Rattle.records.specs.declared.record.Record.{Record}
 use Rattle.records.specs.Maps.{Kept}
-use Rattle.records.specs.declared.record.Record.TheVariants.{Made, Acknowledged}
+use Rattle.records.specs.declared.record.Record.TheVariants.{Made, Removed, Acknowledged, AcknowledgedThrough}
 use Rattle.subscriptions.specs.State.{Subscription, Subscriptions}
 use Rattle.subscriptions.specs.Progress.{joined, listed}
 
@@ -154,6 +154,52 @@ abbrev pub acknowledged : Subscriptions → ConsumerKey → List ℕ → Subscri
 acknowledged t key positions = record {
   subs = first_changed (is_on key) (acked_on positions) t.subs;
   changes = t.changes ++ acknowledgements (find (is_on key) t.subs) positions;
+}
+
+-- ACK of all positions up to one: they are acknowledged, and their deliveries forgotten
+abbrev pub acked_through_on : ℕ → Subscription → Subscription
+acked_through_on position s = record s {
+  acked = set.union s.acked (below (position + 1));
+  deliveries = map.retain_keys s.deliveries (λ p. not (nat_lt p (position + 1)));
+}
+
+-- ACK of all positions up to one: one change
+abbrev pub acknowledgement_through : Option Subscription → ℕ → List Record
+acknowledgement_through None position = []
+acknowledgement_through (Some s) position = AcknowledgedThrough s.name position ∷ []
+
+abbrev pub acknowledged_through : Subscriptions → ConsumerKey → ℕ → Subscriptions
+acknowledged_through t key position = record {
+  subs = first_changed (is_on key) (acked_through_on position) t.subs;
+  changes = t.changes ++ acknowledgement_through (find (is_on key) t.subs) position;
+}
+
+-- another consumer is attached to the subscription
+abbrev pub is_shared : Option Subscription → Bool
+is_shared None = false
+is_shared (Some s) = nat_lt 1 (length s.consumers)
+
+-- UNSUBSCRIBE: what is refused of an attached consumer, in order
+abbrev pub unsubscribe_refusals : Subscriptions → ConsumerKey → List (Bool × Refusal)
+unsubscribe_refusals t key =
+    (is_shared (find (is_on key) t.subs), ConsumerBusy)
+    ∷ (nat_le 65536 (length t.changes), TooManyRequests)
+    ∷ []
+
+-- the first that passes a test goes
+abbrev pub first_removed : {X : Type 0} → (X → Bool) → List X → List X
+first_removed test [] = []
+first_removed test (x ∷ xs) = cond (test x) xs (x ∷ first_removed test xs)
+
+abbrev pub removal : Option Subscription → List Record
+removal None = []
+removal (Some s) = Removed s.name ∷ []
+
+-- UNSUBSCRIBE: the consumer's subscription goes, with the consumer; one change
+abbrev pub unsubscribed : Subscriptions → ConsumerKey → Subscriptions
+unsubscribed t key = record {
+  subs = first_removed (is_on key) t.subs;
+  changes = t.changes ++ removal (find (is_on key) t.subs);
 }
 
 -- the consumer has a permit left

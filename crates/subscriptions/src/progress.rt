@@ -1,5 +1,5 @@
 // What is acknowledged and held on a subscription, with a quick search for the next open position.
-ghost use Rattle.std.specs.Prelude.{◌≡◌, ℕ, ◌+◌, ◌^◌, ◌<◌, ◌≤◌, not, All, IfOk, OnOk, OnErr, IfSome, IfNone, ◌||◌, ◌&&◌, is_none, nat_eq, cond, Some, None};
+ghost use Rattle.std.specs.Prelude.{◌≡◌, ℕ, ◌+◌, ◌^◌, ◌<◌, ◌≤◌, not, All, IfOk, OnOk, OnErr, IfSome, IfNone, ◌||◌, ◌&&◌, is_none, nat_eq, nat_lt, cond, Some, None};
 ghost use Rattle.std.specs.List.{list_any};
 ghost use Rattle.std.specs.Option.{option_map};
 ghost use Rattle.std.specs.FinSet as set;
@@ -8,9 +8,12 @@ ghost use Rattle.cursor.specs.Positions.{below};
 ghost use Rattle.holds.specs.Deliveries.{holder, sent_to, times, given_back};
 ghost use Rattle.holds.specs.Backlog.{IsOpenAt, IsLeast};
 ghost use Rattle.subscriptions.specs.Progress.{joined, listed};
+ghost use Rattle.subscriptions.specs.Statuses.{IsStatus};
 
+use crate::status::{SubscriptionStatus, status_of};
 use cursor::Cursor;
 use holds::{ConsumerKey, Holds};
+use records::Name;
 use std::alloc::{AllocError, Global};
 use std::marker::Model;
 
@@ -78,6 +81,16 @@ impl Progress {
         Ok(())
     }
 
+    /// Acknowledges all positions up to and with this one. Takes no memory.
+    pub(crate) fn acknowledge_through(&mut self, position: u64)
+        requires { position < 2 ^ 62 }
+        ensures acked { self.new.acked ≡ set.union self.old.acked (below (position + 1)) }
+        ensures deliveries { self.new.deliveries ≡ map.retain_keys self.old.deliveries (λ p. not (nat_lt p (position + 1))) }
+    {
+        self.acked.ack_through(position);
+        self.holds.forget_below(position + 1);
+    }
+
     /// How often the position was sent.
     pub(crate) fn sent_before(&self, position: u64) -> u32
         ensures { result ≡ times self.now.deliveries position }
@@ -131,6 +144,17 @@ impl Progress {
         }
         None
     }
+
+    /// The status of a subscription with this name and these acknowledged positions.
+    pub(crate) fn status(&self, name: Name) -> Result<SubscriptionStatus, AllocError>
+        ensures { IfOk result (IsStatus name self.now.acked) }
+    {
+        if self.late.is_empty() {
+            return Ok(status_of(name, &self.acked));
+        }
+        let acked = with_late(&self.acked, self.late.as_slice())?;
+        Ok(status_of(name, &acked))
+    }
 }
 
 // The positions below `start`.
@@ -144,6 +168,18 @@ fn acked_below(alloc: Global, start: u64) -> Cursor
     }
     acked.ack_through(start - 1);
     acked
+}
+
+// The acknowledged positions with the late ones.
+fn with_late(acked: &Cursor, late: &[u64]) -> Result<Cursor, AllocError>
+    requires { All (λ i. i < 2 ^ 62) late.now }
+    ensures { IfOk result (λ whole. whole ≡ joined acked.now late.now) }
+{
+    let mut whole = acked.clone()?;
+    for position in late {
+        whole.ack(*position)?;
+    }
+    Ok(whole)
 }
 
 // Whether a position is among the late ones.

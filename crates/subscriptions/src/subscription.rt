@@ -3,11 +3,13 @@ ghost use Rattle.std.specs.Option.{option_map};
 ghost use Rattle.std.specs.List.{find, list_any};
 ghost use Rattle.std.specs.FinMap as map;
 ghost use Rattle.holds.specs.Deliveries.{times};
-ghost use Rattle.subscriptions.specs.Steps.{is_consumer, is_on, first_changed, first_standing, same_mode, is_exclusive, attach_refusals, attached_to, made, opened_one, granted_to, granted_on, is_past, acked_on, has_permit, serves, is_first, AdmitsOn, sent_one, sent_on, left_on};
+ghost use Rattle.subscriptions.specs.Steps.{is_consumer, is_on, first_changed, first_standing, same_mode, is_exclusive, attach_refusals, attached_to, made, opened_one, granted_to, granted_on, is_past, acked_on, acked_through_on, has_permit, serves, is_first, AdmitsOn, sent_one, sent_on, left_on};
 ghost use Rattle.subscriptions.specs.Freeing.{freed_among};
+ghost use Rattle.subscriptions.specs.Statuses.{IsStatus};
 
 use crate::consumer::{Consumer, Mode, Refusal, TooManyPermits};
 use crate::progress::Progress;
+use crate::status::SubscriptionStatus;
 use cursor::Cursor;
 use holds::ConsumerKey;
 use records::Name;
@@ -78,6 +80,14 @@ impl Subscription {
         self.name.as_str()
     }
 
+    /// What is told of it.
+    pub(crate) fn status(&self, alloc: Global) -> Result<SubscriptionStatus, AllocError>
+        ensures { IfOk result (IsStatus self.now.name self.now.acked) }
+    {
+        let name = Name::new(alloc, self.name())?;
+        self.progress.status(name)
+    }
+
     /// Whether the consumer is attached.
     pub(crate) fn is_on(&self, key: ConsumerKey) -> bool
         ensures { result ≡ is_on key self.now }
@@ -134,6 +144,21 @@ impl Subscription {
     {
         self.progress.acknowledge(positions)?;
         Ok(())
+    }
+
+    /// Acknowledges all positions up to and with this one.
+    pub(crate) fn acknowledge_through(&mut self, position: u64)
+        requires { position < 2 ^ 62 }
+        ensures { self.new ≡ acked_through_on position self.old }
+    {
+        self.progress.acknowledge_through(position);
+    }
+
+    /// Whether more than one consumer is attached.
+    pub(crate) fn is_shared(&self) -> bool
+        ensures { result ≡ nat_lt 1 (length self.now.consumers) }
+    {
+        self.consumers.len() > 1
     }
 
     /// The position that the consumer may get.

@@ -3,10 +3,13 @@ ghost use Rattle.std.specs.List.{IsDistinct, find, list_any};
 ghost use Rattle.std.specs.Str.{bytes_eq};
 ghost use Rattle.records.specs.declared.kept_cursor.KeptCursor.{KeptCursor};
 ghost use Rattle.records.specs.declared.record.Record.TheVariants.{Acknowledged as acknowledged_change};
-ghost use Rattle.subscriptions.specs.Steps.{none_yet, opened_one, opened_all, first_changed, is_on, is_named, has_consumer, first_standing, making_refusals, subscribe_refusals, attach_refusals, attached_to, attached, attached_at, start_of, made, granted, granted_on, is_past_on, grants_too_many, acknowledged, acked_on, Admits, AdmitsAt, AdmitsOn, sent, sent_on, sent_before, times_at, left, left_on, settled};
+ghost use Rattle.subscriptions.specs.Steps.{none_yet, opened_one, opened_all, first_changed, is_on, is_named, has_consumer, first_standing, making_refusals, subscribe_refusals, attach_refusals, attached_to, attached, attached_at, start_of, made, granted, granted_on, is_past_on, grants_too_many, acknowledged, acked_on, acknowledged_through, acked_through_on, is_shared, unsubscribe_refusals, unsubscribed, Admits, AdmitsAt, AdmitsOn, sent, sent_on, sent_before, times_at, left, left_on, settled};
+ghost use Rattle.subscriptions.specs.Statuses.{AreStatuses};
 
 use crate::consumer::{Mode, Refusal, TooManyPermits};
 use crate::initial_position::InitialPosition;
+use crate::status::SubscriptionStatus;
+use crate::statuses::{sort_by_name, statuses_of};
 use crate::subscription::Subscription;
 use holds::ConsumerKey;
 use records::{KeptCursor, Name, Record};
@@ -80,6 +83,15 @@ impl Subscriptions {
         ensures { result.now ≡ self.now.changes }
     {
         self.changes.as_slice()
+    }
+
+    /// What is told of each subscription, in the order of the names' bytes.
+    pub fn statuses(&self) -> Result<Vec<SubscriptionStatus>, AllocError>
+        ensures { IfOk result (λ statuses. AreStatuses self.now.subs statuses.items) }
+    {
+        let mut statuses = statuses_of(self.alloc, self.subs.as_slice())?;
+        sort_by_name(&mut statuses);
+        Ok(statuses)
     }
 
     /// Whether so many more changes may wait for a flush.
@@ -175,6 +187,57 @@ impl Subscriptions {
         self.changes.reserve(positions.len())?;
         sub.acknowledge(positions)?;
         self.changes.append(&mut added).unwrap();
+        Ok(())
+    }
+
+    /// ACK of all positions up to one: they are acknowledged, with one change. An unknown consumer
+    /// changes nothing, and neither does a refusal.
+    pub fn acknowledge_through(&mut self, key: ConsumerKey, position: u64) -> Result<(), AllocError>
+        requires fits { position < 2 ^ 62 }
+        requires room { length self.old.changes + 1 ≤ 65536 }
+        ensures ok { OnOk result (self.new ≡ acknowledged_through self.old key position) }
+        ensures err { OnErr result (self.new ≡ self.old) }
+    {
+        let Some(place) = place_of(self.subs.as_slice(), key) else {
+            return Ok(());
+        };
+        let sub = &mut self.subs[place];
+        let change = Record::AcknowledgedThrough {
+            name: Name::new(self.alloc, sub.name())?,
+            position,
+        };
+        self.changes.push(change)?;
+        sub.acknowledge_through(position);
+        Ok(())
+    }
+
+    /// Why the UNSUBSCRIBE of an attached consumer is refused.
+    pub fn unsubscribe_refusal(&self, key: ConsumerKey) -> Option<Refusal>
+        ensures { result ≡ first_standing (unsubscribe_refusals self.now key) }
+    {
+        if is_shared(self.subs.as_slice(), key) {
+            return Some(Refusal::ConsumerBusy);
+        }
+        if !self.has_room(1) {
+            return Some(Refusal::TooManyRequests);
+        }
+        None
+    }
+
+    /// UNSUBSCRIBE: the consumer's subscription goes, with the consumer and one change. An unknown
+    /// consumer changes nothing, and neither does a refusal.
+    pub fn unsubscribe(&mut self, key: ConsumerKey) -> Result<(), AllocError>
+        requires { first_standing (unsubscribe_refusals self.old key) ≡ None }
+        ensures ok { OnOk result (self.new ≡ unsubscribed self.old key) }
+        ensures err { OnErr result (self.new ≡ self.old) }
+    {
+        let Some(place) = place_of(self.subs.as_slice(), key) else {
+            return Ok(());
+        };
+        let sub = &self.subs[place];
+        let name = Name::new(self.alloc, sub.name())?;
+        self.changes.push(Record::Removed { name })?;
+        let _ = self.subs.remove(place);
         Ok(())
     }
 
@@ -283,6 +346,17 @@ fn place_of(subs: &[Subscription], key: ConsumerKey) -> Option<usize>
     ensures within { IfSome result (λ place. place < length subs.now) }
 {
     subs.iter().position(|s| s.is_on(key))
+}
+
+/// Whether the consumer's subscription has another consumer.
+fn is_shared(subs: &[Subscription], key: ConsumerKey) -> bool
+    ensures { result ≡ is_shared (find (is_on key) subs.now) }
+{
+    let Some(place) = place_of(subs, key) else {
+        return false;
+    };
+    let sub = &subs[place];
+    sub.is_shared()
 }
 
 /// A change for each position.

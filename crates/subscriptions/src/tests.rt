@@ -55,6 +55,28 @@ fn acknowledge(
     subs.acknowledge(key, &[u64::from(position)])
 }
 
+/// Acknowledges all positions up to one where there is room.
+fn acknowledge_through(
+    subs: &mut Subscriptions,
+    key: ConsumerKey,
+    position: u32,
+) -> Result<(), AllocError> {
+    if !subs.has_room(1) {
+        return Ok(());
+    }
+    subs.acknowledge_through(key, u64::from(position))
+}
+
+/// Removes the consumer's subscription where nothing is against it.
+fn unsubscribe(subs: &mut Subscriptions, key: ConsumerKey) -> Result<Option<Refusal>, AllocError> {
+    let refusal = subs.unsubscribe_refusal(key);
+    if refusal.is_some() {
+        return Ok(refusal);
+    }
+    subs.unsubscribe(key)?;
+    Ok(None)
+}
+
 fn name_of(change: &Record) -> (&str, bool, u64) {
     match change {
         Record::Made { name, start } => (name.as_str(), true, *start),
@@ -129,6 +151,71 @@ fn changes_wait_until_they_are_settled(rt: HostRuntime) -> Result<(), Fail> {
     subs.settle(2);
     assert_eq!(rt; subs.changes().len(), 1);
     assert!(rt; subs.has_room(65_535) && !subs.has_room(65_536));
+    Ok(())
+}
+
+#[test]
+fn cumulative_acknowledgements(rt: HostRuntime) -> Result<(), Fail> {
+    let mut subs = Subscriptions::new(rt.alloc());
+    subscribe(
+        &mut subs,
+        "s",
+        Mode::Exclusive,
+        FIRST,
+        InitialPosition::Earliest,
+        0,
+    )?;
+    assert_eq!(rt; subs.grant(FIRST, 9), Ok(()));
+    assert_eq!(rt; dispatch(&mut subs, FIRST, 6)?, Some((0, 0)));
+    assert_eq!(rt; dispatch(&mut subs, FIRST, 6)?, Some((1, 0)));
+    acknowledge(&mut subs, FIRST, 4)?;
+    acknowledge_through(&mut subs, FIRST, 2)?;
+    acknowledge_through(&mut subs, SECOND, 5)?;
+    assert_eq!(rt; subs.changes().len(), 3);
+    let is_through = matches!(
+        &subs.changes()[2],
+        Record::AcknowledgedThrough { position: 2, .. }
+    );
+    assert!(rt; is_through);
+    assert_eq!(rt; dispatch(&mut subs, FIRST, 6)?, Some((3, 0)));
+    assert_eq!(rt; dispatch(&mut subs, FIRST, 6)?, Some((5, 0)));
+    assert_eq!(rt; dispatch(&mut subs, FIRST, 6)?, None);
+    Ok(())
+}
+
+#[test]
+fn unsubscribing(rt: HostRuntime) -> Result<(), Fail> {
+    let mut subs = Subscriptions::new(rt.alloc());
+    for key in [FIRST, SECOND] {
+        subscribe(
+            &mut subs,
+            "f",
+            Mode::Failover,
+            key,
+            InitialPosition::Earliest,
+            0,
+        )?;
+    }
+    assert_eq!(rt; unsubscribe(&mut subs, FIRST)?, Some(Refusal::ConsumerBusy));
+    subs.leave(1);
+    acknowledge(&mut subs, FIRST, 0)?;
+    assert_eq!(rt; unsubscribe(&mut subs, FIRST)?, None);
+    assert!(rt; !subs.has_consumer(FIRST));
+    assert_eq!(rt; subs.changes().len(), 3);
+    let is_removed = matches!(&subs.changes()[2], Record::Removed { .. });
+    assert!(rt; is_removed);
+    assert_eq!(rt; unsubscribe(&mut subs, FIRST)?, None);
+    assert_eq!(rt; subs.changes().len(), 3);
+    subscribe(
+        &mut subs,
+        "f",
+        Mode::Exclusive,
+        SECOND,
+        InitialPosition::Earliest,
+        1,
+    )?;
+    assert_eq!(rt; subs.grant(SECOND, 1), Ok(()));
+    assert_eq!(rt; subs.pick(SECOND, 1), Some(0));
     Ok(())
 }
 

@@ -1,5 +1,5 @@
 -- A reply that is collected, and a session that leaves, keep a topic sound.
-use Rattle.std.proofs.Common.{◌≡◌, ℕ, Bool, not, List, ◌∷◌, length, take, drop, refl, arith}
+use Rattle.std.proofs.Common.{nat_eq, ◌≡◌, ℕ, Bool, not, List, ◌∷◌, length, take, drop, refl, arith}
 use Rattle.std.specs.List.{count_by}
 use Rattle.commands.specs.declared.reply.Reply.{Reply}
 use Rattle.ids.specs.Ids.{message_id_at}
@@ -32,6 +32,7 @@ module _ (t : Core) (who : ℕ) (sound : IsSound t) where
         sessions = rw (sessions-collected who t.queues) sound.sessions;
         within = all-collected _ _ who t.queues (λ q h. h) (λ q h. h) sound.within;
         sure = λ none. all-collected _ _ who t.queues (λ q h. h) (λ q h. h) (sound.sure none);
+        closing = sound.closing;
         told = λ failed. all-collected _ _ who t.queues (λ q h. h) (λ q h. h) (sound.told failed);
         subs = sound.subs;
         sent = sound.sent;
@@ -73,6 +74,7 @@ module _ (t : Core) (who : ℕ) (sound : IsSound t) where
         sessions = distinct-filter others t.queues sound.sessions;
         within = all-filter _ others t.queues sound.within;
         sure = λ none. all-filter _ others t.queues (sound.sure none);
+        closing = λ none. all-filter _ (λ p. not (nat_eq p.session who)) t.producers (sound.closing none);
         told = λ failed. all-filter _ others t.queues (sound.told failed);
         subs = each_sound.leave t.subs who sound.subs;
         sent = each_committed.leave t.committed t.subs who sound.sent;

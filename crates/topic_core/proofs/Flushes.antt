@@ -15,6 +15,7 @@ use Rattle.reply_queues.specs.Replies.{SessionReplies, is_receipt, receipts_in, 
 use Rattle.topic_core.specs.Core.{Core, entries_of, changes_of}
 use Rattle.topic_core.specs.Soundness.{IsSound, AreReceipts, HasReceipts, IsReceiptWithin, AreRising, is_receipt_for, receipts_handed_on, receipts_left}
 use Rattle.topic_core.specs.Flush.{handed_on, finished, taken_back, failed}
+use Rattle.topic_core.proofs.Producers.{all_taken_back, all_kept}
 use Rattle.topic_core.proofs.Queues.{all-map, all-each, sum_by-map, sum_by-both, sum_by-none, sessions-map}
 use Rattle.topic_core.proofs.Receipts.{within-wider, plain-within, all-replies, all-append, rising-from, rising-upto, rising-append, rising-within}
 
@@ -103,6 +104,7 @@ module _ (t : Core) (sound : IsSound t) where
         sessions = rw (sessions-map hand_on t.queues (λ q. refl)) sound.sessions;
         within = all-map _ _ hand_on t.queues (λ q h. omega arith) sound.within;
         sure = λ some. cc;
+        closing = λ some. cc;
         told = λ failed. all-map _ _ hand_on t.queues (λ q h. h) (sound.told failed);
         subs = sound.subs;
         sent = sound.sent;
@@ -145,6 +147,7 @@ module _ (t : Core) (sound : IsSound t) where
         sessions = rw (sessions-map take_back t.queues (λ q. refl)) sound.sessions;
         within = all-map _ _ take_back t.queues (λ q h. omega arith) sound.within;
         sure = λ none. all-map _ _ take_back t.queues (λ q h. refl) sound.within;
+        closing = λ none. all_taken_back t.producers;
         told = λ failed. all-map _ _ take_back t.queues (λ q h. h) (sound.told failed);
         subs = sound.subs;
         sent = sound.sent;
@@ -191,6 +194,7 @@ module _ (t : Core) (sound : IsSound t) where
         sessions = rw (sessions-map make_due t.queues (λ q. refl)) sound.sessions;
         within = all-map _ _ make_due t.queues (λ q h. omega arith) sound.within;
         sure = λ none. all-map _ _ make_due t.queues (λ q h. refl) sound.within;
+        closing = λ none. all_kept t.producers;
         told = λ failed. all-map (λ q. q.pending ≡ []) (λ q. q.pending ≡ []) make_due t.queues (λ q h. none-dropped q.handed_on q.pending h) (sound.told failed);
         subs = each_sound.settle t.subs (changes_of t.doubt) sound.subs;
         sent = committed-wider t.committed (t.committed + entries_of t.doubt) t.subs.subs (omega arith) sound.sent;
@@ -241,6 +245,7 @@ module _ (t : Core) (sound : IsSound t) where
         sessions = rw (sessions-map refuse_pending t.queues (λ q. refl)) sound.sessions;
         within = all-map _ _ refuse_pending t.queues (λ q h. omega arith) sound.within;
         sure = λ none. all-map _ _ refuse_pending t.queues (λ q h. refl) sound.within;
+        closing = sound.closing;
         told = λ _. all-map _ _ refuse_pending t.queues (λ q h. refl) sound.within;
         subs = sound.subs;
         sent = sound.sent;

@@ -8,18 +8,21 @@ use Rattle.gated_log.specs.declared.refusal.Refusal.{Refusal}
 use Rattle.records.specs.declared.record.Record.{Record}
 use Rattle.reply_queues.specs.Replies.{SessionReplies, hand_on, make_due, take_back, make_all_due}
 use Rattle.topic_core.specs.Core.{Core, Topic, Doubt}
+use Rattle.topic_core.specs.declared.producer.Producer.{Producer}
 use Rattle.topic_core.specs.Soundness.{IsSound}
+use Rattle.topic_core.proofs.Producers.{closed_gone, all_back, open_stay}
 use Rattle.topic_core.specs.Flush.{has_no_flush, is_idle, handed_on, finished, taken_back, flushed, FlushStep, FlushIn, FlushEnds}
 
 -- two cores whose parts that a flush changes agree
-alike : (t : Core) (c : ℕ) (w w' : List (List ℕ)) (ch ch' : List Record) (qs qs' : List SessionReplies) (d d' : Option Doubt) → w ≡ w' → ch ≡ ch' → qs ≡ qs' → d ≡ d'
-    → (let a : Core = record t { committed = c; waiting = w; subs = record t.subs { changes = ch }; queues = qs; doubt = d } in
-    let b : Core = record t { committed = c; waiting = w'; subs = record t.subs { changes = ch' }; queues = qs'; doubt = d' } in a ≡ b)
-alike t c w w' ch ch' qs qs' d d' ew ech eqs ed =
-    ap (λ (x : List (List ℕ)). let a : Core = record t { committed = c; waiting = x; subs = record t.subs { changes = ch }; queues = qs; doubt = d } in a) ew
-    ∙ ap (λ (x : List Record). let a : Core = record t { committed = c; waiting = w'; subs = record t.subs { changes = x }; queues = qs; doubt = d } in a) ech
-    ∙ ap (λ (x : List SessionReplies). let a : Core = record t { committed = c; waiting = w'; subs = record t.subs { changes = ch' }; queues = x; doubt = d } in a) eqs
-    ∙ ap (λ (x : Option Doubt). let a : Core = record t { committed = c; waiting = w'; subs = record t.subs { changes = ch' }; queues = qs'; doubt = x } in a) ed
+alike : (t : Core) (c : ℕ) (w w' : List (List ℕ)) (ch ch' : List Record) (qs qs' : List SessionReplies) (ps ps' : List Producer) (d d' : Option Doubt) → w ≡ w' → ch ≡ ch' → qs ≡ qs' → ps ≡ ps' → d ≡ d'
+    → (let a : Core = record t { committed = c; waiting = w; subs = record t.subs { changes = ch }; queues = qs; producers = ps; doubt = d } in
+    let b : Core = record t { committed = c; waiting = w'; subs = record t.subs { changes = ch' }; queues = qs'; producers = ps'; doubt = d' } in a ≡ b)
+alike t c w w' ch ch' qs qs' ps ps' d d' ew ech eqs eps ed =
+    ap (λ (x : List (List ℕ)). let a : Core = record t { committed = c; waiting = x; subs = record t.subs { changes = ch }; queues = qs; producers = ps; doubt = d } in a) ew
+    ∙ ap (λ (x : List Record). let a : Core = record t { committed = c; waiting = w'; subs = record t.subs { changes = x }; queues = qs; producers = ps; doubt = d } in a) ech
+    ∙ ap (λ (x : List SessionReplies). let a : Core = record t { committed = c; waiting = w'; subs = record t.subs { changes = ch' }; queues = x; producers = ps; doubt = d } in a) eqs
+    ∙ ap (λ (x : List Producer). let a : Core = record t { committed = c; waiting = w'; subs = record t.subs { changes = ch' }; queues = qs'; producers = x; doubt = d } in a) eps
+    ∙ ap (λ (x : Option Doubt). let a : Core = record t { committed = c; waiting = w'; subs = record t.subs { changes = ch' }; queues = qs'; producers = ps'; doubt = x } in a) ed
 
 -- all replies of a session, handed on and made due
 due-handed_on : (q : SessionReplies) → make_due (hand_on q) ≡ make_all_due q
@@ -34,8 +37,8 @@ all-due (q ∷ qs) = ap (λ x. x ∷ map (λ y. make_due y) (map (λ y. hand_on 
 -- the good end of a flush of all that waits
 pub finished-handed_on : (t : Core) → finished (handed_on t) ≡ flushed t
 finished-handed_on t =
-    alike t (t.committed + length t.waiting) (drop (length t.waiting) t.waiting) [] (drop (length t.subs.changes) t.subs.changes) [] _ _ None None
-    (drop_all (length t.waiting) t.waiting (omega arith)) (drop_all (length t.subs.changes) t.subs.changes (omega arith)) (all-due t.queues) refl
+    alike t (t.committed + length t.waiting) (drop (length t.waiting) t.waiting) [] (drop (length t.subs.changes) t.subs.changes) [] _ _ _ _ None None
+    (drop_all (length t.waiting) t.waiting (omega arith)) (drop_all (length t.subs.changes) t.subs.changes (omega arith)) (all-due t.queues) (closed_gone t.producers) refl
 
 -- its end without an effect
 same-queue : (q : SessionReplies) → q.handed_on ≡ 0 → take_back (hand_on q) ≡ q
@@ -46,7 +49,7 @@ same-queues [] none = refl
 same-queues (q ∷ qs) none = ap (λ x. x ∷ map (λ y. take_back y) (map (λ y. hand_on y) qs)) (same-queue q none.0) ∙ ap (λ xs. q ∷ xs) (same-queues qs none.1)
 
 pub taken_back-handed_on : (t : Core) → IsSound t → t.doubt ≡ None → taken_back (handed_on t) ≡ t
-taken_back-handed_on t sound none = alike t t.committed t.waiting t.waiting t.subs.changes t.subs.changes _ _ None t.doubt refl refl (same-queues t.queues (sound.sure none)) (sym none)
+taken_back-handed_on t sound none = alike t t.committed t.waiting t.waiting t.subs.changes t.subs.changes _ _ _ _ None t.doubt refl refl (same-queues t.queues (sound.sure none)) (all_back t.producers (sound.closing none)) (sym none)
 
 -- nothing waits: a flush has nothing to change
 and_first : (a b : Bool) → (a && b) ≡ true → a ≡ true
@@ -77,17 +80,22 @@ idle-queues (q ∷ qs) none idle =
     ap (λ x. x ∷ map (λ y. make_all_due y) qs) (idle-queue q none.0 (eqb-true (length q.pending) 0 (and_first (nat_eq (length q.pending) 0) _ idle)))
     ∙ ap (λ xs. q ∷ xs) (idle-queues qs none.1 (and_second (nat_eq (length q.pending) 0) _ idle))
 
+-- but for closing producers
+idle-others : (t : Core) → is_idle t ≡ true → (nat_eq (length t.waiting) 0 && nat_eq (length t.subs.changes) 0 && list_all (λ q. nat_eq (length q.pending) 0) t.queues) ≡ true
+idle-others t idle = and_first (nat_eq (length t.waiting) 0 && nat_eq (length t.subs.changes) 0 && list_all (λ q. nat_eq (length q.pending) 0) t.queues) _ idle
+
 pub idle-waiting : (t : Core) → is_idle t ≡ true → length t.waiting ≡ 0
-idle-waiting t idle = eqb-true (length t.waiting) 0 (and_first (nat_eq (length t.waiting) 0) _ (and_first (nat_eq (length t.waiting) 0 && nat_eq (length t.subs.changes) 0) _ idle))
+idle-waiting t idle = eqb-true (length t.waiting) 0 (and_first (nat_eq (length t.waiting) 0) _ (and_first (nat_eq (length t.waiting) 0 && nat_eq (length t.subs.changes) 0) _ (idle-others t idle)))
 
 pub idle-changes : (t : Core) → is_idle t ≡ true → length t.subs.changes ≡ 0
-idle-changes t idle = eqb-true (length t.subs.changes) 0 (and_second (nat_eq (length t.waiting) 0) _ (and_first (nat_eq (length t.waiting) 0 && nat_eq (length t.subs.changes) 0) _ idle))
+idle-changes t idle = eqb-true (length t.subs.changes) 0 (and_second (nat_eq (length t.waiting) 0) _ (and_first (nat_eq (length t.waiting) 0 && nat_eq (length t.subs.changes) 0) _ (idle-others t idle)))
 
 pub flushed-idle : (t : Core) → IsSound t → t.doubt ≡ None → is_idle t ≡ true → flushed t ≡ t
 flushed-idle t sound none idle =
-    let queues = and_second (nat_eq (length t.waiting) 0 && nat_eq (length t.subs.changes) 0) _ idle in
+    let queues = and_second (nat_eq (length t.waiting) 0 && nat_eq (length t.subs.changes) 0) _ (idle-others t idle) in
+    let open_ones = and_second (nat_eq (length t.waiting) 0 && nat_eq (length t.subs.changes) 0 && list_all (λ q. nat_eq (length q.pending) 0) t.queues) _ idle in
     ap (λ (x : ℕ). let a : Core = record (flushed t) { committed = x } in a) (omega (arith, idle-waiting t idle))
-    ∙ alike t t.committed [] t.waiting [] t.subs.changes _ t.queues None t.doubt (empty t.waiting (idle-waiting t idle)) (empty t.subs.changes (idle-changes t idle)) (idle-queues t.queues (sound.sure none) queues) (sym none)
+    ∙ alike t t.committed [] t.waiting [] t.subs.changes _ t.queues _ t.producers None t.doubt (empty t.waiting (idle-waiting t idle)) (empty t.subs.changes (idle-changes t idle)) (idle-queues t.queues (sound.sure none) queues) (open_stay t.producers open_ones) (sym none)
 
 -- what a flag says of the doubt
 no_doubt : (d : Option Doubt) → is_some d ≡ false → d ≡ None

@@ -29,7 +29,7 @@ use Rattle.topic_core.specs.declared.dispatch.Outgoing.{Outgoing}
 use Rattle.reply_queues.specs.Replies.{SessionReplies, is_for, due_to, pending_to, make_all_due}
 use Rattle.topic_core.specs.Core.{Core, Topic, Doubt, opened, entries_of, changes_of, entries_in_doubt, changes_in_doubt}
 use Rattle.topic_core.specs.Soundness.{IsSound, AreReceipts, IsSoundTopic}
-use Rattle.topic_core.specs.Steps.{CoreStep, TopicStep, Collects, GrantStep, outcome_of, refused_or, first_standing, producer_refusals, send_refusals, with_producer, accepted, bytes_of, subscribe_refusal, subscribed, ack_refusals, ack_refused, ack_accepted, key_of, start_of, granted, grants_too_many, left}
+use Rattle.topic_core.specs.Steps.{CoreStep, TopicStep, Collects, GrantStep, outcome_of, refused_or, first_standing, producer_refusals, send_refusals, with_producer, accepted, bytes_of, subscribe_refusal, subscribed, close_refusals, closing, unsubscribe_refusal, unsubscribed, ack_refusals, ack_refused, ack_accepted, key_of, start_of, granted, grants_too_many, left}
 use Rattle.topic_core.specs.Dispatch.{Admits, Dispatches, DispatchStep, sent}
 use Rattle.topic_core.specs.Flush.{handed_on, flushed_topic, failed_topic, FlushStep, FlushIn, FlushEnds}
 use Rattle.topic_core.specs.Crashes.{IsLeft, TopicCrash, ReopenStep, ReopenEnds, ReopenIn, reopened, longer, changed}
@@ -37,7 +37,9 @@ use Rattle.topic_core.proofs.Openings.{sound-opened, receipts-opened, sound-reop
 use Rattle.topic_core.specs.Laws.{IsFlushed, IsAdmitted}
 use Rattle.topic_core.proofs.Sends.{takes_entry, sound-accepted, receipts-accepted}
 use Rattle.topic_core.proofs.Collects.{sound-collected, receipts-collected, sound-left, receipts-left}
-use Rattle.topic_core.proofs.Subscribing.{sound-subs, receipts-subs, sound-subscribed, receipts-subscribed, kept-subscribed, accepts, sound-acked, receipts-acked, kept-acked, committed-acked}
+use Rattle.topic_core.proofs.Subscribing.{sound-subs, receipts-subs, sound-subscribed, receipts-subscribed, kept-subscribed, accepts, sound-acked, receipts-acked, kept-acked, committed-acked, first-acked}
+use Rattle.topic_core.proofs.Producers.{AreKeptBack, all_opened}
+use Rattle.topic_core.proofs.Closings.{sound-producers, receipts-producers, close-works, sound-closing, receipts-closing, sound-unsubscribed, receipts-unsubscribed, kept-unsubscribed, changes-unsubscribed}
 use Rattle.topic_core.proofs.Flushes.{sound-handed_on, receipts-handed_on, sound-finished, receipts-finished, sound-failed, receipts-failed}
 use Rattle.topic_core.proofs.Flushing.{finished-handed_on}
 
@@ -59,28 +61,10 @@ Keeps old new = IsSound old → AreReceipts old → Stays old new
 still : (t : Core) → Keeps t t
 still t sound receipts = record { sound = sound; receipts = receipts; committed = refl; kept = λ kept is. is; failed = refl; per_ledger = refl; entries = refl; changes = refl }
 
-with-producers : (t : Core) (ps : List Producer) → Keeps t (record t { producers = ps })
-with-producers t ps sound are = record {
-  sound = record {
-    numbered = sound.numbered;
-    few = sound.few;
-    small = sound.small;
-    each_small = sound.each_small;
-    readable = sound.readable;
-    entries = sound.entries;
-    sends = sound.sends;
-    receipts = sound.receipts;
-    handed_on = sound.handed_on;
-    promises = sound.promises;
-    changes = sound.changes;
-    sessions = sound.sessions;
-    within = sound.within;
-    sure = sound.sure;
-    told = sound.told;
-    subs = sound.subs;
-    sent = sound.sent;
-  };
-  receipts = record { each = are.each; single = are.single };
+with-producers : (t : Core) (ps : List Producer) → (AreKeptBack t.producers → AreKeptBack ps) → Keeps t (record t { producers = ps })
+with-producers t ps to sound are = record {
+  sound = sound-producers t ps to sound;
+  receipts = receipts-producers t ps are;
   committed = refl;
   kept = λ kept is. is;
   failed = refl;
@@ -110,13 +94,13 @@ entries-acked t who ack None = refl
 entries-acked t who ack (Some request) = refl
 
 changes-acked : (t : Core) (who : ℕ) (ack : Ack) → changes_of t.doubt ≤ length t.subs.changes → (request : Option ℕ) → changes_in_doubt (ack_accepted t who ack request).core ≡ changes_in_doubt t
-changes-acked t who ack low None = take-append-le (changes_of t.doubt) t.subs.changes _ low
-changes-acked t who ack low (Some request) = take-append-le (changes_of t.doubt) t.subs.changes _ low
+changes-acked t who ack low None = first-acked (changes_of t.doubt) ack.ack_type t.subs _ _ low
+changes-acked t who ack low (Some request) = first-acked (changes_of t.doubt) ack.ack_type t.subs _ _ low
 
 outcome-keeps : (t : Core) (who : ℕ) (c : TopicCommand) → Keeps t (outcome_of t who c).core
 outcome-keeps t who (command.Producer id request name) =
     elim (first_standing (producer_refusals t name)) as (λ o. Keeps t (refused_or o (λ error. Now (Error request error)) t (record { answer = Now (ProducerSuccess request name); core = with_producer t who id name })).core) [
-      | None ↦ with-producers t _
+      | None ↦ with-producers t _ (all_opened t.producers _ refl)
       | Some error ↦ still t
     ]
 outcome-keeps t who (command.Send send) =
@@ -161,6 +145,36 @@ outcome-keeps t who (command.Ack ack) =
         per_ledger = per_ledger-acked t who ack ack.request_id;
         entries = entries-acked t who ack ack.request_id;
         changes = changes-acked t who ack sound.changes ack.request_id;
+      }
+      | Some error ↦ λ _. still t
+    ] refl
+outcome-keeps t who (command.CloseProducer close) =
+    elim (first_standing (close_refusals t who close)) as (λ o. first_standing (close_refusals t who close) ≡ o
+    → Keeps t (refused_or o (λ error. Now (Error close.request_id error)) t (record { answer = Later; core = closing t who close })).core) [
+      | None ↦ λ none sound are. record {
+        sound = sound-closing t who close sound (close-works t who close none);
+        receipts = receipts-closing t who close sound are;
+        committed = refl;
+        kept = λ kept is. is;
+        failed = refl;
+        per_ledger = refl;
+        entries = refl;
+        changes = refl;
+      }
+      | Some error ↦ λ _. still t
+    ] refl
+outcome-keeps t who (command.Unsubscribe u) =
+    elim (unsubscribe_refusal t who u) as (λ o. unsubscribe_refusal t who u ≡ o
+    → Keeps t (refused_or o (λ error. Now (Error u.request_id error)) t (record { answer = Later; core = unsubscribed t who u })).core) [
+      | None ↦ λ none sound are. record {
+        sound = sound-unsubscribed t who u none sound;
+        receipts = receipts-unsubscribed t who u none sound are;
+        committed = refl;
+        kept = λ kept is. kept-unsubscribed t who u none sound kept is;
+        failed = refl;
+        per_ledger = refl;
+        entries = refl;
+        changes = changes-unsubscribed t who u none sound;
       }
       | Some error ↦ λ _. still t
     ] refl
@@ -423,6 +437,7 @@ commits false None old n new h none = record {
   count = h.0;
   kept = ap (λ (t : Topic). t.kept) h.1;
   changes = ap (λ (t : Topic). t.core.subs.changes) h.1;
+  producers = ap (λ (t : Topic). t.core.producers) h.1;
   due = λ who. ap (λ (t : Topic). due_to who t.core.queues) h.1 ∙ due_to-all who old.core.queues;
   pending = λ who. ap (λ (t : Topic). pending_to who t.core.queues) h.1 ∙ pending_to-all who old.core.queues;
 }

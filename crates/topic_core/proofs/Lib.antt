@@ -1,10 +1,12 @@
 pub mod Ids
 pub mod Queues
 pub mod Receipts
+pub mod Producers
 pub mod Sends
 pub mod Collects
 pub mod Flushes
 pub mod Subscribing
+pub mod Closings
 pub mod Openings
 pub mod Flushing
 pub mod Steps

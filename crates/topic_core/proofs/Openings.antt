@@ -32,6 +32,7 @@ sound-opened n committed kept some few durable = record {
   sessions = no_sessions;
   within = tt;
   sure = λ none. tt;
+  closing = λ none. tt;
   told = λ failed. tt;
   subs = each_sound.opened kept durable;
   sent = each_committed.opened committed kept;
@@ -73,6 +74,7 @@ module _ (t : Core) (committed : ℕ) (kept : Kept) (sound : IsSound t) where
         sessions = sound.sessions;
         within = sound.within;
         sure = λ none. all-each _ _ t.queues (λ q x. none-handed q x) (quiet was);
+        closing = λ none. tt;
         told = λ failed. all-each _ _ t.queues (λ q x. x.0) (quiet was);
         subs = each_sound.opened kept durable;
         sent = each_committed.opened committed kept;

@@ -135,6 +135,7 @@ module _ (t : Core) (who p s : ℕ) (entry : List ℕ) (sound : IsSound t) where
         sessions = distinct-queued who (receipt t p s) t.queues sound.sessions;
         within = all-queued _ _ who (receipt t p s) t.queues (λ q h. h) (λ q h. omega (arith, h, length-append q.pending (receipt t p s ∷ []))) (omega arith) sound.within;
         sure = λ none. all-queued _ _ who (receipt t p s) t.queues (λ q h. h) (λ q h. h) refl (sound.sure none);
+        closing = sound.closing;
         told = λ failed. absurd (false≢true (sym works ∙ failed));
         subs = sound.subs;
         sent = sound.sent;

@@ -1,21 +1,25 @@
 -- What a step answers fits its command, and what waits then came from accepted SENDs.
-use Rattle.std.proofs.Common.{◌≡◌, inl, inr, ℕ, Bool, true, false, cond, Option, Some, None, is_some, List, [], ◌∷◌, ◌++◌, length, refl, subst, sym, ap, ◌∙◌, arith, append-nil}
+use Rattle.std.proofs.Common.{◌≡◌, inl, inr, ℕ, Bool, true, false, cond, not, Option, Some, None, is_some, List, [], ◌∷◌, ◌++◌, length, refl, subst, sym, ap, ◌∙◌, arith, append-nil}
 use Rattle.std.specs.List.{AllByRecursion}
 use Rattle.std.specs.Option.{option_map}
 use Rattle.commands.specs.declared.server_error.ServerError.{ServerError}
-use Rattle.commands.specs.declared.server_error.ServerError.TheVariants.{PersistenceError}
-use Rattle.commands.specs.declared.reply.Reply.TheVariants.{ProducerSuccess, SendError, Error}
+use Rattle.commands.specs.declared.server_error.ServerError.TheVariants.{PersistenceError, ConsumerNotFound}
+use Rattle.commands.specs.declared.reply.Reply.{Reply}
+use Rattle.commands.specs.declared.reply.Reply.TheVariants.{Connected, ProducerSuccess, SendReceipt, SendError, Message, Success, Error, AckResponse, Pong}
+use Rattle.reply_queues.specs.Replies.{is_receipt}
 use Rattle.subscriptions.specs.declared.consumer.Refusal.{Refusal}
 use Rattle.subscriptions.specs.declared.consumer.Refusal.TheVariants as refusal
 use Rattle.topic_core.specs.declared.command.Send.{Send}
 use Rattle.topic_core.specs.declared.command.Subscribe.{Subscribe}
 use Rattle.topic_core.specs.declared.command.Ack.{Ack}
+use Rattle.topic_core.specs.declared.command.CloseProducer.{CloseProducer}
+use Rattle.topic_core.specs.declared.command.Unsubscribe.{Unsubscribe}
 use Rattle.topic_core.specs.declared.command.TopicCommand.{TopicCommand}
 use Rattle.topic_core.specs.declared.command.TopicCommand.TheVariants as command
 use Rattle.topic_core.specs.declared.command.Answer.{Answer}
 use Rattle.topic_core.specs.declared.command.Answer.TheVariants.{Now, Later, Nothing, NoMemory}
 use Rattle.topic_core.specs.Core.{Core}
-use Rattle.topic_core.specs.Steps.{CoreStep, Fits, IsAmong, outcome_of, first_standing, refused_or, producer_refusals, send_refusals, producer_errors, send_errors, with_producer, accepted, bytes_of, error_of, subscribe_refusal, subscribed, subscribe_errors, ack_refusals, ack_refused, ack_accepted, ack_errors}
+use Rattle.topic_core.specs.Steps.{CoreStep, Fits, IsAmong, outcome_of, first_standing, refused_or, producer_refusals, send_refusals, producer_errors, send_errors, with_producer, accepted, bytes_of, error_of, subscribe_refusal, subscribed, subscribe_errors, close_refusals, closing, close_errors, unsubscribe_refusal, unsubscribed, unsubscribe_errors, has_consumer, ack_refusals, ack_refused, ack_accepted, ack_errors}
 use Rattle.topic_core.specs.Laws.{IsPublished, entries_added}
 
 -- the first refusal that stands is one of the table's
@@ -36,6 +40,17 @@ attach-among (Some refusal.TooManyRequests) e is = inr (inr (inl (cc)))
 subscribe-among : (failed : Bool) (o : Option Refusal) (e : ServerError) → cond failed (Some PersistenceError) (option_map error_of o) ≡ Some e → IsAmong e subscribe_errors
 subscribe-among true o e is = inl (cc)
 subscribe-among false o e is = attach-among o e is
+
+-- the errors of an UNSUBSCRIBE
+removal-among : (o : Option Refusal) (e : ServerError) → option_map error_of o ≡ Some e → IsAmong e unsubscribe_errors
+removal-among None e is = cc
+removal-among (Some refusal.ConsumerBusy) e is = inr (inr (inl (cc)))
+removal-among (Some refusal.TooManyRequests) e is = inr (inr (inr (inl (cc))))
+
+unsubscribe-among : (has failed : Bool) (o : Option Refusal) (e : ServerError) → cond (not has) (Some ConsumerNotFound) (cond failed (Some PersistenceError) (option_map error_of o)) ≡ Some e → IsAmong e unsubscribe_errors
+unsubscribe-among false failed o e is = inl (cc)
+unsubscribe-among true true o e is = inr (inl (cc))
+unsubscribe-among true false o e is = removal-among o e is
 
 -- the answer of an ACK, by whether it asked for one
 ack-refused-fits : (ack : Ack) (request : Option ℕ) (e : ServerError) → ack.request_id ≡ request → IsAmong e ack_errors → Fits (command.Ack ack) (ack_refused ack.consumer_id request e)
@@ -76,6 +91,18 @@ outcome-fits t who (command.Ack ack) =
       | None ↦ λ _. ack-accepted-fits t who ack ack.request_id refl
       | Some e ↦ λ is. ack-refused-fits ack ack.request_id e refl
           (among ack_errors (ack_refusals t who ack) (inl refl, (inr (inl refl), (inr (inr (inl refl)), (inr (inr (inl refl)), (inr (inr (inr (inl refl))), tt))))) e is)
+    ] refl
+outcome-fits t who (command.CloseProducer close) =
+    elim (first_standing (close_refusals t who close)) as (λ o. first_standing (close_refusals t who close) ≡ o → Fits (command.CloseProducer close) (refused_or o (λ error. Now (Error close.request_id error)) t
+    (record { answer = Later; core = closing t who close })).answer) [
+      | None ↦ λ _. tt
+      | Some e ↦ λ is. (refl, among close_errors (close_refusals t who close) (inl refl, (inr (inl refl), tt)) e is)
+    ] refl
+outcome-fits t who (command.Unsubscribe u) =
+    elim (unsubscribe_refusal t who u) as (λ o. unsubscribe_refusal t who u ≡ o → Fits (command.Unsubscribe u) (refused_or o (λ error. Now (Error u.request_id error)) t
+    (record { answer = Later; core = unsubscribed t who u })).answer) [
+      | None ↦ λ _. tt
+      | Some e ↦ λ is. (refl, unsubscribe-among (has_consumer t who u.consumer_id) t.failed _ e is)
     ] refl
 
 pub step-fits : (t : Core) (who : ℕ) (c : TopicCommand) (a : Answer) (new : Core) → CoreStep t who c a new → Fits c a
@@ -119,6 +146,22 @@ subscribe-publishes t new who subscribe a is =
       | Some error ↦ λ e. unchanged t new (command.Subscribe subscribe) a refl (ap (λ (k : Core). k.waiting) e) (ap (λ (k : Core). k.accepted) e)
     ] is
 
+close-publishes : (t new : Core) (who : ℕ) (close : CloseProducer) (a : Answer) → new ≡ (outcome_of t who (command.CloseProducer close)).core → IsPublished t (command.CloseProducer close) a new
+close-publishes t new who close a is =
+    elim (first_standing (close_refusals t who close)) as (λ o. new ≡ (refused_or o (λ error. Now (Error close.request_id error)) t (record { answer = Later; core = closing t who close })).core
+    → IsPublished t (command.CloseProducer close) a new) [
+      | None ↦ λ e. unchanged t new (command.CloseProducer close) a refl (ap (λ (k : Core). k.waiting) e) (ap (λ (k : Core). k.accepted) e)
+      | Some error ↦ λ e. unchanged t new (command.CloseProducer close) a refl (ap (λ (k : Core). k.waiting) e) (ap (λ (k : Core). k.accepted) e)
+    ] is
+
+unsubscribe-publishes : (t new : Core) (who : ℕ) (u : Unsubscribe) (a : Answer) → new ≡ (outcome_of t who (command.Unsubscribe u)).core → IsPublished t (command.Unsubscribe u) a new
+unsubscribe-publishes t new who u a is =
+    elim (unsubscribe_refusal t who u) as (λ o. new ≡ (refused_or o (λ error. Now (Error u.request_id error)) t (record { answer = Later; core = unsubscribed t who u })).core
+    → IsPublished t (command.Unsubscribe u) a new) [
+      | None ↦ λ e. unchanged t new (command.Unsubscribe u) a refl (ap (λ (k : Core). k.waiting) e) (ap (λ (k : Core). k.accepted) e)
+      | Some error ↦ λ e. unchanged t new (command.Unsubscribe u) a refl (ap (λ (k : Core). k.waiting) e) (ap (λ (k : Core). k.accepted) e)
+    ] is
+
 ack-adds-none : (t new : Core) (who : ℕ) (ack : Ack) (a : Answer) (request : Option ℕ) → new ≡ (ack_accepted t who ack request).core → IsPublished t (command.Ack ack) a new
 ack-adds-none t new who ack a None e = unchanged t new (command.Ack ack) a refl (ap (λ (k : Core). k.waiting) e) (ap (λ (k : Core). k.accepted) e)
 ack-adds-none t new who ack a (Some request) e = unchanged t new (command.Ack ack) a refl (ap (λ (k : Core). k.waiting) e) (ap (λ (k : Core). k.accepted) e)
@@ -148,3 +191,28 @@ step-publishes t who (command.Ack ack) NoMemory new h = unchanged t new (command
 step-publishes t who (command.Ack ack) (Now r) new h = ack-publishes t new who ack (Now r) h.1
 step-publishes t who (command.Ack ack) Later new h = ack-publishes t new who ack Later h.1
 step-publishes t who (command.Ack ack) Nothing new h = ack-publishes t new who ack Nothing h.1
+step-publishes t who (command.CloseProducer close) NoMemory new h = unchanged t new (command.CloseProducer close) NoMemory refl (ap (λ (k : Core). k.waiting) h) (ap (λ (k : Core). k.accepted) h)
+step-publishes t who (command.CloseProducer close) (Now r) new h = close-publishes t new who close (Now r) h.1
+step-publishes t who (command.CloseProducer close) Later new h = close-publishes t new who close Later h.1
+step-publishes t who (command.CloseProducer close) Nothing new h = close-publishes t new who close Nothing h.1
+step-publishes t who (command.Unsubscribe u) NoMemory new h = unchanged t new (command.Unsubscribe u) NoMemory refl (ap (λ (k : Core). k.waiting) h) (ap (λ (k : Core). k.accepted) h)
+step-publishes t who (command.Unsubscribe u) (Now r) new h = unsubscribe-publishes t new who u (Now r) h.1
+step-publishes t who (command.Unsubscribe u) Later new h = unsubscribe-publishes t new who u Later h.1
+step-publishes t who (command.Unsubscribe u) Nothing new h = unsubscribe-publishes t new who u Nothing h.1
+
+-- what fits at once is no receipt
+pub fits-plain : (c : TopicCommand) (r : Reply) → Fits c (Now r) → is_receipt r ≡ false
+fits-plain c Connected h = refl
+fits-plain c (ProducerSuccess request name) h = refl
+fits-plain (command.Producer id request name) (SendReceipt p s i) h = absurd h
+fits-plain (command.Send send) (SendReceipt p s i) h = absurd h
+fits-plain (command.Subscribe subscribe) (SendReceipt p s i) h = absurd h
+fits-plain (command.Ack ack) (SendReceipt p s i) h = absurd h
+fits-plain (command.CloseProducer close) (SendReceipt p s i) h = absurd h
+fits-plain (command.Unsubscribe u) (SendReceipt p s i) h = absurd h
+fits-plain c (SendError p s e) h = refl
+fits-plain c (Message k i n) h = refl
+fits-plain c (Success request) h = refl
+fits-plain c (Error request e) h = refl
+fits-plain c (AckResponse k e request) h = refl
+fits-plain c Pong h = refl

@@ -8,6 +8,8 @@ use Rattle.std.proofs.lemmas.List.{take-append-le, drop-append-le}
 use Rattle.std.proofs.lemmas.List.Sums.{sum_by-append}
 use Rattle.commands.specs.declared.reply.Reply.{Reply}
 use Rattle.commands.specs.declared.reply.Reply.TheVariants.{Success, AckResponse}
+use Rattle.commands.specs.declared.consuming.AckType.{AckType}
+use Rattle.commands.specs.declared.consuming.AckType.TheVariants.{Individual, Cumulative}
 use Rattle.commands.specs.declared.consuming.InitialPosition.{InitialPosition}
 use Rattle.commands.specs.declared.consuming.InitialPosition.TheVariants.{Latest, Earliest}
 use Rattle.commands.specs.declared.server_error.ServerError.{ServerError}
@@ -16,7 +18,7 @@ use Rattle.holds.specs.declared.consumer.ConsumerKey.{ConsumerKey}
 use Rattle.ids.specs.declared.message_id.MessageIdData.{MessageIdData}
 use Rattle.ids.specs.Ids.{message_id_at}
 use Rattle.subscriptions.specs.State.{Subscriptions}
-use Rattle.subscriptions.specs.Soundness.{IsCommitted, IsSound as AreSound}
+use Rattle.subscriptions.specs.Soundness.{HasLimits, IsCommitted, IsSound as AreSound}
 use Rattle.records.specs.Maps.{Kept}
 use Rattle.subscriptions.specs.Laws.{IsKept}
 use Rattle.subscriptions.specs.Steps as subscriptions
@@ -31,7 +33,7 @@ use Rattle.topic_core.specs.declared.command.Ack.{Ack}
 use Rattle.reply_queues.specs.Replies.{SessionReplies, is_receipt, receipts_in, with_pending, queued}
 use Rattle.topic_core.specs.Core.{Core, entries_of}
 use Rattle.topic_core.specs.Soundness.{IsSound, AreReceipts, HasReceipts, is_receipt_for}
-use Rattle.topic_core.specs.Steps.{first_standing, error_of, attach_refusal, subscribe_refusal, subscribed, key_of, start_of, has_consumer, is_committed, is_whole, is_cumulative, position_at, ack_refusals, acknowledged_at, ack_accepted}
+use Rattle.topic_core.specs.Steps.{first_standing, error_of, attach_refusal, subscribe_refusal, subscribed, key_of, start_of, has_consumer, is_committed, is_whole, position_at, ack_refusals, is_ill_counted, acked, acknowledged_at, ack_accepted}
 use Rattle.topic_core.proofs.Queues.{all-each, all-queued, all-both, sum_by-queued, distinct-queued}
 use Rattle.reply_queues.proofs.Places.{made}
 use Rattle.topic_core.proofs.Receipts.{rising-plain, plain-for}
@@ -78,6 +80,7 @@ module _ (t : Core) (who : ℕ) (r : Reply) (plain : is_receipt r ≡ false) (so
         sessions = distinct-queued who r t.queues sound.sessions;
         within = all-queued _ _ who r t.queues (λ q h. h) (λ q h. omega (arith, h, length-append q.pending (r ∷ []))) (omega arith) sound.within;
         sure = λ none. all-queued _ _ who r t.queues (λ q h. h) (λ q h. h) refl (sound.sure none);
+        closing = sound.closing;
         told = λ failed. absurd (false≢true (sym works ∙ failed));
         subs = sound.subs;
         sent = sound.sent;
@@ -124,6 +127,7 @@ module _ (t : Core) (subs : Subscriptions) (sound : IsSound t) where
     sessions = sound.sessions;
     within = sound.within;
     sure = sound.sure;
+    closing = sound.closing;
     told = sound.told;
     subs = are;
     sent = sent;
@@ -133,7 +137,7 @@ pub receipts-subs : (t : Core) (subs : Subscriptions) → AreReceipts t → AreR
 receipts-subs t subs are = record { each = are.each; single = are.single }
 
 -- what is refused of a SUBSCRIBE and of an ACK that is accepted: nothing
-none-of : (o : Option Refusal) → option_map error_of o ≡ None → o ≡ None
+pub none-of : (o : Option Refusal) → option_map error_of o ≡ None → o ≡ None
 none-of None h = refl
 none-of (Some r) h = cc
 
@@ -146,11 +150,11 @@ allowed t s = elim t.failed as (λ b. cond b (Some PersistenceError) (attach_ref
   | false ↦ λ h. none-of _ h
 ]
 
-none-first : (b : Bool) (e : ServerError) (o : Option ServerError) → cond b (Some e) o ≡ None → b ≡ false
+pub none-first : (b : Bool) (e : ServerError) (o : Option ServerError) → cond b (Some e) o ≡ None → b ≡ false
 none-first true e o h = cc
 none-first false e o h = refl
 
-none-rest : (b : Bool) (e : ServerError) (o : Option ServerError) → cond b (Some e) o ≡ None → o ≡ None
+pub none-rest : (b : Bool) (e : ServerError) (o : Option ServerError) → cond b (Some e) o ≡ None → o ≡ None
 none-rest true e o h = cc
 none-rest false e o h = h
 
@@ -168,7 +172,7 @@ pub accepts : (t : Core) (who : ℕ) (ack : Ack) → first_standing (ack_refusal
 accepts t who ack none =
     let second = none-rest (not (has_consumer t who ack.consumer_id)) ConsumerNotFound _ none in
     let third = none-rest t.failed PersistenceError _ second in
-    let fourth = none-rest (is_cumulative ack.ack_type) NotAllowedError _ third in
+    let fourth = none-rest (is_ill_counted ack) NotAllowedError _ third in
     let fifth = none-rest (not (list_all (is_committed t.per_ledger t.committed) ack.ids)) NotAllowedError _ fourth in
     record {
       works = none-first t.failed PersistenceError _ second;
@@ -206,8 +210,32 @@ more-attached t name mode key start =
       | Some s ↦ omega arith
     ]
 
-more-acknowledged : (t : Subscriptions) (key : ConsumerKey) (ps : List ℕ) → length t.changes ≤ length (subscriptions.acknowledged t key ps).changes
-more-acknowledged t key ps = omega (arith, length-append t.changes (subscriptions.acknowledgements (find (subscriptions.is_on key) t.subs) ps))
+-- what an ACK does to the subscriptions
+pub are-acked : (ack_type : AckType) (t : Subscriptions) (key : ConsumerKey) (ps : List ℕ) → length t.changes + length ps ≤ 65536 → AreSound t → AreSound (acked ack_type t key ps)
+are-acked Individual t key ps room are = each_sound.acknowledge t key ps room are
+are-acked Cumulative t key [] room are = are
+are-acked Cumulative t key (p ∷ ps) room are = each_sound.acknowledge_through t key p (omega (arith, room)) are
+
+sent-acked : (committed : ℕ) (ack_type : AckType) (t : Subscriptions) (key : ConsumerKey) (ps : List ℕ) → IsCommitted committed t → IsCommitted committed (acked ack_type t key ps)
+sent-acked committed Individual t key ps all = each_committed.acknowledge committed t key ps all
+sent-acked committed Cumulative t key [] all = all
+sent-acked committed Cumulative t key (p ∷ ps) all = each_committed.acknowledge_through committed t key p all
+
+pub are_kept-acked : (e : ℕ) (kept : Kept) (ack_type : AckType) (t : Subscriptions) (key : ConsumerKey) (ps : List ℕ) → HasLimits t → AllByRecursion (λ p. p < e) ps → IsKept e kept t → IsKept e kept (acked ack_type t key ps)
+are_kept-acked e kept Individual t key ps limits low is = are_kept.acknowledge e kept t key ps limits low is
+are_kept-acked e kept Cumulative t key [] limits low is = is
+are_kept-acked e kept Cumulative t key (p ∷ ps) limits low is = are_kept.acknowledge_through e kept t key p limits low.0 is
+
+-- the changes that were there stay first
+pub first-acked : (n : ℕ) (ack_type : AckType) (t : Subscriptions) (key : ConsumerKey) (ps : List ℕ) → n ≤ length t.changes → take n (acked ack_type t key ps).changes ≡ take n t.changes
+first-acked n Individual t key ps low = take-append-le n t.changes _ low
+first-acked n Cumulative t key [] low = refl
+first-acked n Cumulative t key (p ∷ ps) low = take-append-le n t.changes _ low
+
+more-acked : (ack_type : AckType) (t : Subscriptions) (key : ConsumerKey) (ps : List ℕ) → length t.changes ≤ length (acked ack_type t key ps).changes
+more-acked Individual t key ps = omega (arith, length-append t.changes (subscriptions.acknowledgements (find (subscriptions.is_on key) t.subs) ps))
+more-acked Cumulative t key [] = omega arith
+more-acked Cumulative t key (p ∷ ps) = omega (arith, length-append t.changes (subscriptions.acknowledgement_through (find (subscriptions.is_on key) t.subs) p))
 
 starts-within : (initial : InitialPosition) (committed : ℕ) → subscriptions.start_of (start_of initial) committed ≤ committed
 starts-within Latest committed = omega arith
@@ -233,21 +261,21 @@ module _ (t : Core) (who : ℕ) (s : Subscribe) (sound : IsSound t) where
   kept-subscribed none kept is = are_kept.attach t.committed kept t.subs s.subscription s.mode (key_of who s.consumer_id) (subscriptions.start_of (start_of s.initial) t.committed)
       (allowed t s none) s.named (starts-within s.initial t.committed) is
 
-module _ (t : Core) (key : ConsumerKey) (positions : List ℕ) (room : length t.subs.changes + length positions ≤ 65536) (sound : IsSound t) where
-  pub sound-acknowledged : IsSound (acknowledged_at t key positions)
-  sound-acknowledged = sound-subs t (subscriptions.acknowledged t.subs key positions) sound
-      (each_sound.acknowledge t.subs key positions room sound.subs)
-      (each_committed.acknowledge t.committed t.subs key positions sound.sent)
-      (more-acknowledged t.subs key positions)
+module _ (t : Core) (ack_type : AckType) (key : ConsumerKey) (positions : List ℕ) (room : length t.subs.changes + length positions ≤ 65536) (sound : IsSound t) where
+  pub sound-acknowledged : IsSound (acknowledged_at t ack_type key positions)
+  sound-acknowledged = sound-subs t (acked ack_type t.subs key positions) sound
+      (are-acked ack_type t.subs key positions room sound.subs)
+      (sent-acked t.committed ack_type t.subs key positions sound.sent)
+      (more-acked ack_type t.subs key positions)
 
-  pub receipts-acknowledged : AreReceipts t → AreReceipts (acknowledged_at t key positions)
-  receipts-acknowledged are = receipts-subs t (subscriptions.acknowledged t.subs key positions) are
+  pub receipts-acknowledged : AreReceipts t → AreReceipts (acknowledged_at t ack_type key positions)
+  receipts-acknowledged are = receipts-subs t (acked ack_type t.subs key positions) are
 
-  pub sound-answered : t.failed ≡ false → (who request : ℕ) → IsSound (record (acknowledged_at t key positions) { queues = queued who (AckResponse key.id None request) t.queues })
-  sound-answered works who request = sound-queued (acknowledged_at t key positions) who (AckResponse key.id None request) refl sound-acknowledged works
+  pub sound-answered : t.failed ≡ false → (who request : ℕ) → IsSound (record (acknowledged_at t ack_type key positions) { queues = queued who (AckResponse key.id None request) t.queues })
+  sound-answered works who request = sound-queued (acknowledged_at t ack_type key positions) who (AckResponse key.id None request) refl sound-acknowledged works
 
-  pub receipts-answered : (who request : ℕ) → AreReceipts t → AreReceipts (record (acknowledged_at t key positions) { queues = queued who (AckResponse key.id None request) t.queues })
-  receipts-answered who request are = receipts-queued (acknowledged_at t key positions) who (AckResponse key.id None request) refl sound-acknowledged (receipts-acknowledged are)
+  pub receipts-answered : (who request : ℕ) → AreReceipts t → AreReceipts (record (acknowledged_at t ack_type key positions) { queues = queued who (AckResponse key.id None request) t.queues })
+  receipts-answered who request are = receipts-queued (acknowledged_at t ack_type key positions) who (AckResponse key.id None request) refl sound-acknowledged (receipts-acknowledged are)
 
 module _ (t : Core) (who : ℕ) (ack : Ack) (sound : IsSound t) where
   abbrev positions : List ℕ
@@ -257,16 +285,16 @@ module _ (t : Core) (who : ℕ) (ack : Ack) (sound : IsSound t) where
   key = key_of who ack.consumer_id
 
   pub sound-acked : (request : Option ℕ) → IsAccepted t ack.ids → IsSound (ack_accepted t who ack request).core
-  sound-acked None is = sound-acknowledged t key positions (places_room t ack.ids is) sound
-  sound-acked (Some request) is = sound-answered t key positions (places_room t ack.ids is) sound is.works who request
+  sound-acked None is = sound-acknowledged t ack.ack_type key positions (places_room t ack.ids is) sound
+  sound-acked (Some request) is = sound-answered t ack.ack_type key positions (places_room t ack.ids is) sound is.works who request
 
   pub receipts-acked : (request : Option ℕ) → IsAccepted t ack.ids → AreReceipts t → AreReceipts (ack_accepted t who ack request).core
-  receipts-acked None is are = receipts-acknowledged t key positions (places_room t ack.ids is) sound are
-  receipts-acked (Some request) is are = receipts-answered t key positions (places_room t ack.ids is) sound who request are
+  receipts-acked None is are = receipts-acknowledged t ack.ack_type key positions (places_room t ack.ids is) sound are
+  receipts-acked (Some request) is are = receipts-answered t ack.ack_type key positions (places_room t ack.ids is) sound who request are
 
   pub kept-acked : (request : Option ℕ) → IsAccepted t ack.ids → (kept : Kept) → IsKept t.committed kept t.subs → IsKept t.committed kept (ack_accepted t who ack request).core.subs
-  kept-acked None a kept is = are_kept.acknowledge t.committed kept t.subs key positions sound.subs.limits (places_committed t.per_ledger t.committed ack.ids a.named) is
-  kept-acked (Some request) a kept is = are_kept.acknowledge t.committed kept t.subs key positions sound.subs.limits (places_committed t.per_ledger t.committed ack.ids a.named) is
+  kept-acked None a kept is = are_kept-acked t.committed kept ack.ack_type t.subs key positions sound.subs.limits (places_committed t.per_ledger t.committed ack.ids a.named) is
+  kept-acked (Some request) a kept is = are_kept-acked t.committed kept ack.ack_type t.subs key positions sound.subs.limits (places_committed t.per_ledger t.committed ack.ids a.named) is
 
   pub committed-acked : (request : Option ℕ) → (ack_accepted t who ack request).core.committed ≡ t.committed
   committed-acked None = refl

@@ -1,26 +1,50 @@
 -- A flush of a topic, and its parts.
-use Rattle.std.specs.Prelude.{◌≡◌, ℕ, ◌+◌, Bool, true, false, ◌&&◌, ◌||◌, Some, None, is_some, Result, Ok, Err, [], ◌++◌, length, drop, map, nat_eq}
+use Rattle.std.specs.Prelude.{◌≡◌, ℕ, ◌+◌, Bool, true, false, ◌&&◌, ◌||◌, Some, None, is_some, Result, Ok, Err, [], ◌++◌, length, drop, filter, not, map, nat_eq}
 use Rattle.std.specs.List.{list_all}
 use Rattle.gated_log.specs.declared.refusal.Refusal.{Refusal}
 use Rattle.gated_log.specs.declared.refusal.Refusal.TheVariants as refusal
 use Rattle.records.specs.Records.{after_all}
 use Rattle.reply_queues.specs.Replies.{hand_on, make_due, take_back, make_all_due, refuse_pending}
 use Rattle.subscriptions.specs.Steps.{settled}
+use Rattle.topic_core.specs.declared.producer.Producer.{Producer}
+use Rattle.topic_core.specs.declared.producer.ProducerState.{ProducerState}
+use Rattle.topic_core.specs.declared.producer.ProducerState.TheVariants.{Open, Closing, HandedOn}
+use Rattle.topic_core.specs.Steps.{is_open, is_handed_on}
 use Rattle.topic_core.specs.Core.{Core, Topic, with_core, entries_of, changes_of}
 
--- nothing waits for a flush
+-- nothing waits for a flush: no entry, no change, no reply and no closing producer
 abbrev pub is_idle : Core → Bool
-is_idle t = nat_eq (length t.waiting) 0 && nat_eq (length t.subs.changes) 0 && list_all (λ q. nat_eq (length q.pending) 0) t.queues
+is_idle t =
+    nat_eq (length t.waiting) 0 && nat_eq (length t.subs.changes) 0 && list_all (λ q. nat_eq (length q.pending) 0) t.queues
+    && list_all (λ p. is_open p.state) t.producers
 
 -- a flush has nothing to do: one is under way, or nothing waits
 abbrev pub has_no_flush : Core → Bool
 has_no_flush t = is_some t.doubt || is_idle t
+
+-- a producer's closing is handed on, or waits again
+abbrev pub hand_on_state : ProducerState → ProducerState
+hand_on_state Open = Open
+hand_on_state Closing = HandedOn
+hand_on_state HandedOn = HandedOn
+
+abbrev pub take_back_state : ProducerState → ProducerState
+take_back_state Open = Open
+take_back_state Closing = Closing
+take_back_state HandedOn = Closing
+
+abbrev pub hand_on_producer : Producer → Producer
+hand_on_producer p = record p { state = hand_on_state p.state }
+
+abbrev pub take_back_producer : Producer → Producer
+take_back_producer p = record p { state = take_back_state p.state }
 
 -- all that waits is handed on
 abbrev pub handed_on : Core → Core
 handed_on t = record t {
   doubt = Some (record { entries = length t.waiting; changes = length t.subs.changes });
   queues = map (λ q. hand_on q) t.queues;
+  producers = map (λ p. hand_on_producer p) t.producers;
 }
 
 -- a flush begins by handing on all that waits, where it has something to do
@@ -28,19 +52,24 @@ abbrev pub TakeStep : Core → Bool → Core → Type 0
 TakeStep old true new = (has_no_flush old ≡ false) × (new ≡ handed_on old)
 TakeStep old false new = (has_no_flush old ≡ true) × (new ≡ old)
 
--- what was handed on is committed, and its replies are due
+-- What was handed on is committed, its replies are due, and the producers whose closing it was are gone.
 abbrev pub finished : Core → Core
 finished t = record t {
   committed = t.committed + entries_of t.doubt;
   waiting = drop (entries_of t.doubt) t.waiting;
   subs = settled t.subs (changes_of t.doubt);
   queues = map (λ q. make_due q) t.queues;
+  producers = filter (λ p. not (is_handed_on p.state)) t.producers;
   doubt = None;
 }
 
 -- what was handed on waits again
 abbrev pub taken_back : Core → Core
-taken_back t = record t { queues = map (λ q. take_back q) t.queues; doubt = None }
+taken_back t = record t {
+  queues = map (λ q. take_back q) t.queues;
+  producers = map (λ p. take_back_producer p) t.producers;
+  doubt = None;
+}
 
 -- the device failed: what was handed on stays in doubt, and all pending replies are due as refusals
 abbrev pub failed : Core → Core
@@ -56,13 +85,14 @@ FinishStep old (Err refusal.NotInitialised) result new = ⊥
 FinishStep old (Err refusal.Version) result new = ⊥
 FinishStep old (Err refusal.TooLarge) result new = ⊥
 
--- all that waits is committed, and all replies that await a flush are due
+-- all that waits is committed, all replies that await a flush are due, and the closing producers are gone
 abbrev pub flushed : Core → Core
 flushed t = record t {
   committed = t.committed + length t.waiting;
   waiting = [];
   subs = record t.subs { changes = [] };
   queues = map (λ q. make_all_due q) t.queues;
+  producers = filter (λ p. is_open p.state) t.producers;
   doubt = None;
 }
 

@@ -1,5 +1,5 @@
 -- What holds of every step of a topic.
-use Rattle.std.specs.Prelude.{◌≡◌, ℕ, ◌+◌, ◌<◌, ◌≤◌, ◌^◌, ◌↔◌, true, false, Option, None, Some, Result, Ok, List, [], ◌∷◌, ◌++◌, length, slice_get}
+use Rattle.std.specs.Prelude.{◌≡◌, ℕ, ◌+◌, ◌<◌, ◌≤◌, ◌^◌, ◌↔◌, true, false, Option, None, Some, Result, Ok, List, [], ◌∷◌, ◌++◌, length, filter, slice_get}
 use Rattle.std.specs.List.{find}
 use Rattle.ids.specs.Ids.{message_id_at, Names}
 use Rattle.ids.specs.declared.message_id.MessageIdData.{MessageIdData}
@@ -19,7 +19,7 @@ use Rattle.topic_core.specs.declared.dispatch.Outgoing.{Outgoing}
 use Rattle.topic_core.specs.Core.{Core, Topic, receipts_due}
 use Rattle.records.specs.Maps.{Kept}
 use Rattle.topic_core.specs.Soundness.{IsSound, AreReceipts, IsSoundTopic}
-use Rattle.topic_core.specs.Steps.{CoreStep, TopicStep, Collects, GrantStep, Fits, bytes_of, key_of, is_committed, position_at, left}
+use Rattle.topic_core.specs.Steps.{CoreStep, TopicStep, Collects, GrantStep, Fits, bytes_of, key_of, is_open, is_committed, position_at, left}
 use Rattle.topic_core.specs.Dispatch.{Dispatches, DispatchStep, Admits}
 use Rattle.topic_core.specs.Flush.{FlushStep, in_flush}
 use Rattle.topic_core.specs.Crashes.{IsLeft, TopicCrash, ReopenStep}
@@ -42,6 +42,8 @@ entries_added (asked.Send send) Nothing = []
 entries_added (asked.Send send) NoMemory = []
 entries_added (asked.Subscribe subscribe) answer = []
 entries_added (asked.Ack ack) answer = []
+entries_added (asked.CloseProducer close) answer = []
+entries_added (asked.Unsubscribe unsubscribe) answer = []
 
 -- what waits are the entries of accepted SENDs, and each is counted once
 pub record IsPublished (old : Core) (c : TopicCommand) (answer : Answer) (new : Core) : Type 0 where
@@ -81,12 +83,14 @@ IdsArePositions = (n committed i : ℕ) (id : MessageIdData) → 0 < n → commi
 abbrev pub ReceiptsAreCovered : Type 0
 ReceiptsAreCovered = (t : Topic) → IsSoundTopic t → t.core.handed + receipts_due t.core.queues ≤ length t.ledger
 
--- a good flush makes just a session's pending replies due, behind those that were; the ledger grows by what waited, and the changes are durable
+-- A good flush makes just a session's pending replies due, behind those that were; the ledger grows by what waited, the
+-- changes are durable, and just the closing producers are gone.
 pub record IsFlushed (old : Topic) (n : ℕ) (new : Topic) : Type 0 where
   pub ledger : new.ledger ≡ old.ledger ++ old.core.waiting
   pub count : n ≡ length old.core.waiting
   pub kept : new.kept ≡ after_all old.core.subs.changes old.kept
   pub changes : new.core.subs.changes ≡ []
+  pub producers : new.core.producers ≡ filter (λ p. is_open p.state) old.core.producers
   pub due : (who : ℕ) → due_to who new.core.queues ≡ due_to who old.core.queues ++ pending_to who old.core.queues
   pub pending : (who : ℕ) → pending_to who new.core.queues ≡ []
 

@@ -9,6 +9,7 @@ use Rattle.managed_ledger.specs.Entries.{AreEntries}
 use Rattle.subscriptions.specs.Soundness.{IsCommitted, IsSound as AreSound}
 use Rattle.subscriptions.specs.Laws.{IsKept}
 use Rattle.reply_queues.specs.Replies.{SessionReplies, receipts_in}
+use Rattle.topic_core.specs.Steps.{is_handed_on}
 use Rattle.topic_core.specs.Core.{Core, Topic, entries_of, changes_of, receipts_due}
 
 -- how many receipts a flush handed on, and how many await the next one
@@ -36,6 +37,8 @@ pub record IsSound (t : Core) : Type 0 where
   pub sessions : IsDistinct nat_eq (map (λ q. q.session) t.queues)
   pub within : AllByRecursion (λ q. q.handed_on ≤ length q.pending) t.queues
   pub sure : t.doubt ≡ None → AllByRecursion (λ q. q.handed_on ≡ 0) t.queues
+  -- no closing was handed on where no flush is in doubt
+  pub closing : t.doubt ≡ None → AllByRecursion (λ p. is_handed_on p.state ≡ false) t.producers
   -- nothing of a failed topic awaits a flush
   pub told : t.failed ≡ true → AllByRecursion (λ q. q.pending ≡ []) t.queues
   -- the subscriptions are sound, and only committed positions were sent

@@ -16,6 +16,7 @@ use Rattle.commands.specs.declared.reply.Reply.TheVariants.{ProducerSuccess, Sen
 use Rattle.ids.specs.Ids.{message_id_at}
 use Rattle.ids.specs.declared.message_id.MessageIdData.{MessageIdData}
 use Rattle.holds.specs.declared.consumer.ConsumerKey.{ConsumerKey}
+use Rattle.subscriptions.specs.State.{Subscriptions}
 use Rattle.subscriptions.specs.Steps as subscriptions
 use Rattle.subscriptions.specs.declared.initial_position.InitialPosition.{InitialPosition as Start}
 use Rattle.subscriptions.specs.declared.initial_position.InitialPosition.TheVariants as start
@@ -24,12 +25,14 @@ use Rattle.subscriptions.specs.declared.consumer.Refusal.TheVariants as refusal
 use Rattle.subscriptions.specs.declared.consumer.TooManyPermits.{TooManyPermits}
 use Rattle.topic_core.specs.declared.producer.Producer.{Producer}
 use Rattle.topic_core.specs.declared.producer.ProducerState.{ProducerState}
-use Rattle.topic_core.specs.declared.producer.ProducerState.TheVariants.{Open, Closing}
+use Rattle.topic_core.specs.declared.producer.ProducerState.TheVariants.{Open, Closing, HandedOn}
 use Rattle.topic_core.specs.declared.command.Send.{Send}
 use Rattle.topic_core.specs.declared.command.SentEntry.{SentEntry}
 use Rattle.topic_core.specs.declared.command.SentEntry.TheVariants.{Checksummed, Plain}
 use Rattle.topic_core.specs.declared.command.Subscribe.{Subscribe}
 use Rattle.topic_core.specs.declared.command.Ack.{Ack}
+use Rattle.topic_core.specs.declared.command.CloseProducer.{CloseProducer}
+use Rattle.topic_core.specs.declared.command.Unsubscribe.{Unsubscribe}
 use Rattle.topic_core.specs.declared.command.TopicCommand.{TopicCommand}
 use Rattle.topic_core.specs.declared.command.TopicCommand.TheVariants as command
 use Rattle.topic_core.specs.declared.command.Answer.{Answer}
@@ -55,6 +58,13 @@ refused_or (Some error) refused old effect = record { answer = refused error; co
 abbrev pub is_open : ProducerState → Bool
 is_open Open = true
 is_open Closing = false
+is_open HandedOn = false
+
+-- a flush was handed the closing of the producer
+abbrev pub is_handed_on : ProducerState → Bool
+is_handed_on Open = false
+is_handed_on Closing = false
+is_handed_on HandedOn = true
 
 -- the session has this producer, open or closing
 abbrev pub is_producer : ℕ → ℕ → Producer → Bool
@@ -63,9 +73,12 @@ is_producer who id p = nat_eq p.session who && nat_eq p.id id
 abbrev pub has_producer : Core → ℕ → ℕ → Bool
 has_producer t who id = list_any (is_producer who id) t.producers
 
+abbrev pub is_open_producer : ℕ → ℕ → Producer → Bool
+is_open_producer who id p = is_producer who id p && is_open p.state
+
 -- the session has this producer, and it is open
 abbrev pub has_open_producer : Core → ℕ → ℕ → Bool
-has_open_producer t who id = list_any (λ p. is_producer who id p && is_open p.state) t.producers
+has_open_producer t who id = list_any (is_open_producer who id) t.producers
 
 -- a producer of any session, open or closing, has this name
 abbrev pub has_name : Core → List ℕ → Bool
@@ -88,6 +101,32 @@ producer_outcome t who id request name =
     (record {
       answer = Now (ProducerSuccess request name);
       core = with_producer t who id name;
+    })
+
+-- CLOSE_PRODUCER: what the topic refuses, in order
+abbrev pub close_refusals : Core → ℕ → CloseProducer → List (Bool × ServerError)
+close_refusals t who close =
+    (not (has_open_producer t who close.producer_id), NotAllowedError)
+    ∷ (t.failed, PersistenceError)
+    ∷ []
+
+-- the session's producer with this id is closing
+abbrev pub closed_at : ℕ → ℕ → Producer → Producer
+closed_at who id p = record p { state = cond (is_open_producer who id p) Closing p.state }
+
+-- the producer is closing at once, and the answer awaits a flush
+abbrev pub closing : Core → ℕ → CloseProducer → Core
+closing t who close = record t {
+  producers = map (λ p. closed_at who close.producer_id p) t.producers;
+  queues = queued who (Success close.request_id) t.queues;
+}
+
+abbrev pub close_outcome : Core → ℕ → CloseProducer → Outcome
+close_outcome t who close =
+    refused_or (first_standing (close_refusals t who close)) (λ error. Now (Error close.request_id error)) t
+    (record {
+      answer = Later;
+      core = closing t who close;
     })
 
 abbrev pub is_checksummed : SentEntry → Bool
@@ -186,6 +225,32 @@ subscribe_outcome t who subscribe =
       core = subscribed t who subscribe;
     })
 
+-- what the topic's subscriptions refuse
+abbrev pub removal_refusal : Core → ConsumerKey → Option ServerError
+removal_refusal t key = option_map error_of (subscriptions.first_standing (subscriptions.unsubscribe_refusals t.subs key))
+
+-- UNSUBSCRIBE: what the topic refuses, in order
+abbrev pub unsubscribe_refusal : Core → ℕ → Unsubscribe → Option ServerError
+unsubscribe_refusal t who unsubscribe =
+    cond (not (has_consumer t who unsubscribe.consumer_id)) (Some ConsumerNotFound)
+    (cond t.failed (Some PersistenceError)
+    (removal_refusal t (key_of who unsubscribe.consumer_id)))
+
+-- the consumer and its subscription go at once, and the answer awaits a flush
+abbrev pub unsubscribed : Core → ℕ → Unsubscribe → Core
+unsubscribed t who unsubscribe = record t {
+  subs = subscriptions.unsubscribed t.subs (key_of who unsubscribe.consumer_id);
+  queues = queued who (Success unsubscribe.request_id) t.queues;
+}
+
+abbrev pub unsubscribe_outcome : Core → ℕ → Unsubscribe → Outcome
+unsubscribe_outcome t who unsubscribe =
+    refused_or (unsubscribe_refusal t who unsubscribe) (λ error. Now (Error unsubscribe.request_id error)) t
+    (record {
+      answer = Later;
+      core = unsubscribed t who unsubscribe;
+    })
+
 -- the position of a message id, where each ledger has n entries
 abbrev pub position_at : ℕ → MessageIdData → ℕ
 position_at n id = id.ledger_id * n + id.entry_id
@@ -202,12 +267,16 @@ abbrev pub is_cumulative : AckType → Bool
 is_cumulative Individual = false
 is_cumulative Cumulative = true
 
--- ACK: what the topic refuses, in order
+-- a cumulative ACK has exactly one id
+abbrev pub is_ill_counted : Ack → Bool
+is_ill_counted ack = is_cumulative ack.ack_type && not (nat_eq (length ack.ids) 1)
+
+-- ACK: what the topic refuses, in order; a cumulative one has one id, and makes one change
 abbrev pub ack_refusals : Core → ℕ → Ack → List (Bool × ServerError)
 ack_refusals t who ack =
     (not (has_consumer t who ack.consumer_id), ConsumerNotFound)
     ∷ (t.failed, PersistenceError)
-    ∷ (is_cumulative ack.ack_type, NotAllowedError)
+    ∷ (is_ill_counted ack, NotAllowedError)
     ∷ (not (list_all (is_committed t.per_ledger t.committed) ack.ids), NotAllowedError)
     ∷ (nat_lt 65536 (length t.subs.changes + length ack.ids), TooManyRequests)
     ∷ []
@@ -217,13 +286,19 @@ abbrev pub ack_refused : ℕ → Option ℕ → ServerError → Answer
 ack_refused id None error = Nothing
 ack_refused id (Some request) error = Now (AckResponse id (Some error) request)
 
+-- what an ACK of these positions does to the subscriptions; a cumulative one is of all positions up to the one that it names
+abbrev pub acked : AckType → Subscriptions → ConsumerKey → List ℕ → Subscriptions
+acked Individual t key positions = subscriptions.acknowledged t key positions
+acked Cumulative t key [] = t
+acked Cumulative t key (position ∷ positions) = subscriptions.acknowledged_through t key position
+
 -- positions are acknowledged at once
-abbrev pub acknowledged_at : Core → ConsumerKey → List ℕ → Core
-acknowledged_at t key positions = record t { subs = subscriptions.acknowledged t.subs key positions }
+abbrev pub acknowledged_at : Core → AckType → ConsumerKey → List ℕ → Core
+acknowledged_at t ack_type key positions = record t { subs = acked ack_type t.subs key positions }
 
 -- those that the ids name
 abbrev pub acknowledged : Core → ℕ → Ack → Core
-acknowledged t who ack = acknowledged_at t (key_of who ack.consumer_id) (map (λ id. position_at t.per_ledger id) ack.ids)
+acknowledged t who ack = acknowledged_at t ack.ack_type (key_of who ack.consumer_id) (map (λ id. position_at t.per_ledger id) ack.ids)
 
 -- the answer awaits a flush, where the ACK asked for one
 abbrev pub ack_accepted : Core → ℕ → Ack → Option ℕ → Outcome
@@ -242,6 +317,8 @@ outcome_of t who (command.Producer id request name) = producer_outcome t who id 
 outcome_of t who (command.Send send) = send_outcome t who send
 outcome_of t who (command.Subscribe subscribe) = subscribe_outcome t who subscribe
 outcome_of t who (command.Ack ack) = ack_outcome t who ack
+outcome_of t who (command.CloseProducer close) = close_outcome t who close
+outcome_of t who (command.Unsubscribe unsubscribe) = unsubscribe_outcome t who unsubscribe
 
 -- an outcome is met, or memory was refused and nothing changed
 abbrev pub Meets : Outcome → Core → Answer → Core → Type 0
@@ -273,6 +350,12 @@ subscribe_errors = PersistenceError ∷ ConsumerBusy ∷ TooManyRequests ∷ []
 abbrev pub ack_errors : List ServerError
 ack_errors = ConsumerNotFound ∷ PersistenceError ∷ NotAllowedError ∷ TooManyRequests ∷ []
 
+abbrev pub close_errors : List ServerError
+close_errors = NotAllowedError ∷ PersistenceError ∷ []
+
+abbrev pub unsubscribe_errors : List ServerError
+unsubscribe_errors = ConsumerNotFound ∷ PersistenceError ∷ ConsumerBusy ∷ TooManyRequests ∷ []
+
 -- it is one of them
 abbrev pub IsAmong : ServerError → List ServerError → Type 0
 IsAmong error [] = ⊥
@@ -298,6 +381,14 @@ Fits (command.Ack ack) (Now (AckResponse c (Some e) r)) = (c ≡ ack.consumer_id
 Fits (command.Ack ack) (Now _) = ⊥
 Fits (command.Ack ack) Later = is_some ack.request_id ≡ true
 Fits (command.Ack ack) Nothing = ack.request_id ≡ None
+Fits (command.CloseProducer close) (Now (Error r e)) = (r ≡ close.request_id) × IsAmong e close_errors
+Fits (command.CloseProducer close) (Now _) = ⊥
+Fits (command.CloseProducer close) Later = Unit {0}
+Fits (command.CloseProducer close) Nothing = ⊥
+Fits (command.Unsubscribe unsubscribe) (Now (Error r e)) = (r ≡ unsubscribe.request_id) × IsAmong e unsubscribe_errors
+Fits (command.Unsubscribe unsubscribe) (Now _) = ⊥
+Fits (command.Unsubscribe unsubscribe) Later = Unit {0}
+Fits (command.Unsubscribe unsubscribe) Nothing = ⊥
 
 -- how many receipts a reply is
 abbrev pub receipts_of : Reply → ℕ

@@ -56,6 +56,20 @@ pub struct Ack {
     pub request_id: Option<u64>,
 }
 
+/// A CLOSE_PRODUCER ("PulsarApi.proto, CommandCloseProducer").
+#[derive(Drop)]
+pub struct CloseProducer {
+    pub producer_id: u64,
+    pub request_id: u64,
+}
+
+/// An UNSUBSCRIBE ("PulsarApi.proto, CommandUnsubscribe").
+#[derive(Drop)]
+pub struct Unsubscribe {
+    pub consumer_id: u64,
+    pub request_id: u64,
+}
+
 /// What a session asks of a topic.
 #[derive(Drop)]
 pub enum TopicCommand {
@@ -68,6 +82,8 @@ pub enum TopicCommand {
     Send(Send),
     Subscribe(Subscribe),
     Ack(Ack),
+    CloseProducer(CloseProducer),
+    Unsubscribe(Unsubscribe),
 }
 
 /// What a topic answers.

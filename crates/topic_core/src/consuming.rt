@@ -1,8 +1,9 @@
 ghost use Rattle.std.specs.Prelude.{◌≡◌, ◌+◌, ◌^◌, ◌<◌, ◌≤◌, All, IfOk, IfSome, OnOk, OnErr, None, Some, true, false, cond, length, map};
 ghost use Rattle.std.specs.List.{AllByRecursion, list_all};
+ghost use Rattle.commands.specs.declared.consuming.AckType.TheVariants.{Cumulative};
 ghost use Rattle.commands.specs.declared.reply.Reply.TheVariants.{AckResponse};
 ghost use Rattle.reply_queues.specs.Replies.{queued};
-ghost use Rattle.topic_core.specs.Steps.{Meets, GrantStep, first_standing, has_consumer, key_of, error_of, start_of, subscribe_refusal, attach_refusal, subscribe_outcome, subscribed, ack_refusals, ack_refused, acknowledged_at, ack_accepted, ack_outcome, is_committed, is_cumulative, is_whole, position_at};
+ghost use Rattle.topic_core.specs.Steps.{Meets, GrantStep, first_standing, has_consumer, key_of, error_of, start_of, subscribe_refusal, attach_refusal, subscribe_outcome, subscribed, ack_refusals, ack_refused, acked, acknowledged_at, ack_accepted, ack_outcome, is_committed, is_cumulative, is_whole, position_at};
 ghost use Rattle.topic_core.specs.Standing.{GoesOn};
 
 use crate::command::{Ack, Answer, Subscribe};
@@ -109,10 +110,10 @@ impl TopicCore {
         if self.is_failed() {
             return Some(ServerError::PersistenceError);
         }
-        if is_cumulative(ack.ack_type) {
+        let ids = ack.ids.as_slice();
+        if is_cumulative(ack.ack_type) && ids.len() != 1 {
             return Some(ServerError::NotAllowedError);
         }
-        let ids = ack.ids.as_slice();
         if !are_committed(ids, self.per_ledger, self.committed) {
             return Some(ServerError::NotAllowedError);
         }
@@ -133,28 +134,34 @@ impl TopicCore {
         let positions = positions_of(self.alloc, ids, self.per_ledger, self.committed)?;
         match ack.request_id {
             None => {
-                self.acknowledge_at(key, positions.as_slice())?;
+                self.acknowledge_at(ack.ack_type, key, positions.as_slice())?;
                 Ok(Answer::Nothing)
             }
             Some(request_id) => {
-                self.acknowledge_and_answer(key, positions.as_slice(), request_id)?;
+                self.acknowledge_and_answer(ack.ack_type, key, positions.as_slice(), request_id)?;
                 Ok(Answer::Later)
             }
         }
     }
 
-    fn acknowledge_at(&mut self, key: ConsumerKey, positions: &[u64]) -> Result<(), AllocError>
+    fn acknowledge_at(
+        &mut self,
+        ack_type: AckType,
+        key: ConsumerKey,
+        positions: &[u64],
+    ) -> Result<(), AllocError>
         requires fit { All (λ p. p < 2 ^ 62) positions.now }
         requires room { length self.old.subs.changes + length positions.now ≤ 65536 }
-        ensures ok { OnOk result (self.new ≡ acknowledged_at self.old key positions.now) }
+        ensures ok { OnOk result (self.new ≡ acknowledged_at self.old ack_type key positions.now) }
         ensures err { OnErr result (self.new ≡ self.old) }
     {
-        self.subs.acknowledge(key, positions)?;
+        acknowledge(&mut self.subs, ack_type, key, positions)?;
         Ok(())
     }
 
     fn acknowledge_and_answer(
         &mut self,
+        ack_type: AckType,
         key: ConsumerKey,
         positions: &[u64],
         request_id: u64,
@@ -162,7 +169,7 @@ impl TopicCore {
         requires works { self.old.failed ≡ false }
         requires fit { All (λ p. p < 2 ^ 62) positions.now }
         requires room { length self.old.subs.changes + length positions.now ≤ 65536 }
-        ensures ok { OnOk result (self.new ≡ record (acknowledged_at self.old key positions.now) { queues = queued key.session (AckResponse key.id None request_id) self.old.queues }) }
+        ensures ok { OnOk result (self.new ≡ record (acknowledged_at self.old ack_type key positions.now) { queues = queued key.session (AckResponse key.id None request_id) self.old.queues }) }
         ensures err { OnErr result (self.new ≡ self.old) }
     {
         let reply = Reply::AckResponse {
@@ -173,7 +180,7 @@ impl TopicCore {
         let who = key.session;
         let had_queue = has_queue(who, self.queues.as_slice());
         push_reply(self.alloc, who, reply, &mut self.queues)?;
-        if let Err(error) = self.subs.acknowledge(key, positions) {
+        if let Err(error) = acknowledge(&mut self.subs, ack_type, key, positions) {
             drop_last_reply(who, had_queue, &mut self.queues);
             return Err(error);
         }
@@ -181,7 +188,41 @@ impl TopicCore {
     }
 }
 
-fn error_of(refusal: Refusal) -> ServerError
+/// Acknowledges positions, or all up to the first one.
+fn acknowledge(
+    subs: &mut Subscriptions,
+    ack_type: AckType,
+    key: ConsumerKey,
+    positions: &[u64],
+) -> Result<(), AllocError>
+    requires fit { All (λ p. p < 2 ^ 62) positions.now }
+    requires room { length subs.old.changes + length positions.now ≤ 65536 }
+    ensures ok { OnOk result (subs.new ≡ acked ack_type subs.old key positions.now) }
+    ensures err { OnErr result (subs.new ≡ subs.old) }
+{
+    match ack_type {
+        AckType::Individual => subs.acknowledge(key, positions),
+        AckType::Cumulative => acknowledge_through(subs, key, positions),
+    }
+}
+
+fn acknowledge_through(
+    subs: &mut Subscriptions,
+    key: ConsumerKey,
+    positions: &[u64],
+) -> Result<(), AllocError>
+    requires fit { All (λ p. p < 2 ^ 62) positions.now }
+    requires room { length subs.old.changes + length positions.now ≤ 65536 }
+    ensures ok { OnOk result (subs.new ≡ acked Cumulative subs.old key positions.now) }
+    ensures err { OnErr result (subs.new ≡ subs.old) }
+{
+    match positions.first() {
+        Some(position) => subs.acknowledge_through(key, *position),
+        None => Ok(()),
+    }
+}
+
+pub(crate) fn error_of(refusal: Refusal) -> ServerError
     ensures { result ≡ error_of refusal }
 {
     match refusal {

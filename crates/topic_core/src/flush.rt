@@ -8,6 +8,7 @@ ghost use Rattle.topic_core.specs.Standing.{Match, AreSettled, Standing, StandsF
 ghost use Rattle.topic_core.specs.Writing.{IsWritten, IsUnwritten, IsInDoubt, WriteEnds};
 
 use crate::appending::{append_changes, append_entries, prepare_changes, prepare_entries};
+use crate::closing::{are_open, drop_closed, hand_on_closings, take_closings_back};
 use crate::stores::{Stores, TopicStores};
 use crate::topic::{Doubt, TopicCore};
 use bytes::Bytes;
@@ -65,6 +66,7 @@ impl TopicCore {
             return false;
         }
         hand_on_all(&mut self.queues);
+        hand_on_closings(&mut self.producers);
         self.doubt = Some(Doubt {
             entries: self.waiting.len(),
             changes: self.subs.changes().len(),
@@ -79,6 +81,7 @@ impl TopicCore {
         self.waiting.is_empty()
             && self.subs.changes().is_empty()
             && are_idle(self.queues.as_slice())
+            && are_open(self.producers.as_slice())
     }
 
     /// Adds what was handed on to the stores, the entries before the changes. All memory is taken before the first device call.
@@ -148,7 +151,7 @@ impl TopicCore {
         }
     }
 
-    /// What was handed on is committed, and its replies are due.
+    /// What was handed on is committed, its replies are due, and the producers whose closing it was are gone.
     fn commit(&mut self) -> usize
         ensures count { result ≡ entries_of self.old.doubt }
         ensures committed { self.new ≡ finished self.old }
@@ -161,6 +164,7 @@ impl TopicCore {
         self.committed += count as u64;
         self.subs.settle(changes);
         make_all_due(&mut self.queues);
+        drop_closed(&mut self.producers);
         self.doubt = None;
         count
     }
@@ -170,6 +174,7 @@ impl TopicCore {
         ensures { self.new ≡ taken_back self.old }
     {
         take_all_back(&mut self.queues);
+        take_closings_back(&mut self.producers);
         self.doubt = None;
     }
 

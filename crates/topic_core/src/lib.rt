@@ -1,12 +1,14 @@
 //! One topic: its producers, the entries that wait for a flush, its subscriptions, and the replies that it owes to its sessions.
 //! Each call moves an abstract topic by one step that is stated whole: which refusal is answered, which effect is had, and that want of memory changes nothing.
 //! A receipt is due only after the flush that committed its entry, and receipts never outnumber the committed entries.
-//! A message is the committed entry of a position that its consumer was admitted to, and the answer to a SUBSCRIBE or an
-//! ACK is due only after the flush that made its changes durable. A crash at any moment of a flush leaves all its entries and
+//! A message is the committed entry of a position that its consumer was admitted to, and the answer to a SUBSCRIBE, an
+//! UNSUBSCRIBE or an ACK is due only after the flush that made its changes durable, and a closed producer's id and name are
+//! taken until the flush that answers it. A crash at any moment of a flush leaves all its entries and
 //! changes, its entries, or nothing of it; a failure of the device fails the topic until it is opened again.
 #![tactic(auto)]
 
 mod appending;
+mod closing;
 mod command;
 mod consuming;
 mod dispatch;
@@ -16,8 +18,11 @@ mod opening;
 mod producer;
 mod stores;
 mod topic;
+mod unsubscribing;
 
-pub use command::{Ack, Answer, PlainEntry, Send, SentEntry, Subscribe, TopicCommand};
+pub use command::{
+    Ack, Answer, CloseProducer, PlainEntry, Send, SentEntry, Subscribe, TopicCommand, Unsubscribe,
+};
 pub use dispatch::Outgoing;
 pub use laws::{
     answers_are_no_receipts, answers_fit, cores_go_on, entries_are_published, flushes_commit,

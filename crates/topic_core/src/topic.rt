@@ -3,9 +3,10 @@ ghost use Rattle.std.specs.List.{list_any};
 ghost use Rattle.std.specs.Str.{bytes_eq};
 ghost use Rattle.std.specs.Result.{is_ok};
 ghost use Rattle.commands.specs.Metadata.{entry_of};
+ghost use Rattle.subscriptions.specs.Statuses.{AreStatuses};
 ghost use Rattle.topic_core.specs.Core.{Core, next_position};
 ghost use Rattle.reply_queues.specs.Replies.{is_receipt};
-ghost use Rattle.topic_core.specs.Steps.{Meets, CoreStep, Collects, Fits, first_standing, producer_refusals, send_refusals, limit_refusals, producer_outcome, send_outcome, has_producer, has_open_producer, has_name, is_producer, is_open, is_single_message, accepted, receipt, key_of, left};
+ghost use Rattle.topic_core.specs.Steps.{Meets, CoreStep, Collects, Fits, first_standing, producer_refusals, send_refusals, limit_refusals, producer_outcome, send_outcome, has_producer, has_open_producer, has_name, is_producer, is_open_producer, is_open, is_single_message, accepted, receipt, key_of, left};
 ghost use Rattle.topic_core.specs.Standing.{GoesOn};
 
 use crate::command::{Answer, PlainEntry, Send, SentEntry, TopicCommand};
@@ -17,7 +18,7 @@ use ids::to_id;
 use reply_queues::{ReplyQueue, forget_replies, push_reply, take_reply};
 use std::alloc::{AllocError, Global};
 use std::marker::Model;
-use subscriptions::Subscriptions;
+use subscriptions::{SubscriptionStatus, Subscriptions};
 
 /// The most entries that a topic has, committed and waiting, and the most SENDs that it accepts. Our own rule.
 const MOST_ENTRIES: u64 = 1 << 62;
@@ -89,6 +90,13 @@ impl TopicCore {
         self.committed
     }
 
+    /// What is told of each subscription, in the order of the names' bytes, also of a failed topic.
+    pub fn statuses(&self) -> Result<Vec<SubscriptionStatus>, AllocError>
+        ensures { IfOk result (λ statuses. AreStatuses self.now.subs.subs statuses.items) }
+    {
+        self.subs.statuses()
+    }
+
     /// Whether the session has this producer, open or closing.
     pub fn has_producer(&self, who: u64, id: u64) -> bool
         ensures { result ≡ has_producer self.now who id }
@@ -98,7 +106,7 @@ impl TopicCore {
             .any(|p| p.session == who && p.id == id)
     }
 
-    fn has_open_producer(&self, who: u64, id: u64) -> bool
+    pub(crate) fn has_open_producer(&self, who: u64, id: u64) -> bool
         ensures { result ≡ has_open_producer self.now who id }
     {
         has_open(self.producers.as_slice(), who, id)
@@ -258,6 +266,8 @@ impl TopicCore {
             TopicCommand::Send(send) => self.send(who, send),
             TopicCommand::Subscribe(subscribe) => self.subscribe(who, &subscribe),
             TopicCommand::Ack(ack) => self.acknowledge(who, &ack),
+            TopicCommand::CloseProducer(close) => self.close_producer(who, &close),
+            TopicCommand::Unsubscribe(unsubscribe) => self.unsubscribe(who, &unsubscribe),
         };
         answer.unwrap_or(Answer::NoMemory)
     }
@@ -294,7 +304,7 @@ pub(crate) fn key_of(session: u64, id: u64) -> ConsumerKey
 
 /// Whether a session has this producer, and it is open.
 fn has_open(producers: &[Producer], who: u64, id: u64) -> bool
-    ensures { result ≡ list_any (λ p. is_producer who id p && is_open p.state) producers.now }
+    ensures { result ≡ list_any (is_open_producer who id) producers.now }
 {
     producers.iter().any(|p| p.session == who && p.id == id && p.state == ProducerState::Open)
 }

@@ -3,7 +3,7 @@
 use super::{command_of, fault_of};
 use commands::{
     Ack, AckType, Command, CommandFault, Flow, InitialPosition, IntRange, KeySharedMeta,
-    KeySharedMode, MessageIdData, Subscribe, SubscriptionType,
+    KeySharedMode, MessageIdData, Subscribe, SubscriptionType, Unsubscribe,
 };
 use std::alloc::Global;
 use std::test::Fail;
@@ -16,6 +16,8 @@ fn subscribe(alloc: Global, text: &str) -> Result<Option<Subscribe>, CommandFaul
         | Command::Send(_)
         | Command::Ack(_)
         | Command::Flow(_)
+        | Command::Unsubscribe(_)
+        | Command::CloseProducer(_)
         | Command::Ping
         | Command::Pong
         | Command::Other(_) => { Ok(None) }
@@ -30,6 +32,8 @@ fn ack(alloc: Global, text: &str) -> Result<Option<Ack>, CommandFault> {
         | Command::Producer(_)
         | Command::Send(_)
         | Command::Flow(_)
+        | Command::Unsubscribe(_)
+        | Command::CloseProducer(_)
         | Command::Ping
         | Command::Pong
         | Command::Other(_) => { Ok(None) }
@@ -44,6 +48,24 @@ fn flow(alloc: Global, text: &str) -> Result<Option<Flow>, CommandFault> {
         | Command::Producer(_)
         | Command::Send(_)
         | Command::Ack(_)
+        | Command::Unsubscribe(_)
+        | Command::CloseProducer(_)
+        | Command::Ping
+        | Command::Pong
+        | Command::Other(_) => { Ok(None) }
+    }
+}
+
+fn unsubscribe(alloc: Global, text: &str) -> Result<Option<Unsubscribe>, CommandFault> {
+    match command_of(alloc, text)? {
+        Command::Unsubscribe(asked) => Ok(Some(asked)),
+        Command::Connect(_)
+        | Command::Subscribe(_)
+        | Command::Producer(_)
+        | Command::Send(_)
+        | Command::Ack(_)
+        | Command::Flow(_)
+        | Command::CloseProducer(_)
         | Command::Ping
         | Command::Pong
         | Command::Other(_) => { Ok(None) }
@@ -204,10 +226,33 @@ fn flows(rt: HostRuntime) -> Result<(), Fail> {
 }
 
 #[test]
+fn unsubscribes(rt: HostRuntime) -> Result<(), Fail> {
+    let rows = [
+        ("08 0c 62 04 08 02 10 08", 2, 8),
+        ("08 0c 62 04 10 08 08 02", 2, 8),
+        (
+            "08 0c 62 0d 08 ff ff ff ff ff ff ff ff ff 01 10 00",
+            u64::MAX,
+            0,
+        ),
+    ];
+    for (text, consumer_id, request_id) in rows {
+        let asked = Unsubscribe {
+            consumer_id,
+            request_id,
+        };
+        assert_eq!(rt; unsubscribe(rt.alloc(), text)?, Some(asked), "{text}");
+    }
+    Ok(())
+}
+
+#[test]
 fn unreadable(rt: HostRuntime) -> Result<(), Fail> {
     let rows = [
         ("08 0b 5a 08 08 02 10 80 80 80 80 10", "permits of 33 bits"),
         ("08 0b 5a 02 08 02", "no permits"),
+        ("08 0c 62 02 08 02", "no request to unsubscribe"),
+        ("08 0c 62 02 10 08", "no consumer to unsubscribe"),
         ("08 0a 52 04 08 02 10 02", "an acknowledgement type of 2"),
         ("08 0a 52 02 08 02", "no acknowledgement type"),
         (

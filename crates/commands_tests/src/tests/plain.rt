@@ -217,6 +217,8 @@ fn read_by_the_crate(alloc: Global, bytes: &[u8]) -> Result<Said, CommandFault> 
         Ok(Command::Producer(_)) => Ok(Said::Other(5)),
         Ok(Command::Ack(_)) => Ok(Said::Other(10)),
         Ok(Command::Flow(_)) => Ok(Said::Other(11)),
+        Ok(Command::Unsubscribe(_)) => Ok(Said::Other(12)),
+        Ok(Command::CloseProducer(_)) => Ok(Said::Other(15)),
         Ok(Command::Pong) => Ok(Said::Other(19)),
         Ok(Command::Other(kind)) => Ok(Said::Other(kind)),
         Err(CommandFault::Unreadable) => Ok(Said::Unreadable),

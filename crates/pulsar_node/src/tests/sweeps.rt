@@ -40,6 +40,22 @@ flush 0
 pump 0
 ";
 
+/// Two subscriptions and two messages; then all up to the second one is acknowledged on the first, the other is removed, and the
+/// producer closes.
+const CHANGES: &str = "\
+bytes 0 00000027000000230804221f0a1270657273697374656e743a2f2f612f622f631201731800200228086801
+bytes 0 00000027000000230804221f0a1270657273697374656e743a2f2f612f622f631201741800200328096801
+bytes 0 0000001a0000000808063204080110000000000a0a017010001801c03e05
+bytes 0 0000001a0000000808063204080110010000000a0a017010001801c03e05
+flush 0
+pump 0
+bytes 0 0000001400000010080a520c080210011a04080010014009
+bytes 0 0000000c00000008080c62040803100a
+bytes 0 0000000c00000008080f7a040801100b
+flush 0
+pump 0
+";
+
 /// What a script prints: session 0 with its producer, a failure that is ordered, these lines, a crash, and further lines.
 fn printed(
     alloc: Global,
@@ -152,4 +168,74 @@ fn keeps_what_was_acknowledged_where_ones_are_left(rt: HostRuntime) -> Result<()
 #[test]
 fn keeps_what_was_acknowledged_behind_a_single_failure(rt: HostRuntime) -> Result<(), Fail> {
     keeps_what_was_acknowledged(rt.alloc(), "fail", "old")
+}
+
+/// What the changes of two flushes left: nothing, the two subscriptions, or what the acknowledgement and the removal made of them.
+#[derive(Clone, Copy, PartialEq, Eq)]
+enum Subscriptions {
+    Nothing,
+    Subscribed,
+    Changed,
+}
+
+/// What the status lines tell, unless it is none of these.
+fn found(printed: &[u8]) -> Option<Subscriptions> {
+    let first = count(printed, b"S    0          0      0 s\n");
+    let acknowledged = count(printed, b"S    0          2      0 s\n");
+    let other = count(printed, b"S    0          0      0 t\n");
+    match (first, acknowledged, other) {
+        (0, 0, 0) => Some(Subscriptions::Nothing),
+        (1, 0, 1) => Some(Subscriptions::Subscribed),
+        (0, 1, 0) => Some(Subscriptions::Changed),
+        _ => None,
+    }
+}
+
+/// Answered changes are found, and those of one flush all or none, wherever the device stops or fails.
+fn finds_what_was_changed(alloc: Global, failure: &str, form: &str) -> Result<(), Fail> {
+    for call in 1..13u64 {
+        let printed = printed(alloc, failure, call, CHANGES, form, "status\n")?;
+        let subscribed = count(printed.as_slice(), b"0000000a00000006080d6a020808");
+        let acknowledged = count(printed.as_slice(), b"0000000d000000090826b2");
+        let removed = count(printed.as_slice(), b"0000000a00000006080d6a02080a");
+        if acknowledged != removed {
+            return Err(Fail::new("one of two answers of a flush"));
+        }
+        match found(printed.as_slice()) {
+            None => return Err(Fail::new("a part of a flush's changes")),
+            Some(Subscriptions::Nothing) if subscribed != 0 => {
+                return Err(Fail::new("an answered subscription is lost"));
+            }
+            Some(Subscriptions::Nothing | Subscriptions::Subscribed) if removed != 0 => {
+                return Err(Fail::new("an answered change is lost"));
+            }
+            Some(_) => {}
+        }
+    }
+    Ok(())
+}
+
+#[test]
+fn finds_what_was_changed_where_old_bytes_are_left(rt: HostRuntime) -> Result<(), Fail> {
+    finds_what_was_changed(rt.alloc(), "stop", "old")
+}
+
+#[test]
+fn finds_what_was_changed_where_new_bytes_are_left(rt: HostRuntime) -> Result<(), Fail> {
+    finds_what_was_changed(rt.alloc(), "stop", "new")
+}
+
+#[test]
+fn finds_what_was_changed_where_ones_are_left(rt: HostRuntime) -> Result<(), Fail> {
+    finds_what_was_changed(rt.alloc(), "stop", "fill 01")
+}
+
+#[test]
+fn finds_what_was_changed_where_sevens_are_left(rt: HostRuntime) -> Result<(), Fail> {
+    finds_what_was_changed(rt.alloc(), "stop", "fill 07")
+}
+
+#[test]
+fn finds_what_was_changed_behind_a_single_failure(rt: HostRuntime) -> Result<(), Fail> {
+    finds_what_was_changed(rt.alloc(), "fail", "old")
 }

@@ -1,7 +1,7 @@
 ghost use Rattle.std.specs.Prelude.{◌≡◌, ◌≤◌, [], cond, length};
 ghost use Rattle.session.specs.Broker.{IsMessageFor, SendsTo};
 ghost use Rattle.topic_core.specs.Steps.{Fits};
-ghost use Rattle.topic_core.specs.declared.command.TopicCommand.TheVariants.{Send as SendCommand, Ack as AckCommand};
+ghost use Rattle.topic_core.specs.declared.command.TopicCommand.TheVariants.{Send as SendCommand, Ack as AckCommand, CloseProducer as CloseCommand, Unsubscribe as UnsubscribeCommand};
 
 use bytes::Bytes;
 use commands::{Reply, ServerError};
@@ -10,7 +10,10 @@ use gated_log::Refusal;
 use ids::MessageId;
 use session::{Found, Port};
 use std::alloc::{AllocError, Global};
-use topic_core::{Ack, Answer, Outgoing, Send, SentEntry, Subscribe, TooManyPermits, TopicCommand};
+use topic_core::{
+    Ack, Answer, CloseProducer, Outgoing, Send, SentEntry, Subscribe, TooManyPermits, TopicCommand,
+    Unsubscribe,
+};
 
 /// The entry of SEND: the size of its metadata, the metadata (producer `p`, sequence id 0, time 8000) and the payload 5.
 pub const ENTRY: &[u8] = b"\0\0\0\x0a\x0a\x01p\x10\0\x18\x01\xc0>\x05";
@@ -49,6 +52,10 @@ pub struct Board {
     pub grants_nothing: bool,
     pub producers: Vec<u64>,
     pub consumers: Vec<u64>,
+    /// The producers that the next flush closes.
+    pub closing: Vec<u64>,
+    /// The consumers that unsubscribed.
+    pub unsubscribed: Vec<u64>,
     /// What SENDs brought.
     pub sent: Vec<SentEntry>,
     pub subscribed: Vec<Subscribe>,
@@ -74,6 +81,8 @@ impl Board {
             grants_nothing: false,
             producers: Vec::new(alloc),
             consumers: Vec::new(alloc),
+            closing: Vec::new(alloc),
+            unsubscribed: Vec::new(alloc),
             sent: Vec::new(alloc),
             subscribed: Vec::new(alloc),
             acked: Vec::new(alloc),
@@ -85,8 +94,15 @@ impl Board {
         }
     }
 
-    /// Makes due what waits.
+    /// Makes due what waits, and closes the closing producers.
     pub fn flush(&mut self) -> Result<(), AllocError> {
+        let Board {
+            producers,
+            closing,
+            ..
+        } = self;
+        producers.retain(|id| !closing.contains(id));
+        closing.clear();
         self.due.append(&mut self.waiting)
     }
 
@@ -154,6 +170,59 @@ impl Board {
         };
         match self.keep_acked(asked) {
             Ok(()) => answer,
+            Err(_) => Answer::NoMemory,
+        }
+    }
+
+    fn keep_closing(&mut self, asked: &CloseProducer) -> Result<(), AllocError>
+        ensures stays { self.new.has_topic ≡ self.old.has_topic }
+    {
+        self.closing.push(asked.producer_id)?;
+        self.waiting.push(Reply::Success {
+            request_id: asked.request_id,
+        })?;
+        Ok(())
+    }
+
+    fn close(&mut self, asked: CloseProducer) -> Answer
+        ensures fits { Fits (CloseCommand asked) result }
+        ensures stays { self.new.has_topic ≡ self.old.has_topic }
+    {
+        if !self.producers.contains(&asked.producer_id) {
+            return Answer::Now(Reply::Error {
+                request_id: asked.request_id,
+                error: ServerError::NotAllowedError,
+            });
+        }
+        match self.keep_closing(&asked) {
+            Ok(()) => Answer::Later,
+            Err(_) => Answer::NoMemory,
+        }
+    }
+
+    fn keep_unsubscribed(&mut self, asked: &Unsubscribe) -> Result<(), AllocError>
+        ensures stays { self.new.has_topic ≡ self.old.has_topic }
+    {
+        self.unsubscribed.push(asked.consumer_id)?;
+        self.consumers.retain(|id| *id != asked.consumer_id);
+        self.waiting.push(Reply::Success {
+            request_id: asked.request_id,
+        })?;
+        Ok(())
+    }
+
+    fn unsubscribe(&mut self, asked: Unsubscribe) -> Answer
+        ensures fits { Fits (UnsubscribeCommand asked) result }
+        ensures stays { self.new.has_topic ≡ self.old.has_topic }
+    {
+        if !self.consumers.contains(&asked.consumer_id) {
+            return Answer::Now(Reply::Error {
+                request_id: asked.request_id,
+                error: ServerError::ConsumerNotFound,
+            });
+        }
+        match self.keep_unsubscribed(&asked) {
+            Ok(()) => Answer::Later,
             Err(_) => Answer::NoMemory,
         }
     }
@@ -238,6 +307,8 @@ impl Port for Board {
                 Err(_) => Answer::NoMemory,
             },
             TopicCommand::Ack(asked) => self.ack(asked),
+            TopicCommand::CloseProducer(asked) => self.close(asked),
+            TopicCommand::Unsubscribe(asked) => self.unsubscribe(asked),
         }
     }
 
@@ -283,6 +354,7 @@ impl Port for Board {
     fn leave(&mut self, _topic: u64, _who: u64) {
         self.producers.clear();
         self.consumers.clear();
+        self.closing.clear();
         self.waiting.clear();
         self.due.clear();
     }

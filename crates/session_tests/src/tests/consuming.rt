@@ -1,9 +1,9 @@
 use super::board::Dispatch;
 use super::{
-    ACK, ACK_RESPONSE, CONSUMER_NOT_ALLOWED, CONSUMER_NOT_FOUND, FLOW, MESSAGE, PING, RECEIPT,
-    SEND, SILENT_ACK, SUBSCRIBE, SUCCESS, Stage,
+    ACK, ACK_RESPONSE, CONSUMER_NOT_FOUND, FLOW, MESSAGE, NOT_ALLOWED_OF_8, PING, RECEIPT, SEND,
+    SILENT_ACK, SUBSCRIBE, SUCCESS, Stage, UNSUBSCRIBE,
 };
-use commands::InitialPosition;
+use commands::{AckType, InitialPosition};
 use session::{Fault, More};
 use std::alloc::{AllocError, Global};
 use std::process::Abort;
@@ -36,6 +36,12 @@ const TOO_MANY_CONSUMERS: [u8; 33] = [
 const CONSUMER_ON_INVALID_TOPIC: [u8; 34] = [
     0, 0, 0, 0x1e, 0, 0, 0, 0x1a, 8, 0x0e, 0x72, 0x16, 8, 8, 0x10, 0x11, 0x1a, 0x10, 0x49, 0x6e,
     0x76, 0x61, 0x6c, 0x69, 0x64, 0x54, 0x6f, 0x70, 0x69, 0x63, 0x4e, 0x61, 0x6d, 0x65,
+];
+
+/// ERROR of request 8 with ConsumerNotFound.
+const NO_CONSUMER_TO_UNSUBSCRIBE: [u8; 34] = [
+    0, 0, 0, 0x1e, 0, 0, 0, 0x1a, 8, 0x0e, 0x72, 0x16, 8, 8, 0x10, 0x0d, 0x1a, 0x10, 0x43, 0x6f,
+    0x6e, 0x73, 0x75, 0x6d, 0x65, 0x72, 0x4e, 0x6f, 0x74, 0x46, 0x6f, 0x75, 0x6e, 0x64,
 ];
 
 #[test]
@@ -102,6 +108,61 @@ fn a_consumer_whose_topic_is_gone_is_refused(rt: HostRuntime) -> Result<(), Fail
 }
 
 #[test]
+fn a_cumulative_ack_is_handed_on(rt: HostRuntime) -> Result<(), Fail> {
+    let mut stage = Stage::connected(rt.alloc())?;
+    stage.feed(&SUBSCRIBE)?;
+    let mut frame = SILENT_ACK;
+    frame[15] = 1;
+    stage.feed(&frame)?;
+    let [asked] = stage.board.acked.as_slice() else {
+        return Err("there is not one ACK".into());
+    };
+    assert_eq!(rt; asked.ack_type, AckType::Cumulative);
+    assert!(rt; stage.out.is_empty());
+    Ok(())
+}
+
+#[test]
+fn a_consumer_unsubscribes(rt: HostRuntime) -> Result<(), Fail> {
+    let mut stage = Stage::connected(rt.alloc())?;
+    stage.feed(&SUBSCRIBE)?;
+    assert_eq!(rt; stage.flush_and_pump()?, More::No);
+    stage.out.clear();
+    stage.feed(&UNSUBSCRIBE)?;
+    assert!(rt; stage.out.is_empty());
+    assert_eq!(rt; stage.board.unsubscribed.as_slice(), [2].as_slice());
+    stage.feed(&UNSUBSCRIBE)?;
+    assert_eq!(rt; stage.out.as_slice(), NO_CONSUMER_TO_UNSUBSCRIBE.as_slice());
+    assert_eq!(rt; stage.flush_and_pump()?, More::No);
+    assert_eq!(rt; stage.out.as_slice(), SUCCESS.as_slice());
+    stage.out.clear();
+    stage.feed(&SUBSCRIBE)?;
+    assert!(rt; stage.out.is_empty());
+    assert_eq!(rt; stage.board.subscribed.len(), 2);
+    Ok(())
+}
+
+#[test]
+fn an_unknown_consumer_unsubscribes_from_nothing(rt: HostRuntime) -> Result<(), Fail> {
+    let mut unknown = Stage::connected(rt.alloc())?;
+    unknown.feed(&UNSUBSCRIBE)?;
+    assert_eq!(rt;
+        unknown.out.as_slice(),
+        NO_CONSUMER_TO_UNSUBSCRIBE.as_slice()
+    );
+    let mut without_topic = Stage::connected(rt.alloc())?;
+    without_topic.feed(&SUBSCRIBE)?;
+    without_topic.board.has_topic = false;
+    without_topic.feed(&UNSUBSCRIBE)?;
+    assert_eq!(rt;
+        without_topic.out.as_slice(),
+        NO_CONSUMER_TO_UNSUBSCRIBE.as_slice()
+    );
+    assert!(rt; without_topic.board.unsubscribed.is_empty());
+    Ok(())
+}
+
+#[test]
 fn too_many_permits_end_the_session(rt: HostRuntime) -> Result<(), Fail> {
     let mut stage = Stage::connected(rt.alloc())?;
     stage.feed(&SUBSCRIBE)?;
@@ -118,7 +179,7 @@ fn a_consumer_id_in_use_is_refused(rt: HostRuntime) -> Result<(), Fail> {
     let mut stage = Stage::connected(rt.alloc())?;
     stage.feed(&SUBSCRIBE)?;
     stage.feed(&SUBSCRIBE)?;
-    assert_eq!(rt; stage.out.as_slice(), CONSUMER_NOT_ALLOWED.as_slice());
+    assert_eq!(rt; stage.out.as_slice(), NOT_ALLOWED_OF_8.as_slice());
     assert_eq!(rt; stage.board.consumers.len(), 1);
     Ok(())
 }
@@ -153,7 +214,7 @@ fn a_sixty_fifth_consumer_is_refused(rt: HostRuntime) -> Result<(), Fail> {
 fn is_refused(rt: &impl Abort, alloc: Global, frame: &[u8]) -> Result<(), Fail> {
     let mut stage = Stage::connected(alloc)?;
     stage.feed(frame)?;
-    assert_eq!(rt; stage.out.as_slice(), CONSUMER_NOT_ALLOWED.as_slice());
+    assert_eq!(rt; stage.out.as_slice(), NOT_ALLOWED_OF_8.as_slice());
     assert!(rt; stage.board.subscribed.is_empty());
     assert!(rt; !stage.board.has_topic);
     Ok(())

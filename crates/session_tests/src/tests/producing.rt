@@ -1,7 +1,7 @@
 use super::board::ENTRY;
 use super::{
-    INVALID_TOPIC_NAME, NOT_ALLOWED, PRODUCER, PRODUCER_SUCCESS, RECEIPT, SEND, SEND_NOT_ALLOWED,
-    Stage, TOO_MANY_REQUESTS,
+    CLOSE_PRODUCER, INVALID_TOPIC_NAME, NOT_ALLOWED, NOT_ALLOWED_OF_8, PRODUCER, PRODUCER_SUCCESS,
+    RECEIPT, SEND, SEND_NOT_ALLOWED, SUCCESS, Stage, TOO_MANY_REQUESTS,
 };
 use session::{Fault, More};
 use std::alloc::{AllocError, Global};
@@ -113,6 +113,37 @@ fn a_freed_id_is_free(rt: HostRuntime) -> Result<(), Fail> {
     stage.out.clear();
     stage.feed(&PRODUCER)?;
     assert_eq!(rt; stage.out.as_slice(), PRODUCER_SUCCESS.as_slice());
+    Ok(())
+}
+
+#[test]
+fn a_closed_id_is_in_use_until_the_flush(rt: HostRuntime) -> Result<(), Fail> {
+    let mut stage = Stage::producing(rt.alloc())?;
+    stage.feed(&CLOSE_PRODUCER)?;
+    assert!(rt; stage.out.is_empty());
+    stage.feed(&PRODUCER)?;
+    assert_eq!(rt; stage.out.as_slice(), NOT_ALLOWED.as_slice());
+    assert_eq!(rt; stage.flush_and_pump()?, More::No);
+    assert_eq!(rt; stage.out.as_slice(), SUCCESS.as_slice());
+    stage.out.clear();
+    stage.feed(&CLOSE_PRODUCER)?;
+    assert_eq!(rt; stage.out.as_slice(), NOT_ALLOWED_OF_8.as_slice());
+    stage.out.clear();
+    stage.feed(&PRODUCER)?;
+    assert_eq!(rt; stage.out.as_slice(), PRODUCER_SUCCESS.as_slice());
+    Ok(())
+}
+
+#[test]
+fn an_unknown_producer_is_not_closed(rt: HostRuntime) -> Result<(), Fail> {
+    let mut unknown = Stage::connected(rt.alloc())?;
+    unknown.feed(&CLOSE_PRODUCER)?;
+    assert_eq!(rt; unknown.out.as_slice(), NOT_ALLOWED_OF_8.as_slice());
+    let mut without_topic = Stage::producing(rt.alloc())?;
+    without_topic.board.has_topic = false;
+    without_topic.feed(&CLOSE_PRODUCER)?;
+    assert_eq!(rt; without_topic.out.as_slice(), NOT_ALLOWED_OF_8.as_slice());
+    assert!(rt; without_topic.board.closing.is_empty());
     Ok(())
 }
 

@@ -16,7 +16,9 @@ use records::is_subscription_name;
 use std::alloc::{AllocError, Global};
 use std::test::Fail;
 use subscriptions::Mode;
-use topic_core::{Ack, Answer, PlainEntry, Send, SentEntry, Subscribe, TopicCommand};
+use topic_core::{
+    Ack, Answer, CloseProducer, PlainEntry, Send, SentEntry, Subscribe, TopicCommand, Unsubscribe,
+};
 
 // Metadata of ten bytes, behind their size: the producer "p", the sequence id 0, the time 1 and a field that isn't known.
 pub(super) const PLAIN: &[u8] = b"\0\0\0\x0a\x0a\x01p\x10\0\x18\x01\xc0>\x05";
@@ -274,6 +276,52 @@ pub(super) fn acknowledge(
 {
     let ids = vec![in alloc; entry; 1]?;
     acknowledge_all(topic, who, id, AckType::Individual, ids, request_id)
+}
+
+/// Acknowledges all entries up to one.
+pub(super) fn acknowledge_through(
+    alloc: Global,
+    topic: &mut Topic,
+    who: u64,
+    id: u64,
+    entry: MessageIdData,
+    request_id: Option<u64>,
+) -> Result<Told, AllocError>
+    requires { AreMatched topic.old.core topic.old.stores }
+    ensures { AreMatched topic.new.core topic.new.stores }
+{
+    let ids = vec![in alloc; entry; 1]?;
+    acknowledge_all(topic, who, id, AckType::Cumulative, ids, request_id)
+}
+
+/// Closes a producer.
+pub(super) fn close(topic: &mut Topic, who: u64, id: u64) -> Result<Told, AllocError>
+    requires { AreMatched topic.old.core topic.old.stores }
+    ensures { AreMatched topic.new.core topic.new.stores }
+{
+    let answer = topic.command(
+        who,
+        TopicCommand::CloseProducer(CloseProducer {
+            producer_id: id,
+            request_id: 500 + id % 100,
+        }),
+    );
+    answered(&answer)
+}
+
+/// Removes a consumer and its subscription.
+pub(super) fn unsubscribe(topic: &mut Topic, who: u64, id: u64) -> Result<Told, AllocError>
+    requires { AreMatched topic.old.core topic.old.stores }
+    ensures { AreMatched topic.new.core topic.new.stores }
+{
+    let answer = topic.command(
+        who,
+        TopicCommand::Unsubscribe(Unsubscribe {
+            consumer_id: id,
+            request_id: 600 + id % 100,
+        }),
+    );
+    answered(&answer)
 }
 
 /// What a consumer gets.

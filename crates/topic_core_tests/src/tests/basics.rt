@@ -219,9 +219,12 @@ fn acknowledgements_are_answered_where_they_ask(rt: HostRuntime) -> Result<(), F
     assert_eq!(rt; quiet, Told::Nothing);
     let stranger = acknowledge(alloc, &mut topic, 2, 5, first, None)?;
     assert_eq!(rt; stranger, Told::Nothing);
-    let ids = vec![in alloc; first; 1]?;
-    let through = acknowledge_all(&mut topic, 1, 5, AckType::Cumulative, ids, Some(7))?;
-    assert_eq!(rt; through, REFUSED);
+    let ids = vec![in alloc; first; 2]?;
+    let twice = acknowledge_all(&mut topic, 1, 5, AckType::Cumulative, ids, Some(7))?;
+    assert_eq!(rt; twice, REFUSED);
+    let none = Vec::new(alloc);
+    let nothing = acknowledge_all(&mut topic, 1, 5, AckType::Cumulative, none, Some(7))?;
+    assert_eq!(rt; nothing, REFUSED);
     let none = Vec::new(alloc);
     let empty = acknowledge_all(&mut topic, 1, 5, AckType::Individual, none, Some(8))?;
     assert_eq!(rt; empty, Told::Later);

@@ -2,7 +2,10 @@
 ghost use Rattle.topic_core_tests.specs.Matching.{AreMatched};
 
 use super::Topic;
-use super::asking::{Told, acknowledge, collected, dispatched, entry_id, produce, send, subscribe};
+use super::asking::{
+    Told, acknowledge, acknowledge_through, close, collected, dispatched, entry_id, produce, send,
+    subscribe, unsubscribe,
+};
 use commands::{InitialPosition, ServerError};
 use std::alloc::{AllocError, Global};
 use std::process::Abort;
@@ -20,12 +23,16 @@ enum Step {
     Flow(u64, u64, u32),
     Ack(u64, u64, u64),
     Dispatch(u64, u64),
+    AckThrough(u64, u64, u64),
+    Close(u64, u64),
+    Unsubscribe(u64, u64),
 }
 
 /// A topic of two entries a ledger as plain lists, with one Exclusive subscription.
 #[derive(Drop)]
 struct SlowTopic {
-    producers: Vec<(u64, u64, &'static str)>,
+    /// The session, id and name of each, and whether it is open.
+    producers: Vec<(u64, u64, &'static str, bool)>,
     sent: u64,
     committed: u64,
     /// Whose each reply is, and whether it is due.
@@ -61,11 +68,11 @@ impl SlowTopic {
                 if self.producers.iter().any(|p| p.2 == name) {
                     return Ok(Told::Refused(100 + id % 100, ServerError::ProducerBusy));
                 }
-                self.producers.push((who, id, name))?;
+                self.producers.push((who, id, name, true))?;
                 Ok(Told::Created(100 + id % 100))
             }
             Step::Send(who, id, sequence) => {
-                if !self.producers.iter().any(|p| p.0 == who && p.1 == id) {
+                if !self.is_open(who, id) {
                     return Ok(Told::Refused(sequence, ServerError::NotAllowedError));
                 }
                 let receipt = Told::Receipt {
@@ -83,6 +90,7 @@ impl SlowTopic {
                 for i in 0..self.replies.len() {
                     self.replies[i].2 = true;
                 }
+                self.producers.retain(|p| p.3);
                 Ok(Told::Committed(count as usize))
             }
             Step::Collect(who) => Ok(self.collect(who)),
@@ -99,7 +107,65 @@ impl SlowTopic {
             }
             Step::Ack(who, id, position) => self.acknowledge(who, id, position),
             Step::Dispatch(who, id) => self.dispatch(who, id),
+            Step::AckThrough(who, id, position) => self.acknowledge_through(who, id, position),
+            Step::Close(who, id) => self.close(who, id),
+            Step::Unsubscribe(who, id) => self.unsubscribe(who, id),
         }
+    }
+
+    fn is_open(&self, who: u64, id: u64) -> bool {
+        self.producers
+            .iter()
+            .any(|p| p.0 == who && p.1 == id && p.3)
+    }
+
+    fn close(&mut self, who: u64, id: u64) -> Result<Told, AllocError> {
+        let request = 500 + id % 100;
+        if !self.is_open(who, id) {
+            return Ok(Told::Refused(request, ServerError::NotAllowedError));
+        }
+        for i in 0..self.producers.len() {
+            let (session, producer, name, is_open) = self.producers[i];
+            let stays = is_open && (session != who || producer != id);
+            self.producers[i] = (session, producer, name, stays);
+        }
+        self.later(who, Told::Done(request))
+    }
+
+    fn unsubscribe(&mut self, who: u64, id: u64) -> Result<Told, AllocError> {
+        let request = 600 + id % 100;
+        if self.consumer != Some((who, id)) {
+            return Ok(Told::Refused(request, ServerError::ConsumerNotFound));
+        }
+        self.consumer = None;
+        self.is_made = false;
+        self.acked.clear();
+        self.held.clear();
+        self.times.clear();
+        self.later(who, Told::Done(request))
+    }
+
+    fn acknowledge_through(
+        &mut self,
+        who: u64,
+        id: u64,
+        position: u64,
+    ) -> Result<Told, AllocError> {
+        let request = 400 + position % 100;
+        if self.consumer != Some((who, id)) {
+            return Ok(Told::Refused(request, ServerError::ConsumerNotFound));
+        }
+        if position >= self.committed {
+            return Ok(Told::Refused(request, ServerError::NotAllowedError));
+        }
+        for i in 0..self.committed {
+            if i <= position {
+                self.acked.push(i)?;
+            }
+        }
+        self.held.retain(|p| *p > position);
+        self.times.retain(|p| *p > position);
+        self.later(who, Told::Done(request))
     }
 
     fn later(&mut self, who: u64, told: Told) -> Result<Told, AllocError> {
@@ -222,6 +288,13 @@ fn topic_step(alloc: Global, topic: &mut Topic, step: Step) -> Result<Told, Fail
             Ok(acknowledge(alloc, topic, who, id, entry, request)?)
         }
         Step::Dispatch(who, id) => Ok(dispatched(topic, who, id)?),
+        Step::AckThrough(who, id, position) => {
+            let entry = entry_id(position / 2, position % 2);
+            let request = Some(400 + position % 100);
+            Ok(acknowledge_through(alloc, topic, who, id, entry, request)?)
+        }
+        Step::Close(who, id) => Ok(close(topic, who, id)?),
+        Step::Unsubscribe(who, id) => Ok(unsubscribe(topic, who, id)?),
     }
 }
 
@@ -332,6 +405,76 @@ fn messages_come_until_they_are_acknowledged(rt: HostRuntime) -> Result<(), Fail
         Step::Dispatch(2, 6),
         Step::Dispatch(2, 6),
         Step::Dispatch(2, 6),
+    ];
+    agree(&rt, rt.alloc(), &steps)
+}
+
+#[test]
+fn a_closed_name_is_taken_until_the_flush(rt: HostRuntime) -> Result<(), Fail> {
+    let steps = [
+        Step::Produce(0, 1, "one"),
+        Step::Send(0, 1, 10),
+        Step::Close(0, 2),
+        Step::Close(1, 1),
+        Step::Close(0, 1),
+        Step::Close(0, 1),
+        Step::Send(0, 1, 11),
+        Step::Produce(1, 3, "one"),
+        Step::Collect(0),
+        Step::Flush,
+        Step::Collect(0),
+        Step::Collect(0),
+        Step::Produce(1, 3, "one"),
+        Step::Close(0, 1),
+        Step::Close(1, 3),
+        Step::Flush,
+        Step::Collect(1),
+    ];
+    agree(&rt, rt.alloc(), &steps)
+}
+
+#[test]
+fn all_up_to_one_are_acknowledged(rt: HostRuntime) -> Result<(), Fail> {
+    let steps = [
+        Step::Produce(0, 1, "one"),
+        Step::Send(0, 1, 10),
+        Step::Send(0, 1, 11),
+        Step::Send(0, 1, 12),
+        Step::Send(0, 1, 13),
+        Step::Flush,
+        Step::Subscribe(1, 5, InitialPosition::Earliest),
+        Step::Flow(1, 5, 9),
+        Step::Dispatch(1, 5),
+        Step::Dispatch(1, 5),
+        Step::AckThrough(1, 5, 4),
+        Step::AckThrough(2, 5, 1),
+        Step::AckThrough(1, 5, 2),
+        Step::Dispatch(1, 5),
+        Step::Dispatch(1, 5),
+        Step::Flush,
+        Step::Collect(1),
+        Step::Collect(1),
+    ];
+    agree(&rt, rt.alloc(), &steps)
+}
+
+#[test]
+fn an_unsubscribed_name_is_new(rt: HostRuntime) -> Result<(), Fail> {
+    let steps = [
+        Step::Produce(0, 1, "one"),
+        Step::Send(0, 1, 10),
+        Step::Flush,
+        Step::Subscribe(1, 5, InitialPosition::Latest),
+        Step::Unsubscribe(1, 6),
+        Step::Unsubscribe(1, 5),
+        Step::Unsubscribe(1, 5),
+        Step::Subscribe(2, 7, InitialPosition::Earliest),
+        Step::Flush,
+        Step::Collect(1),
+        Step::Collect(1),
+        Step::Flow(2, 7, 9),
+        Step::Dispatch(2, 7),
+        Step::Dispatch(2, 7),
     ];
     agree(&rt, rt.alloc(), &steps)
 }

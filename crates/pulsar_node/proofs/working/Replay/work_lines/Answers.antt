@@ -1,11 +1,11 @@
-use Rattle.std.proofs.Common.{◌≡◌, ◌∷◌, ◌+◌, ℕ, [], length, sym, ap, subst, refl, ◌∙◌, List, arith, length-append}
+use Rattle.std.proofs.Common.{Err, ◌≡◌, ◌∷◌, ◌+◌, ℕ, [], length, sym, ap, subst, refl, ◌∙◌, List, arith, length-append}
 use Rattle.std.specs.Vec.Iter.{into_iter_items}
 use Rattle.std.proofs.KnownBytes.{Appends-trans}
 use Rattle.std.proofs.lemmas.Result.{err_from_is_err_and}
 use Rattle.script.specs.declared.line.Line.{Line}
 use Rattle.pulsar_node.specs.declared.working.Replay.{Replay}
-use Rattle.pulsar_node.specs.Replay.{LineStep, Prints}
-use Rattle.pulsar_node.proofs.Worked.{Prints-more, one_more_fails, writes_fault, next_of_whole, worked_all}
+use Rattle.pulsar_node.specs.Replay.{IfRemembered, LineStep, Prints}
+use Rattle.pulsar_node.proofs.Worked.{Prints-more, one_more_fails, writes_fault, remembered_fault, next_of_whole, worked_all}
 use Rattle.pulsar_node.proofs.working.Replay.work_lines.Goals as goal
 
 pub work_line-requires-clause-line : goal.work_line-requires-clause-line
@@ -50,7 +50,7 @@ returns-in_err-self g c = λ old lives.
     let p = err_from_is_err_and c.from_residual.result c.from_residual.ensures.1 in
     let whole = next_of_whole c.loop-line.yielded _ _ c.args.lines.items c.in-Some.line known.all c.in-Some.ensures.steps.0 in
     rw (p.1, p.2) (one_more_fails 2 old w.1 t.new c.loop-line.yielded _ c.args.lines.items c.in-Some.line w.0 t.text _ _ _ fault w.2
-    (subst (λ (k : ℕ). LineStep k w.1 c.in-Some.line t.text t.new) place t.step) w.4 (writes_fault Replay (Unit {0}) t.text _ _ fault t.writes) whole)
+    (subst (λ (k : ℕ). IfRemembered {X = Unit {0}} (Err fault) (LineStep k w.1 c.in-Some.line t.text t.new)) place (remembered_fault Replay (Unit {0}) _ fault t.step)) w.4 (writes_fault Replay (Unit {0}) t.text _ _ fault t.writes) whole)
 
 pub returns : goal.returns
 returns g c = λ old lives.

@@ -24,5 +24,5 @@ returns-in-TooMany-clause-step g c = λ s.
       found = TooMany;
       between = g.P.Port.broker c.find.new.self;
       finds = rw c.as_str.ensures at (c.in-TooMany.ensures.step s);
-      asks = (c.refuse_subscribe-in-TooMany.ensures.says, refl);
+      asks = (c.refuse_consumer-in-TooMany.ensures.says, refl);
     })

@@ -13,6 +13,6 @@ invariant_of-self c =
     let changes : c.changes_handed_on-changes.result ≡ changes_of t.doubt = search rules in
     let bytes : c.bytes_in-bytes.result ≡ sum_by length (take c.entries_handed_on-count.result t.waiting) = search rules in (
       rw c.drop_first.ensures (omega (arith, bytes, c.self.invariant.0, sum_by-take-drop length t.waiting c.entries_handed_on-count.result)),
-      rw (c.drop_first.ensures, c.settle.ensures, c.make_all_due.ensures, count, changes) (sound-finished t c.self.invariant.1),
-      rw (c.drop_first.ensures, c.settle.ensures, c.make_all_due.ensures, count, changes) (receipts-finished t c.self.invariant.1 c.self.invariant.2),
+      rw (c.drop_first.ensures, c.settle.ensures, c.make_all_due.ensures, c.drop_closed.ensures, count, changes) (sound-finished t c.self.invariant.1),
+      rw (c.drop_first.ensures, c.settle.ensures, c.make_all_due.ensures, c.drop_closed.ensures, count, changes) (receipts-finished t c.self.invariant.1 c.self.invariant.2),
     )

@@ -1,0 +1,125 @@
+-- What accepted commands promise is kept by what the changes make of the durable subscriptions.
+use Rattle.std.proofs.Common.{◌≡◌, ◌∙◌, ℕ, ◌+◌, Bool, true, false, cond, ◌||◌, Option, Some, None, List, [], ◌∷◌, ◌++◌, map, refl, sym, ap, append-nil}
+use Rattle.std.specs.List.{AllByRecursion, find}
+use Rattle.std.specs.Option.{option_map}
+use Rattle.std.specs.FinSet as set
+use Rattle.cursor.specs.Positions.{Positions, Has, below, has_empty, has_union}
+use Rattle.commands.specs.declared.consuming.AckType.{AckType}
+use Rattle.commands.specs.declared.consuming.AckType.TheVariants.{Individual, Cumulative}
+use Rattle.holds.specs.declared.consumer.ConsumerKey.{ConsumerKey}
+use Rattle.records.specs.declared.record.Record.{Record}
+use Rattle.records.specs.declared.record.Record.TheVariants.{Made, Removed, Acknowledged}
+use Rattle.records.specs.Maps.{Kept}
+use Rattle.subscriptions.specs.declared.consumer.Mode.{Mode}
+use Rattle.subscriptions.specs.State.{Subscription, Subscriptions}
+use Rattle.subscriptions.specs.Soundness.{HasLimits}
+use Rattle.subscriptions.specs.Progress.{joined, listed}
+use Rattle.subscriptions.specs.Steps.{is_named, is_on, attached, attached_at, attached_to, made, acknowledgements, acknowledgement_through, removal}
+use Rattle.subscriptions.specs.Laws.{IsKept as AreKept, acked_as}
+use Rattle.subscriptions.proofs.Kept.{name_itself, acked_spared, acked_pushed, acked_found, acked_changed}
+use Rattle.subscriptions.proofs.Settled.{forgotten, forgotten_below}
+use Rattle.topic_core.specs.Steps.{acked}
+use Rattle.node.specs.Promising.{Promise, acked_by, promised}
+use Rattle.node.proofs.Lasting.{Spares}
+use Rattle.node.proofs.Holding.{Lands, Remains}
+
+-- changes behind others, all of which spare what remains
+pub record Adds (changes : List Record) (removed : Option (List ℕ)) (more : List Record) : Type 0 where
+  pub added : List Record
+  pub behind : more ≡ changes ++ added
+  pub spares : (p : Promise) → Remains removed p → AllByRecursion (Spares p.name) added
+
+pub adds_nothing : (changes : List Record) (removed : Option (List ℕ)) → Adds changes removed changes
+adds_nothing changes removed = record { added = []; behind = sym (append-nil changes); spares = λ p remains. tt }
+
+-- a subscription that is there keeps a promise of its positions
+lands_there : (e : ℕ) (kept : Kept) (t : Subscriptions) (p : Promise) (s : Positions) → AreKept e kept t → acked_as p.name t.subs ≡ Some s → ((i : ℕ) → Has p.acked i → Has s i) → Lands t.changes kept p
+lands_there e kept t p s are there each = record { acked = s; there = are.same p.name ∙ there; each = each }
+
+nothing_has : (s : Positions) (i : ℕ) → Has set.empty i → Has s i
+nothing_has s i has = let none = has_empty i in absurd (cc)
+
+-- ---- SUBSCRIBE
+
+pub adds_attached : (t : Subscriptions) (name : List ℕ) (mode : Mode) (key : ConsumerKey) (start : ℕ) → Adds t.changes None (attached t name mode key start).changes
+adds_attached t name mode key start = elim (find (is_named name) t.subs) as (λ o. Adds t.changes None (attached_at o t name mode key start).changes) [
+  | None ↦ record { added = Made name start ∷ []; behind = refl; spares = λ p remains. (tt, tt) }
+  | Some s ↦ adds_nothing t.changes None
+]
+
+there_attached : (t : Subscriptions) (name : List ℕ) (mode : Mode) (key : ConsumerKey) (start : ℕ) → (s : Positions) × (acked_as name (attached t name mode key start).subs ≡ Some s)
+there_attached t name mode key start =
+    elim (find (is_named name) t.subs) as (λ o. find (is_named name) t.subs ≡ o → (s : Positions) × (acked_as name (attached_at o t name mode key start).subs ≡ Some s)) [
+      | None ↦ λ none.
+          let new = attached_to mode key (made name mode start) in
+          (new.acked, acked_pushed name t.subs new none ∙ ap (λ b. cond b (Some new.acked) (acked_as name t.subs)) (name_itself name))
+      | Some s ↦ λ found. (
+        s.acked,
+        acked_spared (is_named name) (attached_to mode key) (record { name = λ _. refl; acked = λ _. refl }) name t.subs ∙ ap (λ (o : Option Subscription). option_map (λ (x : Subscription). x.acked) o) found,
+      )
+    ] refl
+
+pub lands_attached : (e : ℕ) (kept : Kept) (t : Subscriptions) (name : List ℕ) (mode : Mode) (key : ConsumerKey) (start : ℕ) → AreKept e kept (attached t name mode key start)
+    → Lands (attached t name mode key start).changes kept (record { name = name; acked = set.empty })
+lands_attached e kept t name mode key start are =
+    let there = there_attached t name mode key start in
+    lands_there e kept (attached t name mode key start) (record { name = name; acked = set.empty }) there.0 are there.1 (λ i has. nothing_has there.0 i has)
+
+-- ---- ACK
+
+spared_acks : (q n : List ℕ) (ps : List ℕ) → AllByRecursion (Spares q) (map (λ p. Acknowledged n p) ps)
+spared_acks q n [] = tt
+spared_acks q n (p ∷ ps) = (tt, spared_acks q n ps)
+
+spared_acknowledgements : (q : List ℕ) (o : Option Subscription) (ps : List ℕ) → AllByRecursion (Spares q) (acknowledgements o ps)
+spared_acknowledgements q None ps = tt
+spared_acknowledgements q (Some s) ps = spared_acks q s.name ps
+
+spared_through : (q : List ℕ) (o : Option Subscription) (position : ℕ) → AllByRecursion (Spares q) (acknowledgement_through o position)
+spared_through q None position = tt
+spared_through q (Some s) position = (tt, tt)
+
+pub adds_acked : (ack_type : AckType) (t : Subscriptions) (key : ConsumerKey) (ps : List ℕ) → Adds t.changes None (acked ack_type t key ps).changes
+adds_acked Individual t key ps = record {
+  added = acknowledgements (find (is_on key) t.subs) ps;
+  behind = refl;
+  spares = λ p remains. spared_acknowledgements p.name (find (is_on key) t.subs) ps;
+}
+adds_acked Cumulative t key [] = adds_nothing t.changes None
+adds_acked Cumulative t key (position ∷ ps) = record {
+  added = acknowledgement_through (find (is_on key) t.subs) position;
+  behind = refl;
+  spares = λ p remains. spared_through p.name (find (is_on key) t.subs) position;
+}
+
+either_has : (a b : Bool) → b ≡ true → (a || b) ≡ true
+either_has true b h = refl
+either_has false b h = h
+
+lands_acked_on : (e : ℕ) (kept : Kept) (ack_type : AckType) (t : Subscriptions) (key : ConsumerKey) (ps : List ℕ) (s : Subscription) → HasLimits t → find (is_on key) t.subs ≡ Some s
+    → AreKept e kept (acked ack_type t key ps) → Lands (acked ack_type t key ps).changes kept (record { name = s.name; acked = acked_by ack_type ps })
+lands_acked_on e kept Individual t key ps s limits found are =
+    lands_there e kept (acked Individual t key ps) (record { name = s.name; acked = listed ps }) (joined s.acked ps) are
+    (acked_changed (is_on key) (λ a. joined a ps) (λ d. forgotten d ps) s.name t.subs s limits.names found ∙ ap (λ b. cond b (Some (joined s.acked ps)) (acked_as s.name t.subs)) (name_itself s.name))
+    (λ i has. has_union s.acked (listed ps) i ∙ either_has (set.contains s.acked i) _ has)
+lands_acked_on e kept Cumulative t key [] s limits found are =
+    lands_there e kept t (record { name = s.name; acked = set.empty }) s.acked are (acked_found (is_on key) t.subs s limits.names found) (λ i has. nothing_has s.acked i has)
+lands_acked_on e kept Cumulative t key (position ∷ ps) s limits found are =
+    let more : Positions → Positions = λ a. set.union a (below (position + 1)) in
+    lands_there e kept (acked Cumulative t key (position ∷ ps)) (record { name = s.name; acked = below (position + 1) }) (more s.acked) are
+    (acked_changed (is_on key) more (λ d. forgotten_below d (position + 1)) s.name t.subs s limits.names found ∙ ap (λ b. cond b (Some (more s.acked)) (acked_as s.name t.subs)) (name_itself s.name))
+    (λ i has. has_union s.acked (below (position + 1)) i ∙ either_has (set.contains s.acked i) _ has)
+
+abbrev pub ack_promise : AckType → List ℕ → Option Subscription → Option Promise
+ack_promise ack_type ps o = option_map (λ (s : Subscription). record { name = s.name; acked = acked_by ack_type ps }) o
+
+pub lands_acked : (e : ℕ) (kept : Kept) (ack_type : AckType) (t : Subscriptions) (key : ConsumerKey) (ps : List ℕ) (o : Option Subscription) → HasLimits t → find (is_on key) t.subs ≡ o
+    → AreKept e kept (acked ack_type t key ps) → AllByRecursion (Lands (acked ack_type t key ps).changes kept) (promised (ack_promise ack_type ps o))
+lands_acked e kept ack_type t key ps None limits found are = tt
+lands_acked e kept ack_type t key ps (Some s) limits found are = (lands_acked_on e kept ack_type t key ps s limits found are, tt)
+
+-- ---- UNSUBSCRIBE
+
+pub adds_removal : (changes : List Record) (o : Option Subscription) → Adds changes (option_map (λ (s : Subscription). s.name) o) (changes ++ removal o)
+adds_removal changes None = record { added = []; behind = refl; spares = λ p remains. tt }
+adds_removal changes (Some s) = record { added = Removed s.name ∷ []; behind = refl; spares = λ p remains. (remains, tt) }

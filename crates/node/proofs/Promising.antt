@@ -1,0 +1,328 @@
+-- Sessions take the answers to their commands in turn, and what was told of subscriptions stands in the durable ones.
+use Rattle.std.proofs.Common.{◌≡◌, ◌⊎◌, inl, inr, ⊎_elim, ◌∙◌, ℕ, Bool, true, false, cond, Option, Some, None, Result, Ok, Err, List, [], ◌∷◌, take, refl, sym, ap, subst}
+use Rattle.std.specs.List.{AllByRecursion, find}
+use Rattle.commands.specs.declared.reply.Reply.{Reply}
+use Rattle.commands.specs.declared.reply.Reply.TheVariants.{ProducerSuccess, Success, Error, AckResponse}
+use Rattle.commands.specs.declared.server_error.ServerError.{ServerError}
+use Rattle.records.specs.declared.record.Record.{Record}
+use Rattle.records.specs.Maps.{Kept}
+use Rattle.records.specs.Records.{after_all, AreFormed}
+use Rattle.reply_queues.specs.Replies.{SessionReplies, due_to, queued, collected_from}
+use Rattle.subscriptions.specs.State.{Subscriptions}
+use Rattle.subscriptions.specs.Soundness.{HasLimits}
+use Rattle.subscriptions.specs.Steps as subscriptions
+use Rattle.subscriptions.specs.Laws.{IsKept as AreKept}
+use Rattle.subscriptions.specs.declared.consumer.TooManyPermits.{TooManyPermits}
+use Rattle.topic_core.specs.declared.command.Answer.{Answer}
+use Rattle.topic_core.specs.declared.command.Answer.TheVariants.{Now, Later, Nothing, NoMemory}
+use Rattle.topic_core.specs.declared.command.Send.{Send}
+use Rattle.topic_core.specs.declared.command.Subscribe.{Subscribe}
+use Rattle.topic_core.specs.declared.command.Ack.{Ack}
+use Rattle.topic_core.specs.declared.command.CloseProducer.{CloseProducer}
+use Rattle.topic_core.specs.declared.command.Unsubscribe.{Unsubscribe}
+use Rattle.topic_core.specs.declared.command.TopicCommand.{TopicCommand}
+use Rattle.topic_core.specs.declared.command.TopicCommand.TheVariants as asked
+use Rattle.topic_core.specs.Core.{Core, Topic, changes_of}
+use Rattle.topic_core.specs.Soundness.{IsSoundTopic}
+use Rattle.topic_core.specs.Flush.{flushed_topic, failed_topic}
+use Rattle.topic_core.specs.Crashes.{IsLeft, TopicCrash}
+use Rattle.topic_core.specs.Steps.{Outcome, CoreStep, Meets, GrantStep, key_of, refused_or, first_standing, producer_refusals, subscribe_refusal, subscribed, start_of, ack_refusals, ack_refused, ack_accepted, close_refusals, closing, unsubscribe_refusal, unsubscribed, with_producer, accepted, receipt, bytes_of}
+use Rattle.node.specs.Moves.{Handed, Move, Command, Tell, Lose, Grant, Deliver, Miss, Leave, Flush, Reopen, Crash, MoveStep, Moves, Takes}
+use Rattle.node.specs.Finding.{IsQuiet}
+use Rattle.node.specs.Promising.{Promise, IsKept, Word, nothing_yet, promise_of, positions_of, removed_by, ack_reply, released, with_owed, without_first, promised, told, answered, word_after, word_by, InTurn, AreInTurn}
+use Rattle.node.specs.Laws.{WordIsKept}
+use Rattle.node.proofs.Commands.{producer_core, refused_core, silent_core, accepted_core}
+use Rattle.node.proofs.Endings.{flush_cases, reopen_cases, Reopened}
+use Rattle.node.proofs.Sound.{move_sound}
+use Rattle.node.proofs.Lasting.{Lasts, lasts_first, lasts_more, kept_more}
+use Rattle.node.proofs.Turns.{to_each}
+use Rattle.node.proofs.Holding.{Lands, Holds, holds_released, holds_queued, in_turn, holds_lost, holds_told, holds_left, holds_flushed, holds_failed, holds_reopened, holds_crashed}
+use Rattle.node.proofs.Accepting.{Adds, adds_nothing, adds_attached, lands_attached, adds_acked, lands_acked, adds_removal}
+
+abbrev HoldsIn : Core → Kept → Word → Type 0
+HoldsIn c kept word = Holds c.subs.changes kept c.queues word
+
+-- ---- commands
+
+now_later : (r : Reply) → Now r ≡ Later → ⊥
+now_later r is = cc
+
+now_nothing : (r : Reply) → Now r ≡ Nothing → ⊥
+now_nothing r is = cc
+
+later_nothing : Later ≡ Nothing → ⊥
+later_nothing is = cc
+
+-- a refused command changed nothing, and an accepted one had its effect
+either : (o : Option ServerError) (refused : ServerError → Answer) (t : Core) (effect : Outcome) (a : Answer) (u : Core) → a ≡ (refused_or o refused t effect).answer → u ≡ (refused_or o refused t effect).core
+    → ((e : ServerError) × (a ≡ refused e) × (u ≡ t)) ⊎ ((a ≡ effect.answer) × (u ≡ effect.core))
+either None refused t effect a u answer core = inr (answer, core)
+either (Some e) refused t effect a u answer core = inl (e, answer, core)
+
+-- no refusal of an ACK awaits a flush
+not_awaited : (id : ℕ) (request : Option ℕ) (e : ServerError) → Later ≡ ack_refused id request e → ⊥
+not_awaited id None e is = later_nothing is
+not_awaited id (Some request) e is = now_later (AckResponse id (Some e) request) (sym is)
+
+-- an answer at once is a refusal of an ACK
+not_now : (t : Core) (who : ℕ) (ack : Ack) (request : Option ℕ) (r : Reply) → Now r ≡ (ack_accepted t who ack request).answer → ⊥
+not_now t who ack None r is = now_nothing r is
+not_now t who ack (Some request) r is = now_later r is
+
+module _ (t : Core) (kept : Kept) (word : Word) (limits : HasLimits t.subs) (h : HoldsIn t kept word) where
+  same : (u : Core) → u ≡ t → HoldsIn u kept word
+  same u is = subst (λ (x : Core). HoldsIn x kept word) (sym is) h
+
+  -- more changes, which spare what remains
+  grows : (e : ℕ) (changes : List Record) (removed : Option (List ℕ)) → AreFormed e kept changes → Adds t.subs.changes removed changes → Holds changes kept t.queues (released removed word)
+  grows e changes removed formed adds =
+      let formed' = subst (λ (l : List Record). AreFormed e kept l) adds.behind formed in
+      holds_released removed t.subs.changes changes kept kept t.queues word
+      (λ p remains is. subst (λ (l : List Record). Lasts l kept p) (sym adds.behind) (lasts_more e t.subs.changes adds.added kept p formed' (adds.spares p remains) is))
+      (λ p remains is. subst (λ (l : List Record). Lands l kept p) (sym adds.behind) (kept_more e t.subs.changes adds.added kept p formed' (adds.spares p remains) is))
+      h
+
+  -- and an answer that awaits a flush
+  owes : (e : ℕ) (changes : List Record) (removed : Option (List ℕ)) (who : ℕ) (r : Reply) (promise : Option Promise) → AreFormed e kept changes → Adds t.subs.changes removed changes
+      → AllByRecursion (Lands changes kept) (promised promise)
+      → Holds changes kept (queued who r t.queues) (with_owed (record { session = who; reply = Some r; promise = promise }) (released removed word))
+  owes e changes removed who r promise formed adds lands = holds_queued changes kept t.queues (released removed word) (grows e changes removed formed adds) who r promise lands
+
+  -- the subscriptions of a core are kept
+  abbrev AreKeptIn : Core → Type 0
+  AreKeptIn u = AreKept u.committed kept u.subs
+
+  at_core : (u c : Core) → u ≡ c → AreKeptIn u → AreKeptIn c
+  at_core u c is are = subst (λ (x : Core). AreKeptIn x) is are
+
+  back : (u c : Core) (w : Word) → u ≡ c → HoldsIn c kept w → HoldsIn u kept w
+  back u c w is holds = subst (λ (x : Core). HoldsIn x kept w) (sym is) holds
+
+  sent : (who : ℕ) (send : Send) (u : Core) → u ≡ accepted t who send.producer_id send.sequence_id (bytes_of send.entry) → AreKeptIn t → HoldsIn u kept (answered t who (asked.Send send) Later word)
+  sent who send u is are =
+      back u (accepted t who send.producer_id send.sequence_id (bytes_of send.entry)) (answered t who (asked.Send send) Later word) is
+      (owes t.committed t.subs.changes None who (receipt t send.producer_id send.sequence_id) None are.formed (adds_nothing t.subs.changes None) tt)
+
+  subscribes : (who : ℕ) (subscribe : Subscribe) (u : Core) → u ≡ subscribed t who subscribe → AreKeptIn u → HoldsIn u kept (answered t who (asked.Subscribe subscribe) Later word)
+  subscribes who subscribe u is are =
+      let c = subscribed t who subscribe in
+      let key = key_of who subscribe.consumer_id in
+      let start = subscriptions.start_of (start_of subscribe.initial) t.committed in
+      let are' = at_core u c is are in
+      back u c (answered t who (asked.Subscribe subscribe) Later word) is
+      (owes t.committed c.subs.changes None who (Success subscribe.request_id) (promise_of t who (asked.Subscribe subscribe)) are'.formed
+      (adds_attached t.subs subscribe.subscription subscribe.mode key start)
+      (lands_attached t.committed kept t.subs subscribe.subscription subscribe.mode key start are', tt))
+
+  acks_later : (request : Option ℕ) (who : ℕ) (ack : Ack) (u : Core) → Later ≡ (ack_accepted t who ack request).answer → u ≡ (ack_accepted t who ack request).core → AreKeptIn u
+      → HoldsIn u kept (with_owed (record { session = who; reply = ack_reply ack.consumer_id request; promise = promise_of t who (asked.Ack ack) }) word)
+  acks_later None who ack u answer is are = absurd (later_nothing answer)
+  acks_later (Some request) who ack u answer is are =
+      let c = (ack_accepted t who ack (Some request)).core in
+      let key = key_of who ack.consumer_id in
+      let are' = at_core u c is are in
+      back u c (with_owed (record { session = who; reply = ack_reply ack.consumer_id (Some request); promise = promise_of t who (asked.Ack ack) }) word) is
+      (owes t.committed c.subs.changes None who (AckResponse ack.consumer_id None request) (promise_of t who (asked.Ack ack)) are'.formed
+      (adds_acked ack.ack_type t.subs key (positions_of t.per_ledger ack))
+      (lands_acked t.committed kept ack.ack_type t.subs key (positions_of t.per_ledger ack) (find (subscriptions.is_on key) t.subs.subs) limits refl are'))
+
+  acks_silently : (request : Option ℕ) (who : ℕ) (ack : Ack) (u : Core) → Nothing ≡ (ack_accepted t who ack request).answer → u ≡ (ack_accepted t who ack request).core → AreKeptIn u → HoldsIn u kept word
+  acks_silently None who ack u answer is are =
+      let c = (ack_accepted t who ack None).core in
+      let are' = at_core u c is are in
+      back u c word is (grows t.committed c.subs.changes None are'.formed (adds_acked ack.ack_type t.subs (key_of who ack.consumer_id) (positions_of t.per_ledger ack)))
+  acks_silently (Some request) who ack u answer is are = absurd (later_nothing (sym answer))
+
+  closes : (who : ℕ) (close : CloseProducer) (u : Core) → u ≡ closing t who close → AreKeptIn t → HoldsIn u kept (answered t who (asked.CloseProducer close) Later word)
+  closes who close u is are =
+      back u (closing t who close) (answered t who (asked.CloseProducer close) Later word) is
+      (owes t.committed t.subs.changes None who (Success close.request_id) None are.formed (adds_nothing t.subs.changes None) tt)
+
+  unsubscribes : (who : ℕ) (unsubscribe : Unsubscribe) (u : Core) → u ≡ unsubscribed t who unsubscribe → AreKeptIn u → HoldsIn u kept (answered t who (asked.Unsubscribe unsubscribe) Later word)
+  unsubscribes who unsubscribe u is are =
+      let c = unsubscribed t who unsubscribe in
+      let are' = at_core u c is are in
+      back u c (answered t who (asked.Unsubscribe unsubscribe) Later word) is
+      (owes t.committed c.subs.changes (removed_by t who (asked.Unsubscribe unsubscribe)) who (Success unsubscribe.request_id) None are'.formed
+      (adds_removal t.subs.changes (find (subscriptions.is_on (key_of who unsubscribe.consumer_id)) t.subs.subs)) tt)
+
+  -- a command whose refusals are told at once, and whose effect awaits a flush
+  module _ (who : ℕ) (c : TopicCommand) (o : Option ServerError) (f : ServerError → Reply) (effect : Core) (takes : (u : Core) → u ≡ effect → AreKeptIn u → HoldsIn u kept (answered t who c Later word)) where
+    abbrev outcome : Outcome
+    outcome = refused_or o (λ error. Now (f error)) t (record { answer = Later; core = effect })
+
+    awaited : (a : Answer) (u : Core) → a ≡ outcome.answer → u ≡ outcome.core → AreKeptIn u → HoldsIn u kept (answered t who c a word)
+    awaited (Now r) u answer core are = ⊎_elim
+        (λ refused. same u refused.2)
+        (λ effected. absurd (now_later r effected.0))
+        (either o (λ error. Now (f error)) t (record { answer = Later; core = effect }) (Now r) u answer core)
+    awaited Later u answer core are = ⊎_elim
+        (λ refused. absurd (now_later (f refused.0) (sym refused.1)))
+        (λ effected. takes u effected.1 are)
+        (either o (λ error. Now (f error)) t (record { answer = Later; core = effect }) Later u answer core)
+    awaited Nothing u answer core are = ⊎_elim
+        (λ refused. same u refused.2)
+        (λ effected. absurd (later_nothing (sym effected.0)))
+        (either o (λ error. Now (f error)) t (record { answer = Later; core = effect }) Nothing u answer core)
+    awaited NoMemory u answer core are = ⊎_elim
+        (λ refused. same u refused.2)
+        (λ effected. let no : ⊥ = cc in absurd no)
+        (either o (λ error. Now (f error)) t (record { answer = Later; core = effect }) NoMemory u answer core)
+
+  produces : (who id request : ℕ) (name : List ℕ) (u : Core) → (u ≡ t) ⊎ (u ≡ with_producer t who id name) → HoldsIn u kept word
+  produces who id request name u cases = ⊎_elim (λ is. same u is) (λ is. back u (with_producer t who id name) word is h) cases
+
+  -- no PRODUCER awaits a flush
+  no_producer : (o : Option ServerError) (f : ServerError → Reply) (r : Reply) (effect : Core) → Later ≡ (refused_or o (λ error. Now (f error)) t (record { answer = Now r; core = effect })).answer → ⊥
+  no_producer None f r effect is = now_later r (sym is)
+  no_producer (Some e) f r effect is = now_later (f e) (sym is)
+
+  acks : (who : ℕ) (ack : Ack) (a : Answer) (u : Core) → CoreStep t who (asked.Ack ack) a u → AreKeptIn u → HoldsIn u kept (answered t who (asked.Ack ack) a word)
+  acks who ack NoMemory u step are = same u step
+  acks who ack (Now r) u step are = ⊎_elim
+      (λ refused. same u refused.2)
+      (λ effected. absurd (not_now t who ack ack.request_id r effected.0))
+      (either (first_standing (ack_refusals t who ack)) (ack_refused ack.consumer_id ack.request_id) t (ack_accepted t who ack ack.request_id) (Now r) u step.0 step.1)
+  acks who ack Later u step are = ⊎_elim
+      (λ refused. absurd (not_awaited ack.consumer_id ack.request_id refused.0 refused.1))
+      (λ effected. acks_later ack.request_id who ack u effected.0 effected.1 are)
+      (either (first_standing (ack_refusals t who ack)) (ack_refused ack.consumer_id ack.request_id) t (ack_accepted t who ack ack.request_id) Later u step.0 step.1)
+  acks who ack Nothing u step are = ⊎_elim
+      (λ refused. same u refused.2)
+      (λ effected. acks_silently ack.request_id who ack u effected.0 effected.1 are)
+      (either (first_standing (ack_refusals t who ack)) (ack_refused ack.consumer_id ack.request_id) t (ack_accepted t who ack ack.request_id) Nothing u step.0 step.1)
+
+  -- an outcome that was met
+  meets : (o : Outcome) (w : Answer → Word) → ((a : Answer) (u : Core) → a ≡ o.answer → u ≡ o.core → AreKeptIn u → HoldsIn u kept (w a)) → w NoMemory ≡ word → (a : Answer) (u : Core) → Meets o t a u → AreKeptIn u → HoldsIn u kept (w a)
+  meets o w by none NoMemory u step are = subst (λ (x : Word). HoldsIn u kept x) (sym none) (same u step)
+  meets o w by none Nothing u step are = by Nothing u step.0 step.1 are
+  meets o w by none (Now r) u step are = by (Now r) u step.0 step.1 are
+  meets o w by none Later u step are = by Later u step.0 step.1 are
+
+  commanded : (who : ℕ) (c : TopicCommand) (a : Answer) (u : Core) → CoreStep t who c a u → AreKeptIn t → AreKeptIn u → HoldsIn u kept (answered t who c a word)
+  commanded who (asked.Producer id request name) NoMemory u step are are' = same u step
+  commanded who (asked.Producer id request name) (Now r) u step are are' = produces who id request name u (producer_core (Now r) t who id request name u step)
+  commanded who (asked.Producer id request name) Nothing u step are are' = produces who id request name u (producer_core Nothing t who id request name u step)
+  commanded who (asked.Producer id request name) Later u step are are' =
+      absurd (no_producer (first_standing (producer_refusals t name)) (λ error. Error request error) (ProducerSuccess request name) (with_producer t who id name) step.0)
+  commanded who (asked.Send send) NoMemory u step are are' = same u step
+  commanded who (asked.Send send) (Now r) u step are are' = same u (refused_core t who send r u step)
+  commanded who (asked.Send send) Nothing u step are are' = same u (silent_core t who send u step)
+  commanded who (asked.Send send) Later u step are are' = sent who send u (accepted_core t who send u step).1 are
+  commanded who (asked.Subscribe subscribe) a u step are are' =
+      meets _ (λ b. answered t who (asked.Subscribe subscribe) b word)
+      (awaited who (asked.Subscribe subscribe) (subscribe_refusal t subscribe) (λ error. Error subscribe.request_id error) (subscribed t who subscribe) (λ x is kept_x. subscribes who subscribe x is kept_x))
+      refl a u step are'
+  commanded who (asked.Ack ack) a u step are are' = acks who ack a u step are'
+  commanded who (asked.CloseProducer close) a u step are are' =
+      meets _ (λ b. answered t who (asked.CloseProducer close) b word)
+      (awaited who (asked.CloseProducer close) (first_standing (close_refusals t who close)) (λ error. Error close.request_id error) (closing t who close) (λ x is _. closes who close x is are))
+      refl a u step are'
+  commanded who (asked.Unsubscribe unsubscribe) a u step are are' =
+      meets _ (λ b. answered t who (asked.Unsubscribe unsubscribe) b word)
+      (awaited who (asked.Unsubscribe unsubscribe) (unsubscribe_refusal t who unsubscribe) (λ error. Error unsubscribe.request_id error) (unsubscribed t who unsubscribe) (λ x is kept_x. unsubscribes who unsubscribe x is kept_x))
+      refl a u step are'
+
+  -- permits
+  permits : (failed : Bool) (subs : Subscriptions) → subs.changes ≡ t.subs.changes → HoldsIn (cond failed t (record t { subs = subs })) kept word
+  permits true subs is = h
+  permits false subs is = subst (λ (l : List Record). Holds l kept t.queues word) (sym is) h
+
+  granted : (result : Result (Unit {0}) TooManyPermits) (who id count : ℕ) (u : Core) → GrantStep t who id count result u → HoldsIn u kept word
+  granted (Ok done) who id count u step = back u _ word step.1 (permits t.failed (subscriptions.granted t.subs (key_of who id) count) refl)
+  granted (Err why) who id count u step = same u step.1
+
+-- ---- moves
+
+abbrev HoldsAt : Topic → Word → Type 0
+HoldsAt t word = HoldsIn t.core t.kept word
+
+-- what a crash leaves is what a front of the changes makes of the durable subscriptions
+left_front : (t : Topic) (ledger : List (List ℕ)) (kept : Kept) → IsLeft t ledger kept → (n : ℕ) × (kept ≡ after_all (take n t.core.subs.changes) t.kept)
+left_front t ledger kept (inl s) = (0, s.1)
+left_front t ledger kept (inr (inl s)) = (0, s.1)
+left_front t ledger kept (inr (inr s)) = (changes_of t.core.doubt, s.1)
+
+module _ (word : Word) where
+  same_topic : (t u : Topic) → u ≡ t → HoldsAt t word → HoldsAt u word
+  same_topic t u is h = subst (λ (x : Topic). HoldsAt x word) (sym is) h
+
+  flushes : (t u : Topic) → (u ≡ t) ⊎ ((u ≡ flushed_topic t) ⊎ (u ≡ failed_topic t)) → HoldsAt t word → HoldsAt u word
+  flushes t u (inl is) h = same_topic t u is h
+  flushes t u (inr (inl is)) h = subst (λ (x : Topic). HoldsAt x word) (sym is) (holds_flushed t.core.subs.changes t.kept t.core.queues word h)
+  flushes t u (inr (inr is)) h = subst (λ (x : Topic). HoldsAt x word) (sym is) (holds_failed t.core.subs.changes t.kept t.core.queues word h)
+
+  opens_again : (t u : Topic) → Reopened t u → IsSoundTopic t → HoldsAt t word → HoldsAt u word
+  opens_again t u again s h =
+      let front = left_front t u.ledger u.kept again.left in
+      subst (λ (c : Core). HoldsIn c u.kept word) (sym again.core)
+      (subst (λ (k : Kept). Holds [] k t.core.queues word) (sym front.1) (holds_reopened t.core.subs.changes t.kept t.core.queues word h front.0 (s.core.told again.failed)))
+
+  crashes : (t u : Topic) → TopicCrash t u → HoldsAt t word → HoldsAt u (record word { owed = [] })
+  crashes t u s h =
+      let front = left_front t u.ledger u.kept s.left in
+      subst (λ (c : Core). HoldsIn c u.kept (record word { owed = [] })) (sym s.core)
+      (subst (λ (k : Kept). Holds [] k [] (record word { owed = [] })) (sym front.1) (holds_crashed t.core.subs.changes t.kept t.core.queues word h front.0))
+
+  -- the first due reply, of the queues without it
+  first_taken : (t u : Topic) (handed : Handed) → Takes t handed u → due_to handed.session t.core.queues ≡ handed.reply ∷ due_to handed.session (collected_from handed.session t.core.queues)
+  first_taken t u handed takes = takes.first ∙ ap (λ (x : Topic). handed.reply ∷ due_to handed.session x.core.queues) takes.taken
+
+  moved : (t : Topic) (m : Move) (u : Topic) → MoveStep t m u → IsSoundTopic t → IsSoundTopic u → HoldsAt t word → HoldsAt u (word_after t.core m word)
+  moved t (Command who c a) u s sound sound' h =
+      subst (λ (k : Kept). HoldsIn u.core k (answered t.core who c a word)) (sym s.kept)
+      (commanded t.core t.kept word sound.core.subs.limits h who c a u.core s.core sound.kept (subst (λ (k : Kept). AreKept u.core.committed k u.core.subs) s.kept sound'.kept))
+  moved t (Tell handed) u s sound sound' h =
+      subst (λ (x : Topic). HoldsAt x (told handed word)) (sym s.taken) (holds_told t.core.subs.changes t.kept t.core.queues word h handed (first_taken t u handed s))
+  moved t (Lose handed) u s sound sound' h =
+      subst (λ (x : Topic). HoldsAt x (record word { owed = without_first handed.session word.owed })) (sym s.taken)
+      (holds_lost t.core.subs.changes t.kept t.core.queues word h handed (first_taken t u handed s))
+  moved t (Grant who id permits result) u s sound sound' h =
+      subst (λ (x : Topic). HoldsAt x word) (sym s.rest) (granted t.core t.kept word sound.core.subs.limits h result who id permits s.core s.step)
+  moved t (Deliver id handed) u s sound sound' h =
+      subst (λ (k : Kept). HoldsIn u.core k word) (sym s.kept) (subst (λ (c : Core). HoldsIn c t.kept word) (sym s.core.1.sent) h)
+  moved t (Miss id handed) u s sound sound' h =
+      subst (λ (k : Kept). HoldsIn u.core k word) (sym s.kept) (subst (λ (c : Core). HoldsIn c t.kept word) (sym s.core.1.sent) h)
+  moved t (Leave who) u s sound sound' h =
+      subst (λ (x : Topic). HoldsAt x (word_after t.core (Leave who) word)) (sym s) (holds_left t.core.subs.changes t.kept t.core.queues word h who)
+  moved t (Flush result) u s sound sound' h = flushes t u (flush_cases t result u s) h
+  moved t (Reopen result) u s sound sound' h = ⊎_elim (λ is. same_topic t u is h) (λ again. opens_again t u again sound h) (reopen_cases t result u s)
+  moved t Crash u s sound sound' h = crashes t u s h
+
+  turn : (t : Topic) (m : Move) (u : Topic) → MoveStep t m u → HoldsAt t word → InTurn word m
+  turn t (Command who c a) u s h = tt
+  turn t (Tell handed) u s h = in_turn t.core.subs.changes t.kept t.core.queues word h handed (first_taken t u handed s)
+  turn t (Lose handed) u s h = in_turn t.core.subs.changes t.kept t.core.queues word h handed (first_taken t u handed s)
+  turn t (Grant who id permits result) u s h = tt
+  turn t (Deliver id handed) u s h = tt
+  turn t (Miss id handed) u s h = tt
+  turn t (Leave who) u s h = tt
+  turn t (Flush result) u s h = tt
+  turn t (Reopen result) u s h = tt
+  turn t Crash u s h = tt
+
+turns : (t : Topic) (moves : List Move) (u : Topic) (steps : Moves t moves u) (word : Word) → IsSoundTopic t → HoldsAt t word → AreInTurn t moves u steps word
+turns t [] u steps word sound h = tt
+turns t (m ∷ ms) v steps word sound h =
+    let u = steps.0 in
+    let sound' = move_sound t m u steps.1 sound in
+    (turn word t m u steps.1 h, turns u ms v steps.2 (word_after t.core m word) sound' (moved word t m u steps.1 sound sound' h))
+
+holds : (t : Topic) (moves : List Move) (u : Topic) (steps : Moves t moves u) (word : Word) → IsSoundTopic t → HoldsAt t word → HoldsAt u (word_by t moves u steps word)
+holds t [] u steps word sound h = same_topic word t u steps h
+holds t (m ∷ ms) v steps word sound h =
+    let u = steps.0 in
+    let sound' = move_sound t m u steps.1 sound in
+    holds u ms v steps.2 (word_after t.core m word) sound' (moved word t m u steps.1 sound sound' h)
+
+quiet_holds : (t : Topic) → IsQuiet t → HoldsAt t nothing_yet
+quiet_holds t quiet = subst (λ (qs : List SessionReplies). Holds t.core.subs.changes t.kept qs nothing_yet) (sym quiet.queues) (record { turns = λ who. tt; given = tt })
+
+pub word_kept : (t : Topic) (moves : List Move) (u : Topic) (steps : Moves t moves u) → IsQuiet t → IsSoundTopic t → WordIsKept t moves u steps
+word_kept t moves u steps quiet sound =
+    let h = quiet_holds t quiet in
+    let end = holds t moves u steps nothing_yet sound h in
+    record {
+      in_turn = turns t moves u steps nothing_yet sound h;
+      kept = to_each (Lasts u.core.subs.changes u.kept) (IsKept u.kept) (λ p is. lasts_first u.core.subs.changes u.kept p is) (word_by t moves u steps nothing_yet).given end.given;
+    }

@@ -1,0 +1,199 @@
+-- What the answers to commands promise of a topic's subscriptions, and which of these promises were told.
+use Rattle.std.specs.Prelude.{◌≡◌, ◌⊎◌, ℕ, ◌+◌, Bool, true, false, cond, not, nat_eq, Option, Some, None, List, [], ◌∷◌, ◌++◌, filter, map}
+use Rattle.std.specs.List.{find}
+use Rattle.std.specs.Option.{option_map}
+use Rattle.std.specs.Str.{bytes_eq}
+use Rattle.std.specs.FinSet as set
+use Rattle.std.specs.FinMap as kept_map
+use Rattle.cursor.specs.Positions.{Positions, Has, below}
+use Rattle.commands.specs.declared.consuming.AckType.{AckType}
+use Rattle.commands.specs.declared.consuming.AckType.TheVariants.{Individual, Cumulative}
+use Rattle.commands.specs.declared.reply.Reply.{Reply}
+use Rattle.commands.specs.declared.reply.Reply.TheVariants.{Connected, ProducerSuccess, SendReceipt, SendError, Message, Success, Error, AckResponse, Pong}
+use Rattle.records.specs.Maps.{Kept}
+use Rattle.reply_queues.specs.Replies.{refused}
+use Rattle.subscriptions.specs.State.{Subscription}
+use Rattle.subscriptions.specs.Steps.{is_on}
+use Rattle.subscriptions.specs.Progress.{listed}
+use Rattle.topic_core.specs.declared.command.Ack.{Ack}
+use Rattle.topic_core.specs.declared.command.Answer.{Answer}
+use Rattle.topic_core.specs.declared.command.Answer.TheVariants.{Now, Later, Nothing, NoMemory}
+use Rattle.topic_core.specs.declared.command.TopicCommand.{TopicCommand}
+use Rattle.topic_core.specs.declared.command.TopicCommand.TheVariants as asked
+use Rattle.topic_core.specs.Core.{Core, Topic}
+use Rattle.topic_core.specs.Steps.{key_of, position_at, receipt}
+use Rattle.node.specs.Moves.{Handed, Move, Command, Tell, Lose, Grant, Deliver, Miss, Leave, Flush, Reopen, Crash, Moves}
+
+-- the subscription of this name is there, and these positions are acknowledged on it
+pub record Promise : Type 0 where
+  pub name : List ℕ
+  pub acked : Positions
+
+-- durable subscriptions keep a promise
+pub record IsKept (kept : Kept) (promise : Promise) : Type 0 where
+  pub acked : Positions
+  pub there : kept_map.get kept promise.name ≡ Some acked
+  pub each : (i : ℕ) → Has promise.acked i → Has acked i
+
+-- the positions that an ACK acknowledges; a cumulative one is of all up to the one that it names
+abbrev pub acked_by : AckType → List ℕ → Positions
+acked_by Individual positions = listed positions
+acked_by Cumulative [] = set.empty
+acked_by Cumulative (position ∷ positions) = below (position + 1)
+
+abbrev pub positions_of : ℕ → Ack → List ℕ
+positions_of per_ledger ack = map (λ id. position_at per_ledger id) ack.ids
+
+-- What an accepted command's answer promises: of a SUBSCRIBE that the subscription is there, of an ACK that its positions
+-- are acknowledged on the consumer's subscription, and of other commands nothing.
+abbrev pub promise_of : Core → ℕ → TopicCommand → Option Promise
+promise_of t who (asked.Producer id request name) = None
+promise_of t who (asked.Send send) = None
+promise_of t who (asked.Subscribe subscribe) = Some (record { name = subscribe.subscription; acked = set.empty })
+promise_of t who (asked.Ack ack) =
+    option_map (λ (s : Subscription). record { name = s.name; acked = acked_by ack.ack_type (positions_of t.per_ledger ack) })
+    (find (is_on (key_of who ack.consumer_id)) t.subs.subs)
+promise_of t who (asked.CloseProducer close) = None
+promise_of t who (asked.Unsubscribe unsubscribe) = None
+
+-- the subscription that an accepted command removes
+abbrev pub removed_by : Core → ℕ → TopicCommand → Option (List ℕ)
+removed_by t who (asked.Producer id request name) = None
+removed_by t who (asked.Send send) = None
+removed_by t who (asked.Subscribe subscribe) = None
+removed_by t who (asked.Ack ack) = None
+removed_by t who (asked.CloseProducer close) = None
+removed_by t who (asked.Unsubscribe unsubscribe) = option_map (λ (s : Subscription). s.name) (find (is_on (key_of who unsubscribe.consumer_id)) t.subs.subs)
+
+-- the reply to a command whose answer awaits a flush, where it has one
+abbrev pub ack_reply : ℕ → Option ℕ → Option Reply
+ack_reply consumer None = None
+ack_reply consumer (Some request) = Some (AckResponse consumer None request)
+
+abbrev pub reply_to : Core → TopicCommand → Option Reply
+reply_to t (asked.Producer id request name) = None
+reply_to t (asked.Send send) = Some (receipt t send.producer_id send.sequence_id)
+reply_to t (asked.Subscribe subscribe) = Some (Success subscribe.request_id)
+reply_to t (asked.Ack ack) = ack_reply ack.consumer_id ack.request_id
+reply_to t (asked.CloseProducer close) = Some (Success close.request_id)
+reply_to t (asked.Unsubscribe unsubscribe) = Some (Success unsubscribe.request_id)
+
+-- an answer that a session is owed, and what it promises
+pub record Owed : Type 0 where
+  pub session : ℕ
+  pub reply : Option Reply
+  pub promise : Option Promise
+
+-- what is owed, the earliest first, and the promises that were told
+pub record Word : Type 0 where
+  pub owed : List Owed
+  pub given : List Promise
+
+abbrev pub nothing_yet : Word
+nothing_yet = record { owed = []; given = [] }
+
+-- a promise of a subscription that is removed counts no more
+abbrev pub is_of : List ℕ → Promise → Bool
+is_of name promise = bytes_eq promise.name name
+
+abbrev pub unless_of : List ℕ → Option Promise → Option Promise
+unless_of name None = None
+unless_of name (Some promise) = cond (is_of name promise) None (Some promise)
+
+abbrev pub released : Option (List ℕ) → Word → Word
+released None word = word
+released (Some name) word = record {
+  owed = map (λ (o : Owed). record o { promise = unless_of name o.promise }) word.owed;
+  given = filter (λ promise. not (is_of name promise)) word.given;
+}
+
+abbrev pub with_owed : Owed → Word → Word
+with_owed one word = record word { owed = word.owed ++ one ∷ [] }
+
+-- the first that a session is owed
+abbrev pub is_to : ℕ → Owed → Bool
+is_to who o = nat_eq o.session who
+
+abbrev pub first_owed : ℕ → List Owed → Option Owed
+first_owed who owed = find (is_to who) owed
+
+abbrev pub without_first : ℕ → List Owed → List Owed
+without_first who [] = []
+without_first who (o ∷ owed) = cond (is_to who o) owed (o ∷ without_first who owed)
+
+-- the reply tells that a command was accepted
+abbrev pub is_acceptance : Reply → Bool
+is_acceptance Connected = false
+is_acceptance (ProducerSuccess request_id name) = false
+is_acceptance (SendReceipt producer_id sequence_id id) = false
+is_acceptance (SendError producer_id sequence_id error) = false
+is_acceptance (Message consumer_id id redelivery_count) = false
+is_acceptance (Success request_id) = true
+is_acceptance (Error request_id error) = false
+is_acceptance (AckResponse consumer_id None request_id) = true
+is_acceptance (AckResponse consumer_id (Some error) request_id) = false
+is_acceptance Pong = false
+
+abbrev pub promised : Option Promise → List Promise
+promised None = []
+promised (Some promise) = promise ∷ []
+
+abbrev pub promised_by : Option Owed → List Promise
+promised_by None = []
+promised_by (Some o) = promised o.promise
+
+-- the first answer that a session is owed is told: its promise counts from now on, where the command was accepted
+abbrev pub told : Handed → Word → Word
+told handed word = record {
+  owed = without_first handed.session word.owed;
+  given = cond (is_acceptance handed.reply) (word.given ++ promised_by (first_owed handed.session word.owed)) word.given;
+}
+
+-- what a command's answer adds
+abbrev pub answered : Core → ℕ → TopicCommand → Answer → Word → Word
+answered t who command (Now reply) word = word
+answered t who command Later word = with_owed (record { session = who; reply = reply_to t command; promise = promise_of t who command }) (released (removed_by t who command) word)
+answered t who command Nothing word = word
+answered t who command NoMemory word = word
+
+abbrev pub word_after : Core → Move → Word → Word
+word_after t (Command who command answer) word = answered t who command answer word
+word_after t (Tell handed) word = told handed word
+word_after t (Lose handed) word = record word { owed = without_first handed.session word.owed }
+word_after t (Grant who id permits result) word = word
+word_after t (Deliver id handed) word = word
+word_after t (Miss id handed) word = word
+word_after t (Leave who) word = record word { owed = filter (λ o. not (is_to who o)) word.owed }
+word_after t (Flush result) word = word
+word_after t (Reopen result) word = word
+word_after t Crash word = record word { owed = [] }
+
+-- what was told on moves, and what is owed after them
+abbrev pub word_by : (old : Topic) (moves : List Move) (new : Topic) → Moves old moves new → Word → Word
+word_by old [] new steps word = word
+word_by old (move ∷ moves) new steps word = word_by steps.0 moves new steps.2 (word_after old.core move word)
+
+-- a reply that a session takes is the first that it is owed: as it was promised, or as a failure makes it
+pub record IsInTurn (word : Word) (handed : Handed) : Type 0 where
+  pub owed : Owed
+  pub reply : Reply
+  pub first : first_owed handed.session word.owed ≡ Some owed
+  pub answers : owed.reply ≡ Some reply
+  pub same : (handed.reply ≡ reply) ⊎ (handed.reply ≡ refused reply)
+
+abbrev pub InTurn : Word → Move → Type 0
+InTurn word (Command who command answer) = Unit {0}
+InTurn word (Tell handed) = IsInTurn word handed
+InTurn word (Lose handed) = IsInTurn word handed
+InTurn word (Grant who id permits result) = Unit {0}
+InTurn word (Deliver id handed) = Unit {0}
+InTurn word (Miss id handed) = Unit {0}
+InTurn word (Leave who) = Unit {0}
+InTurn word (Flush result) = Unit {0}
+InTurn word (Reopen result) = Unit {0}
+InTurn word Crash = Unit {0}
+
+-- each reply of a topic's moves comes in its turn
+abbrev pub AreInTurn : (old : Topic) (moves : List Move) (new : Topic) → Moves old moves new → Word → Type 0
+AreInTurn old [] new steps word = Unit {0}
+AreInTurn old (move ∷ moves) new steps word = InTurn word move × AreInTurn steps.0 moves new steps.2 (word_after old.core move word)
