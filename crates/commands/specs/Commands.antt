@@ -5,12 +5,13 @@ use Rattle.commands.specs.declared.fault.CommandFault.{CommandFault}
 use Rattle.commands.specs.declared.command.Command.{Command}
 use Rattle.commands.specs.declared.command.Command.TheVariants as command
 use Rattle.commands.specs.declared.command.CommandType.{CommandType}
-use Rattle.commands.specs.declared.command.CommandType.TheVariants.{Connect, Subscribe, Producer, Send, Ack, Flow, Unsubscribe, CloseProducer, Ping, Pong}
+use Rattle.commands.specs.declared.command.CommandType.TheVariants.{Connect, Subscribe, Producer, Send, Ack, Flow, Unsubscribe, CloseProducer, CloseConsumer, Ping, Pong, RedeliverUnacknowledgedMessages}
 use Rattle.commands.specs.Reading.{◌>>=◌, required, present}
 use Rattle.commands.specs.Message.{message_fields, u64_field, message_field}
 use Rattle.commands.specs.Connection.{connect_of, empty_of}
 use Rattle.commands.specs.Producing.{producer_of, send_of, close_producer_of}
 use Rattle.commands.specs.Consuming.{subscribe_of, ack_of, flow_of, unsubscribe_of}
+use Rattle.commands.specs.GivingBack.{close_consumer_of, redeliver_of}
 pub use Rattle.commands.specs.Metadata.{size_at, entry_of}
 
 -- the client commands by their numbers
@@ -24,8 +25,10 @@ command_type k =
     else if k == 11 then Some Flow
     else if k == 12 then Some Unsubscribe
     else if k == 15 then Some CloseProducer
+    else if k == 16 then Some CloseConsumer
     else if k == 18 then Some Ping
     else if k == 19 then Some Pong
+    else if k == 20 then Some RedeliverUnacknowledgedMessages
     else None
 
 -- the command of this type, by its field's bytes
@@ -38,8 +41,10 @@ command_in Ack body = ack_of body >>= λ c. Ok (command.Ack c)
 command_in Flow body = flow_of body >>= λ c. Ok (command.Flow c)
 command_in Unsubscribe body = unsubscribe_of body >>= λ c. Ok (command.Unsubscribe c)
 command_in CloseProducer body = close_producer_of body >>= λ c. Ok (command.CloseProducer c)
+command_in CloseConsumer body = close_consumer_of body >>= λ c. Ok (command.CloseConsumer c)
 command_in Ping body = empty_of body >>= λ c. Ok command.Ping
 command_in Pong body = empty_of body >>= λ c. Ok command.Pong
+command_in RedeliverUnacknowledgedMessages body = redeliver_of body >>= λ c. Ok (command.RedeliverUnacknowledgedMessages c)
 
 -- the value of field k where the last type k is a client command's; else the number k alone
 abbrev pub command_by : ℕ → List Field → Option CommandType → Result Command CommandFault

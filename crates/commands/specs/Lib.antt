@@ -6,6 +6,7 @@ pub mod Producing
 pub mod MessageIds
 pub mod KeyShared
 pub mod Consuming
+pub mod GivingBack
 pub mod Metadata
 pub mod Commands
 pub mod Replies

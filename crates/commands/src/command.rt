@@ -7,6 +7,7 @@ use crate::consuming::{
     Ack, Flow, Subscribe, Unsubscribe, read_ack, read_flow, read_subscribe, read_unsubscribe,
 };
 use crate::fault::CommandFault;
+use crate::giving_back::{CloseConsumer, Redeliver, read_close_consumer, read_redeliver};
 use crate::kinds::required;
 use crate::message::Message;
 use crate::producing::{
@@ -25,8 +26,10 @@ pub enum Command {
     Flow(Flow),
     Unsubscribe(Unsubscribe),
     CloseProducer(CloseProducer),
+    CloseConsumer(CloseConsumer),
     Ping,
     Pong,
+    RedeliverUnacknowledgedMessages(Redeliver),
     /// A command of another type, of which nothing but the type is read.
     Other(u64),
 }
@@ -42,8 +45,10 @@ enum CommandType {
     Flow,
     Unsubscribe,
     CloseProducer,
+    CloseConsumer,
     Ping,
     Pong,
+    RedeliverUnacknowledgedMessages,
 }
 
 fn command_type(number: u64) -> Option<CommandType>
@@ -58,8 +63,10 @@ fn command_type(number: u64) -> Option<CommandType>
         11 => Some(CommandType::Flow),
         12 => Some(CommandType::Unsubscribe),
         15 => Some(CommandType::CloseProducer),
+        16 => Some(CommandType::CloseConsumer),
         18 => Some(CommandType::Ping),
         19 => Some(CommandType::Pong),
+        20 => Some(CommandType::RedeliverUnacknowledgedMessages),
         _ => None,
     }
 }
@@ -77,6 +84,7 @@ fn read_body(alloc: Global, kind: CommandType, body: &[u8]) -> Result<Command, C
         CommandType::Flow => Ok(Command::Flow(read_flow(body)?)),
         CommandType::Unsubscribe => Ok(Command::Unsubscribe(read_unsubscribe(body)?)),
         CommandType::CloseProducer => Ok(Command::CloseProducer(read_close_producer(body)?)),
+        CommandType::CloseConsumer => Ok(Command::CloseConsumer(read_close_consumer(body)?)),
         CommandType::Ping => {
             read_empty(body)?;
             Ok(Command::Ping)
@@ -84,6 +92,9 @@ fn read_body(alloc: Global, kind: CommandType, body: &[u8]) -> Result<Command, C
         CommandType::Pong => {
             read_empty(body)?;
             Ok(Command::Pong)
+        }
+        CommandType::RedeliverUnacknowledgedMessages => {
+            Ok(Command::RedeliverUnacknowledgedMessages(read_redeliver(alloc, body)?))
         }
     }
 }

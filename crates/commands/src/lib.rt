@@ -8,6 +8,7 @@ mod connection;
 mod consuming;
 mod content;
 mod fault;
+mod giving_back;
 mod key_shared;
 mod kinds;
 mod laws;
@@ -28,6 +29,7 @@ pub use consuming::{
     Ack, AckType, Flow, InitialPosition, Subscribe, SubscriptionType, Unsubscribe,
 };
 pub use fault::CommandFault;
+pub use giving_back::{CloseConsumer, Redeliver};
 pub use ids::{MessageId, MessageIdData};
 pub use key_shared::{IntRange, KeySharedMeta, KeySharedMode};
 pub use laws::{reads_commands, reads_entries, reads_occurrences, spells_fields, tells_replies};

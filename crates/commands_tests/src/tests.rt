@@ -1,4 +1,5 @@
 mod consuming;
+mod giving_back;
 mod plain;
 
 use commands::{
@@ -73,8 +74,10 @@ fn is_connect(
         | Command::Flow(_)
         | Command::Unsubscribe(_)
         | Command::CloseProducer(_)
+        | Command::CloseConsumer(_)
         | Command::Ping
         | Command::Pong
+        | Command::RedeliverUnacknowledgedMessages(_)
         | Command::Other(_) => { Ok(false) }
     }
 }
@@ -89,8 +92,10 @@ fn sent(alloc: Global, text: &str) -> Result<Option<(u64, u64, i32)>, CommandFau
         | Command::Flow(_)
         | Command::Unsubscribe(_)
         | Command::CloseProducer(_)
+        | Command::CloseConsumer(_)
         | Command::Ping
         | Command::Pong
+        | Command::RedeliverUnacknowledgedMessages(_)
         | Command::Other(_) => { Ok(None) }
     }
 }
@@ -105,8 +110,10 @@ fn closed(alloc: Global, text: &str) -> Result<Option<CloseProducer>, CommandFau
         | Command::Ack(_)
         | Command::Flow(_)
         | Command::Unsubscribe(_)
+        | Command::CloseConsumer(_)
         | Command::Ping
         | Command::Pong
+        | Command::RedeliverUnacknowledgedMessages(_)
         | Command::Other(_) => { Ok(None) }
     }
 }
@@ -124,7 +131,9 @@ fn kind(alloc: Global, text: &str) -> Result<Option<u64>, CommandFault> {
         | Command::Ack(_)
         | Command::Flow(_)
         | Command::Unsubscribe(_)
-        | Command::CloseProducer(_) => { Ok(None) }
+        | Command::CloseProducer(_)
+        | Command::CloseConsumer(_)
+        | Command::RedeliverUnacknowledgedMessages(_) => { Ok(None) }
     }
 }
 
@@ -148,8 +157,10 @@ fn is_producer(
         | Command::Flow(_)
         | Command::Unsubscribe(_)
         | Command::CloseProducer(_)
+        | Command::CloseConsumer(_)
         | Command::Ping
         | Command::Pong
+        | Command::RedeliverUnacknowledgedMessages(_)
         | Command::Other(_) => { Ok(false) }
     }
 }
@@ -204,8 +215,8 @@ fn types(rt: HostRuntime) -> Result<(), Fail> {
         kind(alloc, "08 ff ff ff ff ff ff ff ff ff 01")?,
         Some(u64::MAX)
     );
-    let close_consumer = "08 10 82 01 04 08 02 10 08";
-    assert_eq!(rt; kind(alloc, close_consumer)?, Some(16));
+    let lookup = "08 17 ba 01 05 0a 01 74 10 07";
+    assert_eq!(rt; kind(alloc, lookup)?, Some(23));
     Ok(())
 }
 

@@ -5,7 +5,7 @@ use Rattle.std.proofs.lemmas.List.{take-append-drop, length-take-le}
 use Rattle.std.proofs.Math.Seq.{take-append_seam, drop-append_seam}
 use Rattle.std.specs.Int.{w32, from_be_bytes}
 use Rattle.commands.specs.declared.command.Command.{Command}
-use Rattle.commands.specs.declared.command.Command.TheVariants.{Connect, Subscribe, Producer, Send, Ack, Flow, Unsubscribe, CloseProducer, Ping, Pong, Other}
+use Rattle.commands.specs.declared.command.Command.TheVariants.{Connect, Subscribe, Producer, Send, Ack, Flow, Unsubscribe, CloseProducer, CloseConsumer, Ping, Pong, RedeliverUnacknowledgedMessages, Other}
 use Rattle.commands.specs.declared.metadata.MessageMeta.{MessageMeta}
 use Rattle.commands.specs.declared.fault.CommandFault.{CommandFault}
 use Rattle.commands.specs.Metadata.{size_at, entry_of}
@@ -197,8 +197,10 @@ entry-from (Ack c) bytes entry h = nothing-from bytes entry h
 entry-from (Flow c) bytes entry h = nothing-from bytes entry h
 entry-from (Unsubscribe c) bytes entry h = nothing-from bytes entry h
 entry-from (CloseProducer c) bytes entry h = nothing-from bytes entry h
+entry-from (CloseConsumer c) bytes entry h = nothing-from bytes entry h
 entry-from Ping bytes entry h = nothing-from bytes entry h
 entry-from Pong bytes entry h = nothing-from bytes entry h
+entry-from (RedeliverUnacknowledgedMessages c) bytes entry h = nothing-from bytes entry h
 
 -- and what stands there is read
 pub entry-to : (command : Command) (bytes : List ℕ) (entry : FrameEntry) → IsEntry command bytes entry → entry_behind command bytes ≡ Ok entry
@@ -212,8 +214,10 @@ entry-to (Ack c) bytes entry h = nothing-to bytes entry h
 entry-to (Flow c) bytes entry h = nothing-to bytes entry h
 entry-to (Unsubscribe c) bytes entry h = nothing-to bytes entry h
 entry-to (CloseProducer c) bytes entry h = nothing-to bytes entry h
+entry-to (CloseConsumer c) bytes entry h = nothing-to bytes entry h
 entry-to Ping bytes entry h = nothing-to bytes entry h
 entry-to Pong bytes entry h = nothing-to bytes entry h
+entry-to (RedeliverUnacknowledgedMessages c) bytes entry h = nothing-to bytes entry h
 
 -- one fault alone can show there
 pub entry-fault : (command : Command) (bytes : List ℕ) (fault : Fault) → entry_behind command bytes ≡ Err fault → fault ≡ BadPayload
@@ -227,5 +231,7 @@ entry-fault (Ack c) bytes fault h = nothing-fault bytes fault h
 entry-fault (Flow c) bytes fault h = nothing-fault bytes fault h
 entry-fault (Unsubscribe c) bytes fault h = nothing-fault bytes fault h
 entry-fault (CloseProducer c) bytes fault h = nothing-fault bytes fault h
+entry-fault (CloseConsumer c) bytes fault h = nothing-fault bytes fault h
 entry-fault Ping bytes fault h = nothing-fault bytes fault h
 entry-fault Pong bytes fault h = nothing-fault bytes fault h
+entry-fault (RedeliverUnacknowledgedMessages c) bytes fault h = nothing-fault bytes fault h

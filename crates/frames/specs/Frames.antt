@@ -2,7 +2,7 @@
 use Rattle.std.specs.Prelude.{◌≡◌, ◌≤◌, ℕ, ◌+◌, List, [], ◌∷◌, ◌++◌, length, take, Ok}
 use Rattle.std.specs.Int.{w32, from_be_bytes, to_be_bytes}
 use Rattle.commands.specs.declared.command.Command.{Command}
-use Rattle.commands.specs.declared.command.Command.TheVariants.{Connect, Subscribe, Producer, Send, Ack, Flow, Unsubscribe, CloseProducer, Ping, Pong, Other}
+use Rattle.commands.specs.declared.command.Command.TheVariants.{Connect, Subscribe, Producer, Send, Ack, Flow, Unsubscribe, CloseProducer, CloseConsumer, Ping, Pong, RedeliverUnacknowledgedMessages, Other}
 use Rattle.commands.specs.declared.metadata.MessageMeta.{MessageMeta}
 use Rattle.commands.specs.Commands.{command_of}
 use Rattle.commands.specs.Metadata.{meta_of}
@@ -60,8 +60,10 @@ IsEntry (Ack c) behind entry = IsNothing behind entry
 IsEntry (Flow c) behind entry = IsNothing behind entry
 IsEntry (Unsubscribe c) behind entry = IsNothing behind entry
 IsEntry (CloseProducer c) behind entry = IsNothing behind entry
+IsEntry (CloseConsumer c) behind entry = IsNothing behind entry
 IsEntry Ping behind entry = IsNothing behind entry
 IsEntry Pong behind entry = IsNothing behind entry
+IsEntry (RedeliverUnacknowledgedMessages c) behind entry = IsNothing behind entry
 
 -- the bytes are this frame, all of them
 pub record IsFrame (bytes : List ℕ) (frame : Frame) : Type 0 where

@@ -4,7 +4,7 @@ use Rattle.std.specs.Bool.{MatchBool}
 use Rattle.std.specs.Result.{is_ok}
 use Rattle.std.proofs.Common.{refl, ap}
 use Rattle.commands.specs.declared.command.Command.{Command}
-use Rattle.commands.specs.declared.command.Command.TheVariants.{Connect, Subscribe, Producer, Send, Ack, Flow, Unsubscribe, CloseProducer, Ping, Pong, Other}
+use Rattle.commands.specs.declared.command.Command.TheVariants.{Connect, Subscribe, Producer, Send, Ack, Flow, Unsubscribe, CloseProducer, CloseConsumer, Ping, Pong, RedeliverUnacknowledgedMessages, Other}
 use Rattle.commands.specs.declared.fault.CommandFault.{CommandFault}
 use Rattle.commands.specs.declared.metadata.MessageMeta.{MessageMeta}
 use Rattle.commands.specs.declared.fault.CommandFault.TheVariants as command
@@ -78,8 +78,10 @@ entry_behind (Ack c) behind = nothing_of behind
 entry_behind (Flow c) behind = nothing_of behind
 entry_behind (Unsubscribe c) behind = nothing_of behind
 entry_behind (CloseProducer c) behind = nothing_of behind
+entry_behind (CloseConsumer c) behind = nothing_of behind
 entry_behind Ping behind = nothing_of behind
 entry_behind Pong behind = nothing_of behind
+entry_behind (RedeliverUnacknowledgedMessages c) behind = nothing_of behind
 
 -- a frame whose sizes agree with its bytes
 unfoldable pub frame_of : List ℕ → Result Frame Fault

@@ -115,8 +115,10 @@ fn entry_behind(
         | Command::Flow(_)
         | Command::Unsubscribe(_)
         | Command::CloseProducer(_)
+        | Command::CloseConsumer(_)
         | Command::Ping
-        | Command::Pong => nothing(&frame[start..]),
+        | Command::Pong
+        | Command::RedeliverUnacknowledgedMessages(_) => nothing(&frame[start..]),
     }
 }
 

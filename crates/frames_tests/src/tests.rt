@@ -78,8 +78,10 @@ fn is_connect(frame: &Frame) -> bool {
         | Command::Flow(_)
         | Command::Unsubscribe(_)
         | Command::CloseProducer(_)
+        | Command::CloseConsumer(_)
         | Command::Ping
         | Command::Pong
+        | Command::RedeliverUnacknowledgedMessages(_)
         | Command::Other(_) => false,
     }
 }
@@ -112,7 +114,9 @@ fn is_plain(frame: &Frame, kind: u8, behind: &[u8]) -> bool {
         Command::Flow(_) => kind == 11,
         Command::Unsubscribe(_) => kind == 12,
         Command::CloseProducer(_) => kind == 15,
+        Command::CloseConsumer(_) => kind == 16,
         Command::Ping => kind == 18,
+        Command::RedeliverUnacknowledgedMessages(_) => kind == 20,
         Command::Other(other) => *other == u64::from(kind),
         Command::Producer(_) | Command::Pong => false,
     };
@@ -260,6 +264,34 @@ fn parts_behind_close_producer_and_unsubscribe(rt: HostRuntime) -> Result<(), Fa
         &rt,
         alloc,
         b"\x00\x00\x00\x0d\x00\x00\x00\x08\x08\x0c\x62\x04\x08\x02\x10\x08\x00",
+        fault,
+    )
+}
+
+#[test]
+fn close_consumer_and_redeliver(rt: HostRuntime) -> Result<(), Fail> {
+    let stream =
+        b"\x00\x00\x00\x0d\x00\x00\x00\x09\x08\x10\x82\x01\x04\x08\x02\x10\x08\x00\x00\x00\x0b\x00\x00\x00\x07\x08\x14\xa2\x01\x02\x08\x02";
+    let (frames, read) = read_both_ways(&rt, rt.alloc(), stream)?;
+    assert_eq!(rt; read, Ok(()));
+    assert_eq!(rt; frames.len(), 2);
+    are_plain(&rt, frames.as_slice(), stream, &[])
+}
+
+#[test]
+fn parts_behind_close_consumer_and_redeliver(rt: HostRuntime) -> Result<(), Fail> {
+    let alloc = rt.alloc();
+    let fault = Err(Fault::BadPayload);
+    ends(
+        &rt,
+        alloc,
+        b"\x00\x00\x00\x0e\x00\x00\x00\x09\x08\x10\x82\x01\x04\x08\x02\x10\x08\x00",
+        fault,
+    )?;
+    ends(
+        &rt,
+        alloc,
+        b"\x00\x00\x00\x0c\x00\x00\x00\x07\x08\x14\xa2\x01\x02\x08\x02\x00",
         fault,
     )
 }

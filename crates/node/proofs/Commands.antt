@@ -12,6 +12,8 @@ use Rattle.topic_core.specs.declared.command.Subscribe.{Subscribe}
 use Rattle.topic_core.specs.declared.command.Ack.{Ack}
 use Rattle.topic_core.specs.declared.command.CloseProducer.{CloseProducer}
 use Rattle.topic_core.specs.declared.command.Unsubscribe.{Unsubscribe}
+use Rattle.topic_core.specs.declared.command.CloseConsumer.{CloseConsumer}
+use Rattle.topic_core.specs.declared.command.Redeliver.{Redeliver}
 use Rattle.topic_core.specs.Core.{Core}
 use Rattle.reply_queues.specs.Replies.{queued}
 use Rattle.holds.specs.declared.consumer.ConsumerKey.{ConsumerKey}
@@ -19,7 +21,7 @@ use Rattle.subscriptions.specs.State.{Subscriptions}
 use Rattle.subscriptions.specs.Steps as subscriptions
 use Rattle.subscriptions.specs.declared.consumer.TooManyPermits.{TooManyPermits}
 use Rattle.topic_core.specs.Dispatch.{sent}
-use Rattle.topic_core.specs.Steps.{Outcome, GrantStep, key_of, CoreStep, Meets, refused_or, first_standing, producer_refusals, send_refusals, subscribe_refusal, attach_refusal, ack_refusals, ack_refused, ack_accepted, close_refusals, closing, unsubscribe_refusal, unsubscribed, with_producer, accepted, subscribed, bytes_of}
+use Rattle.topic_core.specs.Steps.{Outcome, GrantStep, key_of, CoreStep, Meets, refused_or, first_standing, producer_refusals, send_refusals, subscribe_refusal, attach_refusal, ack_refusals, ack_refused, ack_accepted, close_refusals, closing, unsubscribe_refusal, unsubscribed, detach_refusals, detached, asked_back, with_producer, accepted, subscribed, bytes_of}
 use Rattle.topic_core.proofs.Sends.{takes_entry}
 use Rattle.topic_core.proofs.Subscribing.{accepts}
 use Rattle.topic_core.proofs.Closings.{close-works, unsubscribe-works}
@@ -167,6 +169,19 @@ unsubscribe_core a t who unsubscribe u step = awaits_by who _ t a u
 granted_by : (failed : Bool) (who : ℕ) (t : Core) (subs : Subscriptions) → Awaits who t (cond failed t (record t { subs = subs }))
 granted_by true who t subs = awaits_nothing who t
 granted_by false who t subs = record { per_ledger = refl; committed = refl; waiting = refl; handed = refl; failed = refl; queues = inl refl }
+
+-- a consumer is detached at once
+pub detach_core : (a : Answer) (t : Core) (who : ℕ) (close : CloseConsumer) (u : Core) → CoreStep t who (asked.CloseConsumer close) a u → Awaits who t u
+detach_core a t who close u step = awaits_by who _ t a u
+    (refused_awaits who (first_standing (detach_refusals t who close)) (λ error. Now (Error close.request_id error)) t (record { answer = Now (Success close.request_id); core = detached t who close })
+    (λ none. record { per_ledger = refl; committed = refl; waiting = refl; handed = refl; failed = refl; queues = inl refl }))
+    step
+
+-- what a consumer gives back is free at once
+pub redeliver_core : (a : Answer) (t : Core) (who : ℕ) (redeliver : Redeliver) (u : Core) → CoreStep t who (asked.Redeliver redeliver) a u → Awaits who t u
+redeliver_core a t who redeliver u step = awaits_by who _ t a u
+    (granted_by t.failed who t (subscriptions.redelivered t.subs (key_of who redeliver.consumer_id) (asked_back t.per_ledger t.committed redeliver.ids)))
+    step
 
 -- so do permits
 pub granted_core : (result : Result (Unit {0}) TooManyPermits) (t : Core) (who id permits : ℕ) (u : Core) → GrantStep t who id permits result u → Awaits who t u

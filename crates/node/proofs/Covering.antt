@@ -15,7 +15,7 @@ use Rattle.topic_core.specs.Crashes.{ReopenStep}
 use Rattle.node.specs.Moves.{Handed, Move, Command, Tell, Lose, Grant, Deliver, Miss, Leave, Flush, Reopen, Crash, MoveStep, Moves, Takes, Sends, told_on, told_by, is_crash}
 use Rattle.node.specs.Telling.{receipts_told}
 use Rattle.node.proofs.Carrying.{Respected, respects}
-use Rattle.node.proofs.Commands.{producer_core, refused_core, silent_core, accepted_core, subscribe_core, ack_core, close_core, unsubscribe_core, granted_core}
+use Rattle.node.proofs.Commands.{producer_core, refused_core, silent_core, accepted_core, subscribe_core, ack_core, close_core, unsubscribe_core, detach_core, redeliver_core, granted_core}
 use Rattle.node.proofs.Endings.{flush_cases, reopen_cases}
 use Rattle.node.proofs.Sound.{moves_sound}
 
@@ -43,6 +43,8 @@ command_counts t who (asked.Subscribe subscribe) a u step = omega (arith, (subsc
 command_counts t who (asked.Ack ack) a u step = omega (arith, (ack_core a t who ack u step).handed)
 command_counts t who (asked.CloseProducer close) a u step = omega (arith, (close_core a t who close u step).handed)
 command_counts t who (asked.Unsubscribe unsubscribe) a u step = omega (arith, (unsubscribe_core a t who unsubscribe u step).handed)
+command_counts t who (asked.CloseConsumer close) a u step = omega (arith, (detach_core a t who close u step).handed)
+command_counts t who (asked.Redeliver redeliver) a u step = omega (arith, (redeliver_core a t who redeliver u step).handed)
 
 takes_counts : (t u : Topic) (h : Handed) → Takes t h u → u.core.handed ≡ t.core.handed + receipts_of h.reply
 takes_counts t u h takes = ap (λ (x : Topic). x.core.handed) takes.taken

@@ -15,7 +15,7 @@ use Rattle.node.specs.Moves.{Handed, outgoing, Move, Command, Tell, Lose, Grant,
 use Rattle.node.specs.Telling.{is_message}
 use Rattle.node.specs.Finding.{IsQuiet}
 use Rattle.node.specs.Delivering.{Delivers, DeliversEach}
-use Rattle.node.proofs.Commands.{Awaits, producer_core, refused_core, silent_core, accepted_core, subscribe_core, ack_core, close_core, unsubscribe_core, granted_core, sent_core}
+use Rattle.node.proofs.Commands.{Awaits, producer_core, refused_core, silent_core, accepted_core, subscribe_core, ack_core, close_core, unsubscribe_core, detach_core, redeliver_core, granted_core, sent_core}
 use Rattle.node.proofs.Endings.{flush_cases, reopen_cases, moves_grow}
 use Rattle.node.proofs.Owed.{AllOwed, queued_owed, due_owed, collected_owed, filter_owed, all_due_owed, all_refused_owed}
 use Rattle.node.proofs.Finding.{stays}
@@ -51,6 +51,8 @@ commanded t who (asked.Subscribe subscribe) a u s none = awaits who t u (subscri
 commanded t who (asked.Ack ack) a u s none = awaits who t u (ack_core a t who ack u s) none
 commanded t who (asked.CloseProducer close) a u s none = awaits who t u (close_core a t who close u s) none
 commanded t who (asked.Unsubscribe unsubscribe) a u s none = awaits who t u (unsubscribe_core a t who unsubscribe u s) none
+commanded t who (asked.CloseConsumer close) a u s none = awaits who t u (detach_core a t who close u s) none
+commanded t who (asked.Redeliver redeliver) a u s none = awaits who t u (redeliver_core a t who redeliver u s) none
 
 takes : (t u : Topic) (h : Handed) → Takes t h u → OwesNone t.core.queues → OwesNone u.core.queues
 takes t u h s none = subst (λ (x : Topic). OwesNone x.core.queues) (sym s.taken) (collected_owed IsNoMessage IsNoMessage h.session t.core.queues none)

@@ -16,7 +16,7 @@ use Rattle.topic_core.specs.Crashes.{TopicCrash, reopened}
 use Rattle.topic_core.proofs.Receipts.{all-append}
 use Rattle.node.specs.Moves.{Handed, Move, Command, Tell, Lose, Grant, Deliver, Miss, Leave, Flush, Reopen, Crash, MoveStep, Moves, Takes, told_on, told_by}
 use Rattle.node.specs.Finding.{Sent, sent_at, sent_by, sends_on, sends_by, IsLatest, Finds, FindsEach, IsPublished, IsQuiet}
-use Rattle.node.proofs.Commands.{Awaits, producer_core, refused_core, silent_core, accepted_core, subscribe_core, ack_core, close_core, unsubscribe_core, granted_core, sent_core}
+use Rattle.node.proofs.Commands.{Awaits, producer_core, refused_core, silent_core, accepted_core, subscribe_core, ack_core, close_core, unsubscribe_core, detach_core, redeliver_core, granted_core, sent_core}
 use Rattle.node.proofs.Endings.{flush_cases, reopen_cases, Reopened, Front, left_front, moves_grow}
 use Rattle.node.proofs.Owed.{same_handed, AllOwed, each_owed, queued_owed, due_owed, collected_owed, filter_owed, all_due_owed, all_refused_owed}
 
@@ -222,6 +222,8 @@ module _ (base : ℕ) (before : List Sent) where
   commanded t who (asked.Ack ack) a u s ledger o = awaits t u who (ack_core a t.core who ack u.core s) ledger o
   commanded t who (asked.CloseProducer close) a u s ledger o = awaits t u who (close_core a t.core who close u.core s) ledger o
   commanded t who (asked.Unsubscribe unsubscribe) a u s ledger o = awaits t u who (unsubscribe_core a t.core who unsubscribe u.core s) ledger o
+  commanded t who (asked.CloseConsumer close) a u s ledger o = awaits t u who (detach_core a t.core who close u.core s) ledger o
+  commanded t who (asked.Redeliver redeliver) a u s ledger o = awaits t u who (redeliver_core a t.core who redeliver u.core s) ledger o
 
   takes_reply : (t u : Topic) (h : Handed) → Takes t h u → Owes base before t.core t.ledger → KeepsAll t u
   takes_reply t u h takes o = still t u (collected t.core h.session h.reply)

@@ -8,6 +8,8 @@ use Rattle.commands.specs.declared.consuming.Subscribe.{Subscribe as Wanted}
 use Rattle.commands.specs.declared.consuming.Ack.{Ack as Acked}
 use Rattle.commands.specs.declared.consuming.Flow.{Flow as Given}
 use Rattle.commands.specs.declared.consuming.Unsubscribe.{Unsubscribe as Unwanted}
+use Rattle.commands.specs.declared.giving_back.CloseConsumer.{CloseConsumer as Detached}
+use Rattle.commands.specs.declared.giving_back.Redeliver.{Redeliver as Redelivered}
 use Rattle.commands.specs.declared.producing.CloseProducer.{CloseProducer as Closed}
 use Rattle.commands.specs.declared.reply.Reply.{Reply}
 use Rattle.commands.specs.declared.reply.Reply.TheVariants as reply
@@ -38,6 +40,7 @@ use Rattle.session.specs.Broker.{Broker, fresh, topic_at, with_topic, with_core,
 use Rattle.session.specs.Client.{Client, Play, plain, Says, SaysAlone, Answered, Ends, frame_of, left_if, left_if_ended}
 use Rattle.session.specs.Producing.{FoundStep, ProducerIn, own_refusals, with_live_producers, topic_of, sent_entry, send_command, SendIn, producer_command, CloseIn, close_command}
 use Rattle.session.specs.Consuming as consuming
+use Rattle.session.specs.GivingBack as giving_back
 use Rattle.session.specs.Working.{WorksCommand, Connects, FrameIn, FramesStep, FeedIn, connected_client, with_progress, ended_if}
 use Rattle.session.specs.Pumping.{Collects, Sends, FindsNoMemory, ServesEach, ServesAll, ServesIf, PumpIn}
 use Rattle.session.specs.declared.consumer_entry.ConsumerEntry.{ConsumerEntry}
@@ -125,6 +128,10 @@ now_is (topic_command.CloseProducer close) (reply.Error q e) h = record { no_rec
 now_is (topic_command.CloseProducer close) _ h = absurd h
 now_is (topic_command.Unsubscribe unsubscribe) (reply.Error q e) h = record { no_receipt = refl; no_message = refl }
 now_is (topic_command.Unsubscribe unsubscribe) _ h = absurd h
+now_is (topic_command.CloseConsumer close) (reply.Success q) h = record { no_receipt = refl; no_message = refl }
+now_is (topic_command.CloseConsumer close) (reply.Error q e) h = record { no_receipt = refl; no_message = refl }
+now_is (topic_command.CloseConsumer close) _ h = absurd h
+now_is (topic_command.Redeliver redeliver) _ h = absurd h
 
 answered : (old new : Play) (client : Client) (a : Answer) → client.number ≡ old.client.number → ((r : Reply) → a ≡ Now r → IsAtOnce r) → Unfolds old.client.number old.broker [] new.broker
     → Answered client old.out a new.client new.out → Plays old new
@@ -167,7 +174,7 @@ sends None (Some entry) old c new s = says_alone old (reply.SendError c.producer
 sends (Some topic) (Some entry) old c new s = asked old new old.client topic old.client.number (send_command c entry) s.answer refl s.step s.answered
 
 wanted : (f : Found) (old : Play) (c : Wanted) (new : Play) → consuming.FoundStep old c f new → Plays old new
-wanted (found.Topic number) old c new (inl s) = asked old new _ number old.client.number (consuming.subscribe_command c s.named) s.answer refl s.step s.answered
+wanted (found.Topic number) old c new (inl s) = asked old new _ number old.client.number (consuming.subscribe_command c s.mode s.named) s.answer refl s.step s.answered
 wanted (found.Topic number) old c new (inr s) = ends old new _ s
 wanted found.TooMany old c new s = says_alone old (reply.Error c.request_id TooManyRequests) new (record { no_receipt = refl; no_message = refl }) s
 wanted found.NoMemory old c new s = ends old new _ s
@@ -207,6 +214,14 @@ unsubscribes : (topic : Option ℕ) (old : Play) (c : Unwanted) (new : Play) →
 unsubscribes None old c new s = says_alone old (reply.Error c.request_id ConsumerNotFound) new (record { no_receipt = refl; no_message = refl }) s
 unsubscribes (Some topic) old c new s = asked old new old.client topic old.client.number (consuming.unsubscribe_command c) s.answer refl s.step s.answered
 
+closes_consumer : (topic : Option ℕ) (old : Play) (c : Detached) (new : Play) → giving_back.CloseConsumerIn topic old c new → Plays old new
+closes_consumer None old c new s = says_alone old (reply.Error c.request_id ConsumerNotFound) new (record { no_receipt = refl; no_message = refl }) s
+closes_consumer (Some topic) old c new s = asked old new old.client topic old.client.number (giving_back.close_consumer_command c) s.answer refl s.step s.answered
+
+redelivers : (topic : Option ℕ) (old : Play) (c : Redelivered) (new : Play) → giving_back.RedeliverIn topic old c new → Plays old new
+redelivers None old c new s = still_play old new s
+redelivers (Some topic) old c new s = asked old new old.client topic old.client.number (giving_back.redeliver_command c) s.answer refl s.step s.answered
+
 works : (c : Command) (old : Play) (entry : FrameEntry) (new : Play) → WorksCommand old c entry new → Plays old new
 works (command.Connect c) old entry new s = ends old new _ s
 works (command.Producer c) old entry new s =
@@ -219,6 +234,8 @@ works (command.Flow c) old entry new s = grants (consuming.topic_of old.client.c
 works (command.Ack c) old entry new s = acks (consuming.topic_of old.client.consumers c.consumer_id) old c new s
 works (command.CloseProducer c) old entry new s = closes (topic_of old.client.producers c.producer_id) old c new s
 works (command.Unsubscribe c) old entry new s = unsubscribes (consuming.topic_of old.client.consumers c.consumer_id) old c new s
+works (command.CloseConsumer c) old entry new s = closes_consumer (consuming.topic_of old.client.consumers c.consumer_id) old c new s
+works (command.RedeliverUnacknowledgedMessages c) old entry new s = redelivers (consuming.topic_of old.client.consumers c.consumer_id) old c new s
 works command.Ping old entry new s = says_alone old reply.Pong new (record { no_receipt = refl; no_message = refl }) s
 works command.Pong old entry new s = still_play old new s
 works (command.Other k) old entry new s = ends old new _ s
@@ -232,6 +249,8 @@ connects (command.Flow c) old new s = ends old new _ s
 connects (command.Ack c) old new s = ends old new _ s
 connects (command.CloseProducer c) old new s = ends old new _ s
 connects (command.Unsubscribe c) old new s = ends old new _ s
+connects (command.CloseConsumer c) old new s = ends old new _ s
+connects (command.RedeliverUnacknowledgedMessages c) old new s = ends old new _ s
 connects command.Ping old new s = ends old new _ s
 connects command.Pong old new s = ends old new _ s
 connects (command.Other k) old new s = ends old new _ s

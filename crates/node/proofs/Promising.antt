@@ -20,13 +20,15 @@ use Rattle.topic_core.specs.declared.command.Subscribe.{Subscribe}
 use Rattle.topic_core.specs.declared.command.Ack.{Ack}
 use Rattle.topic_core.specs.declared.command.CloseProducer.{CloseProducer}
 use Rattle.topic_core.specs.declared.command.Unsubscribe.{Unsubscribe}
+use Rattle.topic_core.specs.declared.command.CloseConsumer.{CloseConsumer}
+use Rattle.topic_core.specs.declared.command.Redeliver.{Redeliver}
 use Rattle.topic_core.specs.declared.command.TopicCommand.{TopicCommand}
 use Rattle.topic_core.specs.declared.command.TopicCommand.TheVariants as asked
 use Rattle.topic_core.specs.Core.{Core, Topic, changes_of}
 use Rattle.topic_core.specs.Soundness.{IsSoundTopic}
 use Rattle.topic_core.specs.Flush.{flushed_topic, failed_topic}
 use Rattle.topic_core.specs.Crashes.{IsLeft, TopicCrash}
-use Rattle.topic_core.specs.Steps.{Outcome, CoreStep, Meets, GrantStep, key_of, refused_or, first_standing, producer_refusals, subscribe_refusal, subscribed, start_of, ack_refusals, ack_refused, ack_accepted, close_refusals, closing, unsubscribe_refusal, unsubscribed, with_producer, accepted, receipt, bytes_of}
+use Rattle.topic_core.specs.Steps.{Outcome, CoreStep, Meets, GrantStep, key_of, refused_or, first_standing, producer_refusals, subscribe_refusal, subscribed, start_of, ack_refusals, ack_refused, ack_accepted, close_refusals, closing, unsubscribe_refusal, unsubscribed, detach_refusals, detach_outcome, detached, redeliver_outcome, redelivered, asked_back, with_producer, accepted, receipt, bytes_of}
 use Rattle.node.specs.Moves.{Handed, Move, Command, Tell, Lose, Grant, Deliver, Miss, Leave, Flush, Reopen, Crash, MoveStep, Moves, Takes}
 use Rattle.node.specs.Finding.{IsQuiet}
 use Rattle.node.specs.Promising.{Promise, IsKept, Word, nothing_yet, promise_of, positions_of, removed_by, ack_reply, released, with_owed, without_first, promised, told, answered, word_after, word_by, InTurn, AreInTurn}
@@ -192,6 +194,28 @@ module _ (t : Core) (kept : Kept) (word : Word) (limits : HasLimits t.subs) (h :
       (λ effected. acks_silently ack.request_id who ack u effected.0 effected.1 are)
       (either (first_standing (ack_refusals t who ack)) (ack_refused ack.consumer_id ack.request_id) t (ack_accepted t who ack ack.request_id) Nothing u step.0 step.1)
 
+  -- the subscriptions change at most, and their changes stay
+  permits : (failed : Bool) (subs : Subscriptions) → subs.changes ≡ t.subs.changes → HoldsIn (cond failed t (record t { subs = subs })) kept word
+  permits true subs is = h
+  permits false subs is = subst (λ (l : List Record). Holds l kept t.queues word) (sym is) h
+
+  -- a consumer is detached at once
+  detaches : (who : ℕ) (close : CloseConsumer) (o : Option ServerError) (a : Answer) (u : Core)
+      → a ≡ (refused_or o (λ error. Now (Error close.request_id error)) t (record { answer = Now (Success close.request_id); core = detached t who close })).answer
+      → u ≡ (refused_or o (λ error. Now (Error close.request_id error)) t (record { answer = Now (Success close.request_id); core = detached t who close })).core
+      → AreKeptIn u → HoldsIn u kept (answered t who (asked.CloseConsumer close) a word)
+  detaches who close (Some e) a u answer core are =
+      subst (λ (b : Answer). HoldsIn u kept (answered t who (asked.CloseConsumer close) b word)) (sym answer) (same u core)
+  detaches who close None a u answer core are =
+      subst (λ (b : Answer). HoldsIn u kept (answered t who (asked.CloseConsumer close) b word)) (sym answer)
+      (back u (detached t who close) word core h)
+
+  redelivers : (who : ℕ) (redeliver : Redeliver) (a : Answer) (u : Core) → a ≡ Nothing → u ≡ redelivered t who redeliver → AreKeptIn u → HoldsIn u kept (answered t who (asked.Redeliver redeliver) a word)
+  redelivers who redeliver a u answer core are =
+      subst (λ (b : Answer). HoldsIn u kept (answered t who (asked.Redeliver redeliver) b word)) (sym answer)
+      (back u (redelivered t who redeliver) word core
+      (permits t.failed (subscriptions.redelivered t.subs (key_of who redeliver.consumer_id) (asked_back t.per_ledger t.committed redeliver.ids)) refl))
+
   -- an outcome that was met
   meets : (o : Outcome) (w : Answer → Word) → ((a : Answer) (u : Core) → a ≡ o.answer → u ≡ o.core → AreKeptIn u → HoldsIn u kept (w a)) → w NoMemory ≡ word → (a : Answer) (u : Core) → Meets o t a u → AreKeptIn u → HoldsIn u kept (w a)
   meets o w by none NoMemory u step are = subst (λ (x : Word). HoldsIn u kept x) (sym none) (same u step)
@@ -222,11 +246,14 @@ module _ (t : Core) (kept : Kept) (word : Word) (limits : HasLimits t.subs) (h :
       meets _ (λ b. answered t who (asked.Unsubscribe unsubscribe) b word)
       (awaited who (asked.Unsubscribe unsubscribe) (unsubscribe_refusal t who unsubscribe) (λ error. Error unsubscribe.request_id error) (unsubscribed t who unsubscribe) (λ x is kept_x. unsubscribes who unsubscribe x is kept_x))
       refl a u step are'
-
-  -- permits
-  permits : (failed : Bool) (subs : Subscriptions) → subs.changes ≡ t.subs.changes → HoldsIn (cond failed t (record t { subs = subs })) kept word
-  permits true subs is = h
-  permits false subs is = subst (λ (l : List Record). Holds l kept t.queues word) (sym is) h
+  commanded who (asked.CloseConsumer close) a u step are are' =
+      meets (detach_outcome t who close) (λ b. answered t who (asked.CloseConsumer close) b word)
+      (detaches who close (first_standing (detach_refusals t who close)))
+      refl a u step are'
+  commanded who (asked.Redeliver redeliver) a u step are are' =
+      meets (redeliver_outcome t who redeliver) (λ b. answered t who (asked.Redeliver redeliver) b word)
+      (redelivers who redeliver)
+      refl a u step are'
 
   granted : (result : Result (Unit {0}) TooManyPermits) (who id count : ℕ) (u : Core) → GrantStep t who id count result u → HoldsIn u kept word
   granted (Ok done) who id count u step = back u _ word step.1 (permits t.failed (subscriptions.granted t.subs (key_of who id) count) refl)

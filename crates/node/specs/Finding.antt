@@ -38,6 +38,8 @@ sent_by per_ledger position who (asked.Subscribe subscribe) answer = []
 sent_by per_ledger position who (asked.Ack ack) answer = []
 sent_by per_ledger position who (asked.CloseProducer close) answer = []
 sent_by per_ledger position who (asked.Unsubscribe unsubscribe) answer = []
+sent_by per_ledger position who (asked.CloseConsumer close) answer = []
+sent_by per_ledger position who (asked.Redeliver redeliver) answer = []
 
 -- a SEND that a topic accepts gets the next position
 abbrev pub sends_on : Core → Move → List Sent

@@ -55,6 +55,8 @@ promise_of t who (asked.Ack ack) =
     (find (is_on (key_of who ack.consumer_id)) t.subs.subs)
 promise_of t who (asked.CloseProducer close) = None
 promise_of t who (asked.Unsubscribe unsubscribe) = None
+promise_of t who (asked.CloseConsumer close) = None
+promise_of t who (asked.Redeliver redeliver) = None
 
 -- the subscription that an accepted command removes
 abbrev pub removed_by : Core → ℕ → TopicCommand → Option (List ℕ)
@@ -64,6 +66,8 @@ removed_by t who (asked.Subscribe subscribe) = None
 removed_by t who (asked.Ack ack) = None
 removed_by t who (asked.CloseProducer close) = None
 removed_by t who (asked.Unsubscribe unsubscribe) = option_map (λ (s : Subscription). s.name) (find (is_on (key_of who unsubscribe.consumer_id)) t.subs.subs)
+removed_by t who (asked.CloseConsumer close) = None
+removed_by t who (asked.Redeliver redeliver) = None
 
 -- the reply to a command whose answer awaits a flush, where it has one
 abbrev pub ack_reply : ℕ → Option ℕ → Option Reply
@@ -77,6 +81,8 @@ reply_to t (asked.Subscribe subscribe) = Some (Success subscribe.request_id)
 reply_to t (asked.Ack ack) = ack_reply ack.consumer_id ack.request_id
 reply_to t (asked.CloseProducer close) = Some (Success close.request_id)
 reply_to t (asked.Unsubscribe unsubscribe) = Some (Success unsubscribe.request_id)
+reply_to t (asked.CloseConsumer close) = None
+reply_to t (asked.Redeliver redeliver) = None
 
 -- an answer that a session is owed, and what it promises
 pub record Owed : Type 0 where

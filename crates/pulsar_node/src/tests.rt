@@ -4,5 +4,6 @@ mod faults;
 mod limits;
 mod rows;
 mod scripts;
+mod sharing;
 mod support;
 mod sweeps;

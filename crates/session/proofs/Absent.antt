@@ -16,6 +16,8 @@ use Rattle.topic_core.specs.declared.command.TopicCommand.TheVariants as command
 use Rattle.topic_core.specs.declared.command.Answer.TheVariants.{Now, Nothing}
 use Rattle.commands.specs.declared.consuming.Ack.{Ack as Asked}
 use Rattle.commands.specs.declared.consuming.Unsubscribe.{Unsubscribe}
+use Rattle.commands.specs.declared.giving_back.CloseConsumer.{CloseConsumer}
+use Rattle.commands.specs.declared.giving_back.Redeliver.{Redeliver}
 use Rattle.commands.specs.declared.producing.CloseProducer.{CloseProducer}
 use Rattle.commands.specs.declared.consuming.AckType.{AckType}
 use Rattle.ids.specs.declared.message_id.MessageIdData.{MessageIdData}
@@ -26,6 +28,7 @@ use Rattle.session.specs.Broker.{Broker, fresh, topic_at, with_topic, due_at, le
 use Rattle.session.specs.Client.{Play, SaysAlone}
 use Rattle.session.specs.Producing.{Asks, close_command}
 use Rattle.session.specs.Consuming.{RefusesAck, ack_command, unsubscribe_command}
+use Rattle.session.specs.GivingBack.{close_consumer_command, redeliver_command}
 
 pub topic_at-absent : (b : Broker) (number : ℕ) → length b.topics ≤ number → topic_at b number ≡ fresh b.per_ledger
 topic_at-absent b number h = get_or_past b.topics number (fresh b.per_ledger) h
@@ -145,6 +148,10 @@ over-closes n who asked = record { core = (refl, refl); ledger = refl; kept = re
 over-unsubscribes : (n who : ℕ) (asked : Unsubscribe) → TopicStep (over n no_subs) who (unsubscribe_command asked) (Now (Error asked.request_id ConsumerNotFound)) (over n no_subs)
 over-unsubscribes n who asked = record { core = (refl, refl); ledger = refl; kept = refl }
 
+-- and a CLOSE_CONSUMER
+over-close-consumers : (n who : ℕ) (asked : CloseConsumer) → TopicStep (over n no_subs) who (close_consumer_command asked) (Now (Error asked.request_id ConsumerNotFound)) (over n no_subs)
+over-close-consumers n who asked = record { core = (refl, refl); ledger = refl; kept = refl }
+
 -- what such a topic refuses at once, one that isn't there does
 abbrev Refused : Play → TopicCommand → ℕ → ServerError → Type 0
 Refused old asked request error = TopicStep (over old.broker.per_ledger no_subs) old.client.number asked (Now (Error request error)) (over old.broker.per_ledger no_subs)
@@ -170,6 +177,26 @@ closes-absent old number asked new h said = refuses-absent old number (close_com
 pub unsubscribes-absent : (old : Play) (number : ℕ) (asked : Unsubscribe) (new : Play) → length old.broker.topics ≤ number →
     SaysAlone old (Error asked.request_id ConsumerNotFound) new → Asks old number (unsubscribe_command asked) new
 unsubscribes-absent old number asked new h said = refuses-absent old number (unsubscribe_command asked) asked.request_id ConsumerNotFound new h (over-unsubscribes old.broker.per_ledger old.client.number asked) said
+
+pub close-consumer-absent : (old : Play) (number : ℕ) (asked : CloseConsumer) (new : Play) → length old.broker.topics ≤ number →
+    SaysAlone old (Error asked.request_id ConsumerNotFound) new → Asks old number (close_consumer_command asked) new
+close-consumer-absent old number asked new h said =
+    refuses-absent old number (close_consumer_command asked) asked.request_id ConsumerNotFound new h (over-close-consumers old.broker.per_ledger old.client.number asked) said
+
+-- nothing is given back on a topic that isn't there
+over-redelivers : (n who : ℕ) (asked : Redeliver) → TopicStep (over n no_subs) who (redeliver_command asked) Nothing (over n no_subs)
+over-redelivers n who asked = record { core = (refl, refl); ledger = refl; kept = refl }
+
+pub redelivers-absent : (old : Play) (number : ℕ) (asked : Redeliver) → length old.broker.topics ≤ number → Asks old number (redeliver_command asked) old
+redelivers-absent old number asked h = record {
+  answer = Nothing;
+  step = record {
+    step = let P : Topic → Type 0 = λ t. TopicStep t old.client.number (redeliver_command asked) Nothing t in
+        subst P (sym (topic_at-absent old.broker number h ∙ fresh-over old.broker.per_ledger)) (over-redelivers old.broker.per_ledger old.client.number asked);
+    others = sym (with_topic-same old.broker number);
+  };
+  answered = (refl, refl);
+}
 
 -- a topic that isn't there grants nothing
 pub grants-absent : (b : Broker) (number who id permits : ℕ) → length b.topics ≤ number → GrantAt b number who id permits (Ok tt) b

@@ -4,11 +4,13 @@ use Rattle.std.proofs.lemmas.Bool.{cases_lt, ltb-false, eqb-false}
 use borrow.Author.Tests.{ltb-true}
 use Rattle.std.specs.List.{AllByRecursion, insert, position_or_len}
 use Rattle.commands.specs.declared.command.Command.{Command}
-use Rattle.commands.specs.declared.command.Command.TheVariants.{Connect, Producer, Send, Subscribe, Ack, Flow, Unsubscribe, CloseProducer, Ping, Pong, Other}
+use Rattle.commands.specs.declared.command.Command.TheVariants.{Connect, Producer, Send, Subscribe, Ack, Flow, Unsubscribe, CloseProducer, CloseConsumer, Ping, Pong, RedeliverUnacknowledgedMessages, Other}
 use Rattle.commands.specs.declared.consuming.Subscribe.{Subscribe as Wanted}
 use Rattle.commands.specs.declared.consuming.Ack.{Ack as Acked}
 use Rattle.commands.specs.declared.consuming.Flow.{Flow as Given}
 use Rattle.commands.specs.declared.consuming.Unsubscribe.{Unsubscribe as Removed}
+use Rattle.commands.specs.declared.giving_back.CloseConsumer.{CloseConsumer as Detached}
+use Rattle.commands.specs.declared.giving_back.Redeliver.{Redeliver as Returned}
 use Rattle.commands.specs.declared.producing.CloseProducer.{CloseProducer as Closed}
 use Rattle.commands.specs.declared.producing.Producer.{Producer as Asked}
 use Rattle.commands.specs.declared.producing.Send.{Send as Sent}
@@ -31,6 +33,7 @@ use Rattle.session.specs.declared.pumping.PumpFault.{PumpFault}
 use Rattle.session.specs.Client.{Client, Play, plain, Ends, Says, SaysAlone, Answered}
 use Rattle.session.specs.Producing as producing
 use Rattle.session.specs.Consuming.{is_live, has_entry, own_refusals, with_entry, is_later, with_consumer, granting, with_live_consumers, FoundStep, SubscribeIn, FlowIn, RefusesAck, AckIn, UnsubscribeIn}
+use Rattle.session.specs.GivingBack.{CloseConsumerIn, RedeliverIn}
 use Rattle.session.specs.Working.{WorksCommand, connected_client, Connects, FrameIn, FramesStep, FeedIn, FeedStep}
 use Rattle.session.specs.Pumping.{Collects, Sends, FindsNoMemory, ServesEach, ServesAll, ServesIf, PumpIn, PumpStep}
 use Rattle.session.specs.Laws.{AreRising}
@@ -164,6 +167,14 @@ unsubscribes : (topic : Option ℕ) (old : Play) (asked : Removed) (new : Play) 
 unsubscribes None old asked new h = said_alone old _ new h
 unsubscribes (Some topic) old asked new h = answered h.answer old.client old.out new.client new.out h.answered
 
+closes_consumer : (topic : Option ℕ) (old : Play) (asked : Detached) (new : Play) → CloseConsumerIn topic old asked new → Keeps old new
+closes_consumer None old asked new h = said_alone old _ new h
+closes_consumer (Some topic) old asked new h = answered h.answer old.client old.out new.client new.out h.answered
+
+redelivers : (topic : Option ℕ) (old : Play) (asked : Returned) (new : Play) → RedeliverIn topic old asked new → Keeps old new
+redelivers None old asked new h = still old new h
+redelivers (Some topic) old asked new h = answered h.answer old.client old.out new.client new.out h.answered
+
 -- SUBSCRIBE keeps them rising
 abbrev Rises : Play → Play → Type 0
 Rises p q = AreRising p.client.consumers → AreRising q.client.consumers
@@ -200,8 +211,10 @@ works (Flow c) old entry new h = rises old new (flows _ old c new h)
 works (Ack c) old entry new h = rises old new (acks _ old c new h)
 works (Unsubscribe c) old entry new h = rises old new (unsubscribes _ old c new h)
 works (CloseProducer c) old entry new h = rises old new (closes _ old c new h)
+works (CloseConsumer c) old entry new h = rises old new (closes_consumer _ old c new h)
 works Ping old entry new h = rises old new (said_alone old _ new h)
 works Pong old entry new h = rises old new (still old new h)
+works (RedeliverUnacknowledgedMessages c) old entry new h = rises old new (redelivers _ old c new h)
 works (Other k) old entry new h = rises old new (ends old new _ h)
 
 connects : (c : Command) (old new : Play) → Connects old c new → Keeps old new
@@ -213,8 +226,10 @@ connects (Flow c) old new h = ends old new _ h
 connects (Ack c) old new h = ends old new _ h
 connects (Unsubscribe c) old new h = ends old new _ h
 connects (CloseProducer c) old new h = ends old new _ h
+connects (CloseConsumer c) old new h = ends old new _ h
 connects Ping old new h = ends old new _ h
 connects Pong old new h = ends old new _ h
+connects (RedeliverUnacknowledgedMessages c) old new h = ends old new _ h
 connects (Other k) old new h = ends old new _ h
 
 frame_rises : (fault : Option Fault) (connected : Bool) (old : Play) (frame : Frame) (new : Play) → FrameIn fault connected old frame new → Rises old new

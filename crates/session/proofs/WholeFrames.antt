@@ -1,7 +1,7 @@
 -- Each step of a session writes whole frames.
 use Rattle.std.proofs.Common.{◌≡◌, inl, inr, ℕ, ◌-◌, zero, suc, List, [], ◌∷◌, Bool, true, false, Option, Some, None, Result, Ok, Err, ap, ⊎_elim}
 use Rattle.commands.specs.declared.command.Command.{Command}
-use Rattle.commands.specs.declared.command.Command.TheVariants.{Connect, Producer, Send, Subscribe, Ack, Flow, Unsubscribe, CloseProducer, Ping, Pong, Other}
+use Rattle.commands.specs.declared.command.Command.TheVariants.{Connect, Producer, Send, Subscribe, Ack, Flow, Unsubscribe, CloseProducer, CloseConsumer, Ping, Pong, RedeliverUnacknowledgedMessages, Other}
 use Rattle.commands.specs.declared.producing.Producer.{Producer as Asked}
 use Rattle.commands.specs.declared.producing.Send.{Send as Sent}
 use Rattle.commands.specs.declared.reply.Reply.{Reply}
@@ -9,6 +9,8 @@ use Rattle.commands.specs.declared.consuming.Subscribe.{Subscribe as Wanted}
 use Rattle.commands.specs.declared.consuming.Ack.{Ack as Acked}
 use Rattle.commands.specs.declared.consuming.Flow.{Flow as Given}
 use Rattle.commands.specs.declared.consuming.Unsubscribe.{Unsubscribe as Removed}
+use Rattle.commands.specs.declared.giving_back.CloseConsumer.{CloseConsumer as Detached}
+use Rattle.commands.specs.declared.giving_back.Redeliver.{Redeliver as Returned}
 use Rattle.commands.specs.declared.producing.CloseProducer.{CloseProducer as Closed}
 use Rattle.commands.specs.declared.server_error.ServerError.{ServerError}
 use Rattle.frames.specs.declared.frame.Frame.{Frame}
@@ -24,6 +26,7 @@ use Rattle.session.specs.Client.{Play, plain, Ends, SaysAlone, Writes}
 use Rattle.session.specs.Producing.{FoundStep, ProducerIn, SendIn, CloseIn}
 use Rattle.session.specs.Consuming as consuming
 use Rattle.session.specs.Consuming.{SubscribeIn, FlowIn, RefusesAck, AckIn, UnsubscribeIn}
+use Rattle.session.specs.GivingBack.{CloseConsumerIn, RedeliverIn}
 use Rattle.session.specs.Working.{WorksCommand, Connects, FrameIn, FramesStep, FeedIn}
 use Rattle.session.specs.Pumping.{Collects, Sends, Serves, ServesEach, ServesAll, ServesIf, PumpIn}
 use Rattle.session.specs.Laws.{FeedsWriteFrames, PumpsWriteFrames}
@@ -85,6 +88,14 @@ pub unsubscribe_writes : (topic : Option ℕ) (old : Play) (asked : Removed) (ne
 unsubscribe_writes None old asked new h = says_writes old new _ h
 unsubscribe_writes (Some topic) old asked new h = (speaks_answered old.client new.client old.out new.out h.answer h.answered).writes
 
+pub close_consumer_writes : (topic : Option ℕ) (old : Play) (asked : Detached) (new : Play) → CloseConsumerIn topic old asked new → Writes old.out new.out
+close_consumer_writes None old asked new h = says_writes old new _ h
+close_consumer_writes (Some topic) old asked new h = (speaks_answered old.client new.client old.out new.out h.answer h.answered).writes
+
+pub redeliver_writes : (topic : Option ℕ) (old : Play) (asked : Returned) (new : Play) → RedeliverIn topic old asked new → Writes old.out new.out
+redeliver_writes None old asked new h = writes_same old new (ap (λ (p : Play). p.out) h)
+redeliver_writes (Some topic) old asked new h = (speaks_answered old.client new.client old.out new.out h.answer h.answered).writes
+
 pub command_writes : (c : Command) (old : Play) (entry : FrameEntry) (new : Play) → WorksCommand old c entry new → Writes old.out new.out
 command_writes (Connect c) old entry new h = ends_writes old new _ h
 command_writes (Producer c) old entry new h = producer_writes _ _ c new h
@@ -94,8 +105,10 @@ command_writes (Flow c) old entry new h = flow_writes _ old c new h
 command_writes (Ack c) old entry new h = ack_writes _ old c new h
 command_writes (Unsubscribe c) old entry new h = unsubscribe_writes _ old c new h
 command_writes (CloseProducer c) old entry new h = close_writes _ old c new h
+command_writes (CloseConsumer c) old entry new h = close_consumer_writes _ old c new h
 command_writes Ping old entry new h = says_writes old new _ h
 command_writes Pong old entry new h = writes_same old new (ap (λ (p : Play). p.out) h)
+command_writes (RedeliverUnacknowledgedMessages c) old entry new h = redeliver_writes _ old c new h
 command_writes (Other k) old entry new h = ends_writes old new _ h
 
 pub connects_writes : (c : Command) (old new : Play) → Connects old c new → Writes old.out new.out
@@ -107,8 +120,10 @@ connects_writes (Flow c) old new h = ends_writes old new _ h
 connects_writes (Ack c) old new h = ends_writes old new _ h
 connects_writes (Unsubscribe c) old new h = ends_writes old new _ h
 connects_writes (CloseProducer c) old new h = ends_writes old new _ h
+connects_writes (CloseConsumer c) old new h = ends_writes old new _ h
 connects_writes Ping old new h = ends_writes old new _ h
 connects_writes Pong old new h = ends_writes old new _ h
+connects_writes (RedeliverUnacknowledgedMessages c) old new h = ends_writes old new _ h
 connects_writes (Other k) old new h = ends_writes old new _ h
 
 pub frame_writes : (fault : Option Fault) (connected : Bool) (old : Play) (frame : Frame) (new : Play) → FrameIn fault connected old frame new → Writes old.out new.out

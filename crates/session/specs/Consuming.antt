@@ -1,5 +1,5 @@
 -- SUBSCRIBE, FLOW, ACK and UNSUBSCRIBE, as a session works them.
-use Rattle.std.specs.Prelude.{◌≡◌, ◌⊎◌, ℕ, Bool, true, false, not, ◌||◌, is_some, nat_eq, nat_lt, nat_le, Option, Some, None, Result, Ok, Err, List, ◌∷◌, [], length, filter, find}
+use Rattle.std.specs.Prelude.{◌≡◌, ◌⊎◌, ℕ, Bool, true, false, not, ◌||◌, is_some, is_none, nat_eq, nat_lt, nat_le, Option, Some, None, Result, Ok, Err, List, ◌∷◌, [], length, filter, find}
 use Rattle.std.specs.Option.{option_map}
 use Rattle.std.specs.List.{list_any, insert, position_or_len}
 use Rattle.commands.specs.declared.consuming.Subscribe.{Subscribe}
@@ -11,6 +11,7 @@ use Rattle.commands.specs.declared.consuming.SubscriptionType.TheVariants as typ
 use Rattle.commands.specs.declared.reply.Reply.TheVariants as reply
 use Rattle.commands.specs.declared.server_error.ServerError.{ServerError}
 use Rattle.commands.specs.declared.server_error.ServerError.TheVariants.{TooManyRequests, InvalidTopicName, NotAllowedError, ConsumerNotFound}
+use Rattle.subscriptions.specs.declared.consumer.Mode.{Mode}
 use Rattle.subscriptions.specs.declared.consumer.Mode.TheVariants as mode
 use Rattle.subscriptions.specs.declared.consumer.TooManyPermits.{TooManyPermits}
 use Rattle.topic_core.specs.declared.command.TopicCommand.{TopicCommand}
@@ -39,12 +40,12 @@ with_live_consumers p = record p { client = record p.client { consumers = filter
 abbrev pub has_entry : List ConsumerEntry → ℕ → Bool
 has_entry consumers id = list_any (λ entry. nat_eq entry.consumer_id id) consumers
 
--- the subscription types that are served; our own rule, for now
-abbrev pub is_served : SubscriptionType → Bool
-is_served type.Exclusive = true
-is_served type.Shared = false
-is_served type.Failover = false
-is_served type.KeyShared = false
+-- the modes of the subscription types that are served; our own rule, for now
+abbrev pub mode_of : SubscriptionType → Option Mode
+mode_of type.Exclusive = Some mode.Exclusive
+mode_of type.Shared = Some mode.Shared
+mode_of type.Failover = Some mode.Failover
+mode_of type.KeyShared = None
 
 -- SUBSCRIBE: what the session refuses by itself, in order
 abbrev pub own_refusals : List ConsumerEntry → Subscribe → List (Bool × ServerError)
@@ -54,7 +55,7 @@ own_refusals consumers asked =
     ∷ (not (is_topic_name asked.topic), InvalidTopicName)
     ∷ (not asked.durable || is_some asked.start_message_id, NotAllowedError)
     ∷ (not (is_subscription_name asked.subscription), NotAllowedError)
-    ∷ (not (is_served asked.subscription_type), NotAllowedError)
+    ∷ (is_none (mode_of asked.subscription_type), NotAllowedError)
     ∷ []
 
 -- the subscription that it asks for has the name of a subscription
@@ -62,12 +63,12 @@ abbrev pub IsNamed : Subscribe → Type 0
 IsNamed asked = is_subscription_name asked.subscription ≡ true
 
 -- what the session asks of the topic
-abbrev pub subscribe_command : (asked : Subscribe) → IsNamed asked → TopicCommand
-subscribe_command asked named = topic_command.Subscribe (record {
+abbrev pub subscribe_command : (asked : Subscribe) → Mode → IsNamed asked → TopicCommand
+subscribe_command asked mode named = topic_command.Subscribe (record {
   consumer_id = asked.consumer_id;
   request_id = asked.request_id;
   subscription = asked.subscription;
-  mode = mode.Exclusive;
+  mode = mode;
   initial = asked.initial_position;
   named = named;
 })
@@ -90,8 +91,10 @@ with_consumer c accepted id topic = record c { consumers = with_entry c.consumer
 -- the topic works SUBSCRIBE; the session keeps the consumer if it was accepted, and hands on the answer
 pub record Subscribes (old : Play) (topic : ℕ) (asked : Subscribe) (new : Play) : Type 0 where
   pub named : IsNamed asked
+  pub mode : Mode
+  pub served : mode_of asked.subscription_type ≡ Some mode
   pub answer : Answer
-  pub step : CommandStep old.broker topic old.client.number (subscribe_command asked named) answer new.broker
+  pub step : CommandStep old.broker topic old.client.number (subscribe_command asked mode named) answer new.broker
   pub answered : Answered (with_consumer old.client (is_later answer) asked.consumer_id topic) old.out answer new.client new.out
 
 -- once its topic was looked for; want of memory may end the session before the topic works anything

@@ -4,6 +4,7 @@ pub mod Broker
 pub mod Client
 pub mod Producing
 pub mod Consuming
+pub mod GivingBack
 pub mod Working
 pub mod Pumping
 pub mod Laws

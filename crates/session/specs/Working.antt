@@ -11,6 +11,7 @@ use Rattle.session.specs.Client.{Client, Play, Ends, SaysAlone, left_if_ended}
 use Rattle.session.specs.Faults.{fault_of}
 use Rattle.session.specs.Producing.{ProducerStep, SendStep, CloseStep}
 use Rattle.session.specs.Consuming.{SubscribeStep, FlowStep, AckStep, UnsubscribeStep}
+use Rattle.session.specs.GivingBack.{CloseConsumerStep, RedeliverStep}
 use Rattle.session.specs.declared.fault.Fault.{Fault}
 use Rattle.session.specs.declared.fault.Fault.TheVariants as fault
 
@@ -24,8 +25,10 @@ WorksCommand old (command.Flow c) entry new = FlowStep old c new
 WorksCommand old (command.Ack c) entry new = AckStep old c new
 WorksCommand old (command.Unsubscribe c) entry new = UnsubscribeStep old c new
 WorksCommand old (command.CloseProducer c) entry new = CloseStep old c new
+WorksCommand old (command.CloseConsumer c) entry new = CloseConsumerStep old c new
 WorksCommand old command.Ping entry new = SaysAlone old reply.Pong new
 WorksCommand old command.Pong entry new = new ≡ old
+WorksCommand old (command.RedeliverUnacknowledgedMessages c) entry new = RedeliverStep old c new
 WorksCommand old (command.Other k) entry new = Ends old fault.UnknownCommand new
 
 abbrev pub connected_client : Client → Client
@@ -41,8 +44,10 @@ Connects old (command.Flow c) new = Ends old fault.OutOfTurn new
 Connects old (command.Ack c) new = Ends old fault.OutOfTurn new
 Connects old (command.Unsubscribe c) new = Ends old fault.OutOfTurn new
 Connects old (command.CloseProducer c) new = Ends old fault.OutOfTurn new
+Connects old (command.CloseConsumer c) new = Ends old fault.OutOfTurn new
 Connects old command.Ping new = Ends old fault.OutOfTurn new
 Connects old command.Pong new = Ends old fault.OutOfTurn new
+Connects old (command.RedeliverUnacknowledgedMessages c) new = Ends old fault.OutOfTurn new
 Connects old (command.Other k) new = Ends old fault.UnknownCommand new
 
 abbrev pub FrameIn : Option Fault → Bool → Play → Frame → Play → Type 0

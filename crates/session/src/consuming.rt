@@ -1,4 +1,4 @@
-ghost use Rattle.std.specs.Prelude.{◌≡◌, ◌<◌, ◌≤◌, filter, nat_lt, position, IfSome, OnOk, OnErr, vec_len, vec_capacity, length};
+ghost use Rattle.std.specs.Prelude.{◌≡◌, ◌<◌, ◌≤◌, filter, nat_lt, position, IsSome, IfSome, OnOk, OnErr, vec_len, vec_capacity, length};
 ghost use Rattle.std.specs.List.{list_all, position_or_len};
 ghost use Rattle.commands.specs.declared.reply.Reply.TheVariants.{Error};
 ghost use Rattle.session.specs.declared.port.Found.TheVariants.{Topic};
@@ -6,7 +6,7 @@ ghost use Rattle.topic_core.specs.Steps.{first_standing};
 ghost use Rattle.records.specs.Names.{is_name_byte, is_subscription_name};
 ghost use Rattle.session.specs.Broker.{Broker};
 ghost use Rattle.session.specs.Client.{Client, Play, play, plain, Says, Speaks};
-ghost use Rattle.session.specs.Consuming.{is_live, has_entry, is_served, own_refusals, IsNamed, subscribe_command, is_later, with_entry, Subscribes, FoundStep, SubscribeOf, SubscribeStep, topic_of, granting, FlowStep, RefusesAck, AckStep, UnsubscribeStep};
+ghost use Rattle.session.specs.Consuming.{is_live, has_entry, mode_of, own_refusals, IsNamed, subscribe_command, is_later, with_entry, Subscribes, FoundStep, SubscribeOf, SubscribeStep, topic_of, granting, FlowStep, RefusesAck, AckStep, UnsubscribeStep};
 
 use crate::consumer_entry::ConsumerEntry;
 use crate::fault::Fault;
@@ -62,7 +62,7 @@ impl Session {
     }
 
     /// Answers a request with an error.
-    fn refuse_consumer(&mut self, request_id: u64, error: ServerError, out: &mut Vec<u8>)
+    pub(crate) fn refuse_consumer(&mut self, request_id: u64, error: ServerError, out: &mut Vec<u8>)
         ensures says { Says self.old out.old.items (plain (Error request_id error)) self.new out.new.items }
         ensures speaks { Speaks self.old out.old.items self.new out.new.items }
     {
@@ -78,6 +78,7 @@ impl Session {
     )
         requires there { topic < P.count port.old }
         requires named { IsNamed asked }
+        requires served { IsSome (mode_of asked.subscription_type) }
         ensures step { P.sole port.old → FoundStep (play self.old (P.broker port.old) out.old.items) asked (Topic topic)
             (play self.new (P.broker port.new) out.new.items) }
         ensures speaks { Speaks self.old out.old.items self.new out.new.items }
@@ -98,6 +99,7 @@ impl Session {
     ) -> Result<(), AllocError>
         requires there { topic < P.count port.old }
         requires named { IsNamed asked }
+        requires served { IsSome (mode_of asked.subscription_type) }
         ensures ok { OnOk result (P.sole port.old → Subscribes (play self.old (P.broker port.old) out.old.items) topic asked
             (play self.new (P.broker port.new) out.new.items)) }
         ensures err { OnErr result ((self.new ≡ self.old) × (out.new.items ≡ out.old.items)
@@ -107,13 +109,14 @@ impl Session {
     {
         self.consumers.reserve(1)?;
         let consumer_id = asked.consumer_id;
-        let answer = port.command(topic, self.number, subscribe_command(asked));
+        let mode = mode_of(asked.subscription_type).unwrap();
+        let answer = port.command(topic, self.number, subscribe_command(asked, mode));
         keep(&mut self.consumers, is_later(&answer), consumer_id, topic);
         self.answer(&answer, out);
         Ok(())
     }
 
-    fn consumer_topic(&self, consumer_id: u64) -> Option<u64>
+    pub(crate) fn consumer_topic(&self, consumer_id: u64) -> Option<u64>
         ensures { result ≡ topic_of self.now.consumers consumer_id }
     {
         topic_of(self.consumers.as_slice(), consumer_id)
@@ -276,15 +279,15 @@ fn is_subscription_name(name: &str) -> bool
     1 <= name.len() && name.len() <= LONGEST_NAME && are_name_bytes(name.as_bytes())
 }
 
-/// Whether consumers of this subscription type are served. Our own rule, for now.
-fn is_served(kind: SubscriptionType) -> bool
-    ensures { result ≡ is_served kind }
+/// The mode of a subscription type, where its consumers are served. Our own rule, for now.
+fn mode_of(kind: SubscriptionType) -> Option<Mode>
+    ensures { result ≡ mode_of kind }
 {
     match kind {
-        SubscriptionType::Exclusive => true,
-        SubscriptionType::Shared | SubscriptionType::Failover | SubscriptionType::KeyShared => {
-            false
-        }
+        SubscriptionType::Exclusive => Some(Mode::Exclusive),
+        SubscriptionType::Shared => Some(Mode::Shared),
+        SubscriptionType::Failover => Some(Mode::Failover),
+        SubscriptionType::KeyShared => None,
     }
 }
 
@@ -306,22 +309,22 @@ fn own_refusal(consumers: &[ConsumerEntry], asked: &Subscribe) -> Option<ServerE
     if !is_subscription_name(asked.subscription.as_str()) {
         return Some(ServerError::NotAllowedError);
     }
-    if !is_served(asked.subscription_type) {
+    if mode_of(asked.subscription_type).is_none() {
         return Some(ServerError::NotAllowedError);
     }
     None
 }
 
 /// What the session asks of the topic.
-fn subscribe_command(asked: Subscribe) -> TopicCommand
+fn subscribe_command(asked: Subscribe, mode: Mode) -> TopicCommand
     requires { IsNamed asked }
-    ensures { (named : IsNamed asked) → result ≡ subscribe_command asked named }
+    ensures { (named : IsNamed asked) → result ≡ subscribe_command asked mode named }
 {
     TopicCommand::Subscribe(topic_core::Subscribe {
         consumer_id: asked.consumer_id,
         request_id: asked.request_id,
         subscription: asked.subscription,
-        mode: Mode::Exclusive,
+        mode,
         initial: asked.initial_position,
     })
 }

@@ -7,6 +7,7 @@
 mod consumer_entry;
 mod consuming;
 mod fault;
+mod giving_back;
 mod laws;
 mod port;
 mod producer_entry;

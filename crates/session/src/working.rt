@@ -97,8 +97,10 @@ impl Session {
             Command::Ack(asked) => self.ack(asked, port, out),
             Command::Unsubscribe(asked) => self.unsubscribe(asked, port, out),
             Command::CloseProducer(asked) => self.close(asked, port, out),
+            Command::CloseConsumer(asked) => self.close_consumer(asked, port, out),
             Command::Ping => self.say(&Reply::Pong, out),
             Command::Pong => {}
+            Command::RedeliverUnacknowledgedMessages(asked) => self.redeliver(asked, port, out),
             Command::Other(_) => self.end_by(Fault::UnknownCommand),
         }
     }
@@ -120,8 +122,10 @@ impl Session {
             | Command::Ack(_)
             | Command::Unsubscribe(_)
             | Command::CloseProducer(_)
+            | Command::CloseConsumer(_)
             | Command::Ping
-            | Command::Pong => self.end_by(Fault::OutOfTurn),
+            | Command::Pong
+            | Command::RedeliverUnacknowledgedMessages(_) => self.end_by(Fault::OutOfTurn),
             Command::Other(_) => self.end_by(Fault::UnknownCommand),
         }
     }

@@ -1,6 +1,7 @@
 // Each frame and each answer was worked out by hand from the protocol's published description.
 mod board;
 mod consuming;
+mod giving_back;
 mod producing;
 mod pumping;
 
@@ -116,6 +117,12 @@ const CLOSE_PRODUCER: [u8; 16] = [0, 0, 0, 0x0c, 0, 0, 0, 8, 8, 0x0f, 0x7a, 4, 8
 
 /// Of consumer 2, with request 8.
 const UNSUBSCRIBE: [u8; 16] = [0, 0, 0, 0x0c, 0, 0, 0, 8, 8, 0x0c, 0x62, 4, 8, 2, 0x10, 8];
+
+/// ERROR of request 8 with ConsumerNotFound.
+const NO_CONSUMER_OF_8: [u8; 34] = [
+    0, 0, 0, 0x1e, 0, 0, 0, 0x1a, 8, 0x0e, 0x72, 0x16, 8, 8, 0x10, 0x0d, 0x1a, 0x10, 0x43, 0x6f,
+    0x6e, 0x73, 0x75, 0x6d, 0x65, 0x72, 0x4e, 0x6f, 0x74, 0x46, 0x6f, 0x75, 0x6e, 0x64,
+];
 
 /// ERROR of request 8 with NotAllowedError.
 const NOT_ALLOWED_OF_8: [u8; 33] = [

@@ -26,7 +26,7 @@ use Rattle.records.specs.Records.{after, after_all, changed, changed_at, acknowl
 use Rattle.subscriptions.specs.declared.consumer.Mode.{Mode}
 use Rattle.subscriptions.specs.declared.consumer.Refusal.{Refusal}
 use Rattle.subscriptions.specs.State.{Subscription, Subscriptions}
-use Rattle.subscriptions.specs.Steps.{opened, opened_one, first_changed, first_standing, is_named, is_on, refusals_at, making_refusals, attached_at, attached_to, made, acked_on, acknowledgements, acked_through_on, acknowledgement_through, first_removed, removal, granted_on, sent_on, left_on, settled}
+use Rattle.subscriptions.specs.Steps.{opened, opened_one, first_changed, first_standing, is_named, is_on, refusals_at, making_refusals, attached_at, attached_to, made, acked_on, acknowledgements, acked_through_on, acknowledgement_through, first_removed, removal, granted_on, sent_on, left_on, settled, detached_on, redelivered_on}
 use Rattle.subscriptions.specs.Soundness.{IsSoundSubscription, HasLimits, IsSound, IsCommittedOn, IsCommitted}
 use Rattle.subscriptions.specs.Laws.{acked_as, AreDurable, IsKept, AreKept}
 use Rattle.subscriptions.proofs.Sound.{length_changed, sound_opened}
@@ -339,6 +339,8 @@ are_kept = record {
   unsubscribe = λ e kept t key limits is. removed_kept e kept t key (find (is_on key) t.subs) refl limits is;
   send = λ e kept t key i is. kept_spared e kept t _ (λ q. acked_spared (is_on key) (sent_on key i) (record { name = λ _. refl; acked = λ _. refl }) q t.subs) (length_changed (is_on key) (sent_on key i) t.subs) is;
   leave = λ e kept t who is. kept_spared e kept t _ (λ q. acked_each (left_on who) (record { name = λ _. refl; acked = λ _. refl }) q t.subs) (length_each (left_on who) t.subs) is;
+  detach = λ e kept t key is. kept_spared e kept t _ (λ q. acked_spared (is_on key) (detached_on key) (record { name = λ _. refl; acked = λ _. refl }) q t.subs) (length_changed (is_on key) (detached_on key) t.subs) is;
+  redeliver = λ e kept t key asked is. kept_spared e kept t _ (λ q. acked_spared (is_on key) (redelivered_on key asked) (record { name = λ _. refl; acked = λ _. refl }) q t.subs) (length_changed (is_on key) (redelivered_on key asked) t.subs) is;
   settle = settle_kept;
   longer = λ e m kept t low is. record { same = is.same; count = is.count; durable = is.durable; formed = formed_longer e m t.changes kept low is.formed };
 }

@@ -8,7 +8,7 @@ use Rattle.subscriptions.specs.declared.consumer.Refusal.{Refusal}
 use Rattle.records.specs.declared.record.Record.{Record}
 use Rattle.records.specs.declared.record.Record.TheVariants.{Made, Acknowledged, Removed, AcknowledgedThrough}
 use Rattle.subscriptions.specs.State.{Subscription, Subscriptions}
-use Rattle.subscriptions.specs.Steps.{first_changed, first_standing, is_named, is_on, subscribe_refusals, refusals_at, making_refusals, attach_refusals, attached_to, attached_at, attached, made, granted, granted_on, grants_too_many, is_past, is_past_on, is_consumer, acknowledged, acknowledgements, acked_on, acknowledged_through, acknowledgement_through, acked_through_on, first_removed, unsubscribed, removal, is_shared, Admits, AdmitsAt, AdmitsOn, sent_before, times_at}
+use Rattle.subscriptions.specs.Steps.{first_changed, first_standing, is_named, is_on, subscribe_refusals, refusals_at, making_refusals, attach_refusals, attached_to, attached_at, attached, made, granted, granted_on, grants_too_many, is_past, is_past_on, is_consumer, acknowledged, acknowledgements, acked_on, acknowledged_through, acknowledgement_through, acked_through_on, first_removed, unsubscribed, removal, Admits, AdmitsAt, AdmitsOn, sent_before, times_at}
 use Rattle.holds.specs.Deliveries.{times}
 use Rattle.subscriptions.proofs.Places.{changes, finds, stays, misses, removes, removed-none, none_found}
 
@@ -65,6 +65,10 @@ module _ (t : Subscriptions) (key : ConsumerKey) where
   -- one subscription changes
   pub changes_at : (f : Subscription → Subscription) (i : ℕ) (s s' : Subscription) → position (is_on key) t.subs ≡ Some i → s ≡ get_or t.subs i s → s' ≡ f s → with_subs (set t.subs i s') ≡ with_subs (first_changed (is_on key) f t.subs)
   changes_at f i s s' at read is = ap with_subs (changes (is_on key) f t.subs i s s' at read is)
+
+  -- and without the consumer nothing does
+  pub stays_at : (f : Subscription → Subscription) → position (is_on key) t.subs ≡ None → t ≡ with_subs (first_changed (is_on key) f t.subs)
+  stays_at f at = ap with_subs (stays (is_on key) f t.subs at)
 
   abbrev with_both : List Subscription → List Record → Subscriptions
   with_both xs cs = record { subs = xs; changes = cs }

@@ -1,7 +1,9 @@
 pub mod Lists
 pub mod Places
 pub mod Settled
+pub mod Each
 pub mod Sound
+pub mod Seats
 pub mod Kept
 pub mod Limits
 pub mod Found

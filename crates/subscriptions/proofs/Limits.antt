@@ -9,7 +9,8 @@ use Rattle.std.specs.Prelude.{map as each}
 use Rattle.std.specs.Option.{option_map}
 use Rattle.std.specs.Ordering.{nat_cmp}
 use Rattle.std.specs.FinMap as map
-use Rattle.holds.specs.Deliveries.{sent_to}
+use Rattle.holds.specs.Backlog.{IsOpenAt}
+use Rattle.holds.specs.Deliveries.{sent_to, given_back}
 use Rattle.holds.specs.declared.consumer.ConsumerKey.{ConsumerKey}
 use Rattle.holds.specs.declared.delivery.Delivery.{Delivery}
 use Rattle.holds.proofs.Kept.{get_inserted}
@@ -18,10 +19,11 @@ use Rattle.subscriptions.specs.declared.consumer.Refusal.{Refusal}
 use Rattle.records.specs.declared.record.Record.{Record}
 use Rattle.records.specs.declared.record.Record.TheVariants.{Acknowledged}
 use Rattle.subscriptions.specs.State.{Subscription, Subscriptions}
-use Rattle.subscriptions.specs.Steps.{first_changed, first_standing, is_named, is_on, refusals_at, making_refusals, attach_refusals, attached_to, attached_at, made, granted_on, grants_too_many, is_past_on, acknowledged, acknowledgements, acked_on, acknowledged_through, acknowledgement_through, acked_through_on, first_removed, is_shared, unsubscribe_refusals, unsubscribed, removal, Admits, AdmitsAt, AdmitsOn, sent_on, left, left_on, freed, settled}
+use Rattle.subscriptions.specs.Steps.{first_changed, first_standing, is_named, is_on, refusals_at, making_refusals, attach_refusals, attached_to, attached_at, made, granted_on, grants_too_many, is_past_on, acknowledged, acknowledgements, acked_on, acknowledged_through, acknowledgement_through, acked_through_on, first_removed, is_shared, unsubscribe_refusals, unsubscribed, removal, Admits, AdmitsAt, AdmitsOn, sent_on, left, left_on, freed, detached_on, is_asked_back, redelivered_on, settled}
 use Rattle.subscriptions.specs.Soundness.{IsSoundSubscription, HasLimits, IsSound, IsCommittedOn, IsCommitted}
 use Rattle.subscriptions.specs.Laws.{StaysSound, DeliveriesAreCommitted, PickedIsOpen, IsOpenFor}
-use Rattle.subscriptions.proofs.Sound.{length_changed, all_changed, all_pushed, sound_made, sound_attached, sound_granted, sound_acked, sound_acked_through, sound_sent, sound_left, get_freed}
+use Rattle.subscriptions.proofs.Sound.{length_changed, all_changed, all_pushed, sound_made, sound_attached, sound_granted, sound_acked, sound_acked_through, sound_sent, sound_left, get_freed, opens_of, sound_detached, sound_redelivered}
+use Rattle.subscriptions.proofs.Each.{none_changed}
 use Rattle.subscriptions.proofs.Kept.{names, turned}
 use Rattle.subscriptions.proofs.Durable.{opened_sound, opened_committed}
 use Rattle.subscriptions.proofs.Settled.{is_in, get_forgotten, get_forgotten_below}
@@ -196,6 +198,14 @@ each_sound = record {
     each_one = all_changed (is_on key) (sent_on key i) IsSoundSubscription t.subs (λ x is ok. sound_sent key committed i x (admitted_at key committed i t x is a) ok) sound.each_one;
   };
   leave = λ t who sound. record { limits = limits_left t who sound.limits; each_one = all_each (left_on who) (sound_left who) t.subs sound.each_one };
+  detach = λ t key sound. record {
+    limits = limits_changed t (is_on key) (detached_on key) (λ _. refl) sound.limits;
+    each_one = all_changed (is_on key) (detached_on key) IsSoundSubscription t.subs (λ x is ok. sound_detached key x ok) sound.each_one;
+  };
+  redeliver = λ t key asked sound. record {
+    limits = limits_changed t (is_on key) (redelivered_on key asked) (λ _. refl) sound.limits;
+    each_one = all_changed (is_on key) (redelivered_on key asked) IsSoundSubscription t.subs (λ x is ok. sound_redelivered key asked x ok) sound.each_one;
+  };
   settle = λ t count sound. record { limits = limits_settled t count sound.limits; each_one = sound.each_one };
 }
 
@@ -214,7 +224,7 @@ not_here b v x e none = ap (λ c. cond c v x) e ∙ none
 committed_sent : (committed i : ℕ) (key : ConsumerKey) (s : Subscription) → AdmitsOn s key committed i → IsCommittedOn committed s → IsCommittedOn committed (sent_on key i s)
 committed_sent committed i key s a c j h =
     get_inserted s.deliveries i (sent_to key (map.get s.deliveries i)) j
-    ∙ not_here (nat_eq j i) (Some (sent_to key (map.get s.deliveries i))) (map.get s.deliveries j) (differs j i committed h a.least.0.is_committed) (c j h)
+    ∙ not_here (nat_eq j i) (Some (sent_to key (map.get s.deliveries i))) (map.get s.deliveries j) (differs j i committed h (opens_of s.mode key s.consumers (IsOpenAt committed s.acked s.deliveries) i a.served).is_committed) (c j h)
 
 committed_acked : (committed : ℕ) (ps : List ℕ) (s : Subscription) → IsCommittedOn committed s → IsCommittedOn committed (acked_on ps s)
 committed_acked committed ps s c j h = get_forgotten s.deliveries ps j ∙ either_none (is_in j ps) (map.get s.deliveries j) (c j h)
@@ -246,12 +256,15 @@ each_committed = record {
   unsubscribe = λ committed t key all. all_removed (is_on key) (IsCommittedOn committed) t.subs all;
   send = λ committed t key i a all. all_changed (is_on key) (sent_on key i) (IsCommittedOn committed) t.subs (λ x is c. committed_sent committed i key x (admitted_at key committed i t x is a) c) all;
   leave = λ committed t who all. each_left committed who t.subs all;
+  detach = λ committed t key all. all_changed (is_on key) (detached_on key) (IsCommittedOn committed) t.subs (λ x is c j h. none_changed (λ i d. given_back key d) x.deliveries j (c j h)) all;
+  redeliver = λ committed t key asked all. all_changed (is_on key) (redelivered_on key asked) (IsCommittedOn committed) t.subs
+      (λ x is c j h. none_changed (λ i d. cond (is_asked_back x.mode asked i) (given_back key d) d) x.deliveries j (c j h)) all;
   settle = λ committed t count all. all;
 }
 
 picked_at : (o : Option Subscription) (key : ConsumerKey) (committed i : ℕ) → AdmitsAt o key committed i → IsOpenFor o committed i
 picked_at None key committed i a = a
-picked_at (Some s) key committed i a = a.least.0
+picked_at (Some s) key committed i a = opens_of s.mode key s.consumers (IsOpenAt committed s.acked s.deliveries) i a.served
 
 pub picked : PickedIsOpen
 picked t key committed i a = picked_at (find (is_on key) t.subs) key committed i a

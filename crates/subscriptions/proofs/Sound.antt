@@ -9,18 +9,20 @@ use Rattle.std.specs.Cmp.{nat_cmp_total}
 use Rattle.std.specs.FinMap as map
 use Rattle.std.specs.Prelude.{map as each}
 use Rattle.cursor.specs.Positions.{Positions, below}
-use Rattle.holds.specs.Deliveries.{Deliveries, holder_in, same_key, sent_to}
+use Rattle.holds.specs.Backlog.{IsOpenAt}
+use Rattle.holds.specs.Deliveries.{Deliveries, holder_in, same_key, sent_to, is_held_by, given_back}
 use Rattle.holds.specs.declared.consumer.ConsumerKey.{ConsumerKey}
 use Rattle.holds.specs.declared.delivery.Delivery.{Delivery}
 use Rattle.holds.proofs.Kept.{get_inserted, get_mapped, same_entries}
 use Rattle.subscriptions.specs.declared.consumer.Mode.{Mode}
-use Rattle.subscriptions.specs.declared.consumer.Mode.TheVariants.{Exclusive}
+use Rattle.subscriptions.specs.declared.consumer.Mode.TheVariants.{Exclusive, Failover, Shared}
 use Rattle.subscriptions.specs.declared.consumer.Consumer.{Consumer}
 use Rattle.subscriptions.specs.declared.consumer.Refusal.{Refusal}
 use Rattle.subscriptions.specs.State.{Subscription}
 use Rattle.subscriptions.specs.Freeing.{is_among, freed_among}
-use Rattle.subscriptions.specs.Steps.{first_changed, first_standing, is_consumer, is_on, has_some, is_exclusive, same_mode, attach_refusals, attached_to, made, opened_one, granted_to, granted_on, is_past, acked_on, acked_through_on, has_permit, AdmitsOn, sent_one, sent_on, is_of, freed, freed_by, left_on}
+use Rattle.subscriptions.specs.Steps.{first_changed, first_standing, is_consumer, is_on, has_some, is_exclusive, same_mode, attach_refusals, attached_to, made, opened_one, granted_to, granted_on, is_past, acked_on, acked_through_on, has_permit, AdmitsBy, AdmitsOn, sent_one, sent_on, is_of, freed, freed_by, left_on, detached_on, is_asked_back, redelivered_on}
 use Rattle.subscriptions.specs.Soundness.{IsWithinPermits, IsSoundSubscription}
+use Rattle.subscriptions.proofs.Each.{get_each, apart_changed}
 use Rattle.subscriptions.proofs.Settled.{is_in, get_forgotten, get_forgotten_below, apart_acked, apart_through, apart_empty, apart_sent, given_back_apart}
 
 -- ---- lists
@@ -190,6 +192,12 @@ sent_holder : (b : Bool) (key : ConsumerKey) (before x : Option Delivery) (k : C
 sent_holder true key before x k s on to h = let same : key ≡ k = cc in ap (λ j. is_on j s) (sym same) ∙ on
 sent_holder false key before x k s on to h = to h
 
+-- what a mode lets a consumer get is open
+pub opens_of : (mode : Mode) (key : ConsumerKey) (cs : List Consumer) (Opens : ℕ → Type 0) (i : ℕ) → AdmitsBy mode key cs Opens i → Opens i
+opens_of Exclusive key cs Opens i a = a.0
+opens_of Failover key cs Opens i a = a.1.0
+opens_of Shared key cs Opens i a = a
+
 pub sound_sent : (key : ConsumerKey) (committed i : ℕ) (s : Subscription) → AdmitsOn s key committed i → IsSoundSubscription s → IsSoundSubscription (sent_on key i s)
 sound_sent key committed i s a sound = record {
   few = rw length_changed sound.few;
@@ -197,7 +205,7 @@ sound_sent key committed i s a sound = record {
   permits = all_changed (is_consumer key) (λ c. sent_one c) IsWithinPermits s.consumers
       (λ c found p. record { sent = permit_of c (ap has_permit (sym found) ∙ a.permit); granted = p.granted })
       sound.permits;
-  unacknowledged = apart_sent s.acked s.deliveries i (sent_to key (map.get s.deliveries i)) a.least.0.is_unacked sound.unacknowledged;
+  unacknowledged = apart_sent s.acked s.deliveries i (sent_to key (map.get s.deliveries i)) (opens_of s.mode key s.consumers (IsOpenAt committed s.acked s.deliveries) i a.served).is_unacked sound.unacknowledged;
   held = λ j k h. any_changed (is_consumer key) (λ c. sent_one c) (is_consumer k) (λ _. refl) s.consumers
       ∙ sent_holder (nat_eq j i) key (map.get s.deliveries i) (map.get s.deliveries j) k s (on_of key s a.permit) (sound.held j k)
       (ap holder_in (sym (get_inserted s.deliveries i (sent_to key (map.get s.deliveries i)) j)) ∙ h);
@@ -233,6 +241,42 @@ sound_left who s sound = record {
       any_kept (is_consumer k) (λ (c : Consumer). not (nat_eq c.key.session who)) (λ c same. stays who c.key k was.1 same) s.consumers (sound.held i k was.0);
 }
 
+-- ---- a consumer goes, or gives back what it holds
+
+held_by_other : (key : ConsumerKey) (x : Option Delivery) (k : ConsumerKey) → holder_in (option_map (given_back key) x) ≡ Some k → (holder_in x ≡ Some k) × (same_key k key ≡ false)
+held_by_other key None k h = absurd (none_held k h)
+held_by_other key (Some d) k h =
+    let parts = freed_holder (is_held_by key d.holder) d.holder k h in (parts.1, sym (ap (is_held_by key) parts.1) ∙ parts.0)
+
+stays_beside : (key a k : ConsumerKey) → same_key k key ≡ false → same_key a k ≡ true → not (same_key a key) ≡ true
+stays_beside key a k other same = grind (arith, nat_tests)
+
+pub sound_detached : (key : ConsumerKey) (s : Subscription) → IsSoundSubscription s → IsSoundSubscription (detached_on key s)
+sound_detached key s sound = record {
+  few = omega (arith, sound.few, length_kept (λ (c : Consumer). not (is_consumer key c)) s.consumers);
+  single = λ is. omega (arith, sound.single is, length_kept (λ (c : Consumer). not (is_consumer key c)) s.consumers);
+  permits = all_kept IsWithinPermits (λ (c : Consumer). not (is_consumer key c)) s.consumers sound.permits;
+  unacknowledged = apart_changed (λ i d. given_back key d) s.acked s.deliveries sound.unacknowledged;
+  held = λ i k h.
+      let was = held_by_other key (map.get s.deliveries i) k (ap holder_in (sym (get_each (λ i d. given_back key d) s.deliveries i)) ∙ h) in
+      any_kept (is_consumer k) (λ (c : Consumer). not (is_consumer key c)) (λ c same. stays_beside key c.key k was.1 same) s.consumers (sound.held i k was.0);
+}
+
+held_before : (b : Bool) (key : ConsumerKey) (x : Option Delivery) (k : ConsumerKey) → holder_in (option_map (λ d. cond b (given_back key d) d) x) ≡ Some k → holder_in x ≡ Some k
+held_before true key x k h = (held_by_other key x k h).0
+held_before false key None k h = h
+held_before false key (Some d) k h = h
+
+pub sound_redelivered : (key : ConsumerKey) (asked : Option (List ℕ)) (s : Subscription) → IsSoundSubscription s → IsSoundSubscription (redelivered_on key asked s)
+sound_redelivered key asked s sound = record {
+  few = sound.few;
+  single = sound.single;
+  permits = sound.permits;
+  unacknowledged = apart_changed (λ i d. cond (is_asked_back s.mode asked i) (given_back key d) d) s.acked s.deliveries sound.unacknowledged;
+  held = λ i k h. sound.held i k (held_before (is_asked_back s.mode asked i) key (map.get s.deliveries i) k
+      (ap holder_in (sym (get_each (λ j d. cond (is_asked_back s.mode asked j) (given_back key d) d) s.deliveries i)) ∙ h));
+}
+
 both : (a w b c : Bool) → ((a && w) || (b && w)) ≡ ((a || b) && w)
 both true true b c = refl
 both true false true c = refl
@@ -243,7 +287,7 @@ one_of : (who : ℕ) (a k : ConsumerKey) → (nat_eq a.session who && same_key k
 one_of who a k = grind (arith, nat_tests)
 
 -- whether the holder is one of the session's consumers
-among : (who : ℕ) (k : ConsumerKey) (cs : List Consumer) → is_among who cs (Some k) ≡ (list_any (is_consumer k) cs && nat_eq k.session who)
+pub among : (who : ℕ) (k : ConsumerKey) (cs : List Consumer) → is_among who cs (Some k) ≡ (list_any (is_consumer k) cs && nat_eq k.session who)
 among who k [] = refl
 among who k (c ∷ cs) =
     ap (λ b. b || is_among who cs (Some k)) (one_of who c.key k)

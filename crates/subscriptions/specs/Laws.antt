@@ -11,7 +11,7 @@ use Rattle.records.specs.Names.{is_subscription_name}
 use Rattle.records.specs.Maps.{Kept}
 use Rattle.records.specs.Records.{IsThere, AreFormed, after_all}
 use Rattle.subscriptions.specs.State.{Subscription, Subscriptions}
-use Rattle.subscriptions.specs.Steps.{none_yet, opened, first_standing, subscribe_refusals, attached, granted, grants_too_many, acknowledged, acknowledged_through, unsubscribe_refusals, unsubscribed, sent, left, settled, Admits, is_named, is_on}
+use Rattle.subscriptions.specs.Steps.{none_yet, opened, first_standing, subscribe_refusals, attached, granted, grants_too_many, acknowledged, acknowledged_through, unsubscribe_refusals, unsubscribed, sent, left, detached, redelivered, settled, Admits, is_named, is_on}
 use Rattle.subscriptions.specs.Soundness.{IsSound, HasLimits, IsCommitted}
 
 -- durable subscriptions that a topic may have: 64 at most, each name of its form
@@ -41,6 +41,8 @@ pub record StaysSound : Type 0 where
   pub unsubscribe : (t : Subscriptions) (key : ConsumerKey) → first_standing (unsubscribe_refusals t key) ≡ None → IsSound t → IsSound (unsubscribed t key)
   pub send : (t : Subscriptions) (key : ConsumerKey) (committed i : ℕ) → Admits t key committed i → IsSound t → IsSound (sent t key i)
   pub leave : (t : Subscriptions) (who : ℕ) → IsSound t → IsSound (left t who)
+  pub detach : (t : Subscriptions) (key : ConsumerKey) → IsSound t → IsSound (detached t key)
+  pub redeliver : (t : Subscriptions) (key : ConsumerKey) (asked : Option (List ℕ)) → IsSound t → IsSound (redelivered t key asked)
   pub settle : (t : Subscriptions) (count : ℕ) → IsSound t → IsSound (settled t count)
 
 -- The subscriptions stay what the changes make of the durable ones; a change that is settled belongs to these from then on.
@@ -58,6 +60,8 @@ pub record AreKept : Type 0 where
       → HasLimits t → IsKept entries kept t → IsKept entries kept (unsubscribed t key)
   pub send : (entries : ℕ) (kept : Kept) (t : Subscriptions) (key : ConsumerKey) (i : ℕ) → IsKept entries kept t → IsKept entries kept (sent t key i)
   pub leave : (entries : ℕ) (kept : Kept) (t : Subscriptions) (who : ℕ) → IsKept entries kept t → IsKept entries kept (left t who)
+  pub detach : (entries : ℕ) (kept : Kept) (t : Subscriptions) (key : ConsumerKey) → IsKept entries kept t → IsKept entries kept (detached t key)
+  pub redeliver : (entries : ℕ) (kept : Kept) (t : Subscriptions) (key : ConsumerKey) (asked : Option (List ℕ)) → IsKept entries kept t → IsKept entries kept (redelivered t key asked)
   pub settle : (entries : ℕ) (kept : Kept) (t : Subscriptions) (count : ℕ) → IsKept entries kept t → IsKept entries (after_all (take count t.changes) kept) (settled t count)
   pub longer : (entries more : ℕ) (kept : Kept) (t : Subscriptions) → entries ≤ more → IsKept entries kept t → IsKept more kept t
 
@@ -72,6 +76,8 @@ pub record DeliveriesAreCommitted : Type 0 where
   pub unsubscribe : (committed : ℕ) (t : Subscriptions) (key : ConsumerKey) → IsCommitted committed t → IsCommitted committed (unsubscribed t key)
   pub send : (committed : ℕ) (t : Subscriptions) (key : ConsumerKey) (i : ℕ) → Admits t key committed i → IsCommitted committed t → IsCommitted committed (sent t key i)
   pub leave : (committed : ℕ) (t : Subscriptions) (who : ℕ) → IsCommitted committed t → IsCommitted committed (left t who)
+  pub detach : (committed : ℕ) (t : Subscriptions) (key : ConsumerKey) → IsCommitted committed t → IsCommitted committed (detached t key)
+  pub redeliver : (committed : ℕ) (t : Subscriptions) (key : ConsumerKey) (asked : Option (List ℕ)) → IsCommitted committed t → IsCommitted committed (redelivered t key asked)
   pub settle : (committed : ℕ) (t : Subscriptions) (count : ℕ) → IsCommitted committed t → IsCommitted committed (settled t count)
 
 -- what is picked is open on the consumer's subscription: committed, unacknowledged and held by nobody

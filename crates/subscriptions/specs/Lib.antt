@@ -3,6 +3,7 @@ pub mod Progress
 pub mod Steps
 pub mod Soundness
 pub mod Freeing
+pub mod Dispatching
 pub mod Held
 pub mod Laws
 pub mod Statuses

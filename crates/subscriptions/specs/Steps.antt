@@ -1,16 +1,16 @@
 -- What each call does to the subscriptions of a topic.
-use Rattle.std.specs.Prelude.{◌≡◌, ℕ, ◌+◌, ◌^◌, Bool, true, false, cond, not, ◌&&◌, nat_eq, nat_lt, nat_le, Option, Some, None, List, [], ◌∷◌, ◌++◌, length, filter, drop, map as each}
+use Rattle.std.specs.Prelude.{◌≡◌, ℕ, ◌+◌, ◌^◌, Bool, true, false, cond, not, ◌&&◌, ◌||◌, nat_eq, nat_lt, nat_le, Option, Some, None, List, [], ◌∷◌, ◌++◌, length, filter, drop, map as each}
 use Rattle.std.specs.List.{list_any, find}
 use Rattle.std.specs.Str.{bytes_eq}
 use Rattle.std.specs.FinSet as set
 use Rattle.std.specs.FinMap as map
 use Rattle.cursor.specs.Positions.{Positions, below}
-use Rattle.holds.specs.Deliveries.{Deliveries, same_key, sent_to, times}
+use Rattle.holds.specs.Deliveries.{Deliveries, same_key, sent_to, given_back, times}
 use Rattle.holds.specs.Backlog.{IsOpenAt, IsLeast}
 use Rattle.holds.specs.declared.consumer.ConsumerKey.{ConsumerKey}
 use Rattle.holds.specs.declared.delivery.Delivery.{Delivery}
 use Rattle.subscriptions.specs.declared.consumer.Mode.{Mode}
-use Rattle.subscriptions.specs.declared.consumer.Mode.TheVariants.{Exclusive, Failover}
+use Rattle.subscriptions.specs.declared.consumer.Mode.TheVariants.{Exclusive, Failover, Shared}
 use Rattle.subscriptions.specs.declared.consumer.Consumer.{Consumer}
 use Rattle.subscriptions.specs.declared.consumer.Refusal.{Refusal}
 use Rattle.subscriptions.specs.declared.consumer.Refusal.TheVariants.{ConsumerBusy, TooManyRequests}
@@ -60,15 +60,26 @@ abbrev pub first_standing : List (Bool × Refusal) → Option Refusal
 first_standing [] = None
 first_standing (row ∷ rows) = cond row.0 (Some row.1) (first_standing rows)
 
-abbrev pub same_mode : Mode → Mode → Bool
-same_mode Exclusive Exclusive = true
-same_mode Exclusive Failover = false
-same_mode Failover Exclusive = false
-same_mode Failover Failover = true
-
 abbrev pub is_exclusive : Mode → Bool
 is_exclusive Exclusive = true
 is_exclusive Failover = false
+is_exclusive Shared = false
+
+abbrev pub is_failover : Mode → Bool
+is_failover Exclusive = false
+is_failover Failover = true
+is_failover Shared = false
+
+-- more than one consumer is served
+abbrev pub serves_many : Mode → Bool
+serves_many Exclusive = false
+serves_many Failover = false
+serves_many Shared = true
+
+abbrev pub same_mode : Mode → Mode → Bool
+same_mode Exclusive mode = is_exclusive mode
+same_mode Failover mode = is_failover mode
+same_mode Shared mode = serves_many mode
 
 abbrev pub has_some : {X : Type 0} → List X → Bool
 has_some xs = nat_lt 0 (length xs)
@@ -207,20 +218,22 @@ abbrev pub has_permit : Option Consumer → Bool
 has_permit None = false
 has_permit (Some c) = nat_lt c.sent c.granted
 
--- the mode serves the consumer: on Exclusive the only one, on Failover the one that was attached first
+-- the consumer was attached first
 abbrev pub is_first : ConsumerKey → List Consumer → Bool
 is_first key [] = false
 is_first key (c ∷ cs) = is_consumer key c
 
-abbrev pub serves : Mode → ConsumerKey → List Consumer → Bool
-serves Exclusive key consumers = true
-serves Failover key consumers = is_first key consumers
+-- Which of the open positions a mode lets a consumer get: on Exclusive the only consumer gets the least one, on Failover the one
+-- that was attached first does, and on Shared each gets any.
+abbrev pub AdmitsBy : Mode → ConsumerKey → List Consumer → (ℕ → Type 0) → ℕ → Type 0
+AdmitsBy Exclusive key consumers Opens i = IsLeast Opens i
+AdmitsBy Failover key consumers Opens i = (is_first key consumers ≡ true) × IsLeast Opens i
+AdmitsBy Shared key consumers Opens i = Opens i
 
--- a consumer may get position i of so many committed ones: it is attached, has a permit and is served, and the position is the least open
+-- a consumer may get position i of so many committed ones: it is attached and has a permit, and its mode lets it
 pub record AdmitsOn (s : Subscription) (key : ConsumerKey) (committed i : ℕ) : Type 0 where
   pub permit : has_permit (find (is_consumer key) s.consumers) ≡ true
-  pub served : serves s.mode key s.consumers ≡ true
-  pub least : IsLeast (IsOpenAt committed s.acked s.deliveries) i
+  pub served : AdmitsBy s.mode key s.consumers (IsOpenAt committed s.acked s.deliveries) i
 
 abbrev pub AdmitsAt : Option Subscription → ConsumerKey → ℕ → ℕ → Type 0
 AdmitsAt None key committed i = ⊥
@@ -258,8 +271,12 @@ is_of who (Some key) = nat_eq key.session who
 abbrev pub freed : ℕ → Delivery → Delivery
 freed who d = record { holder = cond (is_of who d.holder) None d.holder; times = d.times }
 
+-- each delivery is changed, by its position
+abbrev pub each_delivery : (ℕ → Delivery → Delivery) → Deliveries → Deliveries
+each_delivery change deliveries = map.from_entries (each (λ e. (e.0, change e.0 e.1)) (map.entries deliveries))
+
 abbrev pub freed_by : ℕ → Deliveries → Deliveries
-freed_by who deliveries = map.from_entries (each (λ e. (e.0, freed who e.1)) (map.entries deliveries))
+freed_by who deliveries = each_delivery (λ i d. freed who d) deliveries
 
 abbrev pub left_on : ℕ → Subscription → Subscription
 left_on who s = record s {
@@ -269,6 +286,38 @@ left_on who s = record s {
 
 abbrev pub left : Subscriptions → ℕ → Subscriptions
 left t who = record t { subs = each (λ s. left_on who s) t.subs }
+
+-- CLOSE_CONSUMER: the consumer goes, and what it holds is free; the counts stay
+abbrev pub detached_on : ConsumerKey → Subscription → Subscription
+detached_on key s = record s {
+  consumers = filter (λ c. not (is_consumer key c)) s.consumers;
+  deliveries = each_delivery (λ i d. given_back key d) s.deliveries;
+}
+
+abbrev pub detached : Subscriptions → ConsumerKey → Subscriptions
+detached t key = record t { subs = first_changed (is_on key) (detached_on key) t.subs }
+
+-- REDELIVER: which positions a consumer is asked to give back: those that are named, where its mode serves many, and else all
+abbrev pub is_asked_back : Mode → Option (List ℕ) → ℕ → Bool
+is_asked_back mode None i = true
+is_asked_back mode (Some positions) i = not (serves_many mode) || set.contains (listed positions) i
+
+-- it gives back those that it holds of them; the counts stay, and the permits are spent
+abbrev pub redelivered_on : ConsumerKey → Option (List ℕ) → Subscription → Subscription
+redelivered_on key asked s = record s {
+  deliveries = each_delivery (λ i d. cond (is_asked_back s.mode asked i) (given_back key d) d) s.deliveries;
+}
+
+abbrev pub redelivered : Subscriptions → ConsumerKey → Option (List ℕ) → Subscriptions
+redelivered t key asked = record t { subs = first_changed (is_on key) (redelivered_on key asked) t.subs }
+
+-- the mode of a consumer's subscription serves many
+abbrev pub is_among_many : Option Subscription → Bool
+is_among_many None = false
+is_among_many (Some s) = serves_many s.mode
+
+abbrev pub shares : Subscriptions → ConsumerKey → Bool
+shares t key = is_among_many (find (is_on key) t.subs)
 
 -- the first changes are durable
 abbrev pub settled : Subscriptions → ℕ → Subscriptions

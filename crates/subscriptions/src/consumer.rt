@@ -8,6 +8,8 @@ pub enum Mode {
     Exclusive,
     /// The consumer that was attached first gets all messages.
     Failover,
+    /// Each consumer gets some of the messages.
+    Shared,
 }
 
 /// An attached consumer.

@@ -4,7 +4,9 @@
 //! exactly where one is admitted. What lacks memory changes nothing.
 #![tactic(auto)]
 
+mod backlog;
 mod consumer;
+mod dispatch;
 mod initial_position;
 mod laws;
 mod progress;

@@ -7,7 +7,7 @@ ghost use Rattle.std.specs.FinMap as map;
 ghost use Rattle.cursor.specs.Positions.{below};
 ghost use Rattle.holds.specs.Deliveries.{holder, sent_to, times, given_back};
 ghost use Rattle.holds.specs.Backlog.{IsOpenAt, IsLeast};
-ghost use Rattle.subscriptions.specs.Progress.{joined, listed};
+ghost use Rattle.subscriptions.specs.Progress.{joined, listed, IsPassedBut};
 ghost use Rattle.subscriptions.specs.Statuses.{IsStatus};
 
 use crate::status::{SubscriptionStatus, status_of};
@@ -16,6 +16,9 @@ use holds::{ConsumerKey, Holds};
 use records::Name;
 use std::alloc::{AllocError, Global};
 use std::marker::Model;
+
+/// How many positions there are.
+const MOST_POSITIONS: u64 = 1 << 62;
 
 /// The acknowledged and the held positions. No position below the frontier is open, so a search
 /// begins there. The late ones are acknowledged, but the cursor had no memory for them so far.
@@ -98,7 +101,7 @@ impl Progress {
         self.holds.sent_before(position)
     }
 
-    /// The least open position is sent to the consumer. A refusal changes nothing.
+    /// An open position is sent to the consumer. A refusal changes nothing.
     pub(crate) fn hold(
         &mut self,
         position: u64,
@@ -106,14 +109,29 @@ impl Progress {
         committed: u64,
     ) -> Result<(), AllocError>
         requires fits { committed ≤ 2 ^ 62 }
-        requires least { IsLeast (IsOpenAt committed self.old.acked self.old.deliveries) position }
+        requires is_open { IsOpenAt committed self.old.acked self.old.deliveries position }
         ensures acked { self.new.acked ≡ self.old.acked }
         ensures ok { OnOk result (self.new.deliveries ≡ map.insert self.old.deliveries position (sent_to consumer (map.get self.old.deliveries position))) }
         ensures err { OnErr result (self.new ≡ self.old) }
     {
+        let frontier = self.frontier_without(position, committed);
         self.holds.hold(position, consumer)?;
-        self.frontier = position + 1;
+        self.frontier = frontier;
         Ok(())
+    }
+
+    /// A place before which no position but this one is open.
+    fn frontier_without(&self, position: u64, committed: u64) -> u64
+        requires fits { committed ≤ 2 ^ 62 }
+        requires is_open { IsOpenAt committed self.now.acked self.now.deliveries position }
+        ensures fits { result ≤ 2 ^ 62 }
+        ensures passed { IsPassedBut self.now.acked self.now.deliveries position result }
+    {
+        match self.first_open(0, committed) {
+            Some(first) if first == position => position + 1,
+            Some(first) => first,
+            None => 0,
+        }
     }
 
     /// All that the consumer holds is given back.
@@ -123,15 +141,36 @@ impl Progress {
     {
         self.holds.give_back(consumer);
         self.frontier = 0;
+        self.settle();
     }
 
-    /// The least open position.
-    pub(crate) fn first_open(&self, committed: u64) -> Option<u64>
-        requires { committed ≤ 2 ^ 62 }
-        ensures some { IfSome result (IsLeast (IsOpenAt committed self.now.acked self.now.deliveries)) }
-        ensures none { IfNone result ((i : ℕ) → IsOpenAt committed self.now.acked self.now.deliveries i → ⊥) }
+    /// The consumer gives back those of the positions that it holds. Takes no memory.
+    pub(crate) fn give_back_among(&mut self, consumer: ConsumerKey, positions: &[u64])
+        ensures acked { self.new.acked ≡ self.old.acked }
+        ensures deliveries { (q : ℕ) → map.get self.new.deliveries q ≡ cond (list_any (λ p. nat_eq p q) positions.now) (option_map (given_back consumer) (map.get self.old.deliveries q)) (map.get self.old.deliveries q) }
     {
-        let mut position = self.frontier;
+        give_back_each(&mut self.holds, consumer, positions);
+        self.frontier = 0;
+        self.settle();
+    }
+
+    /// Moves the frontier to the first position that is neither acknowledged nor held, so that no
+    /// later search walks over those that others hold.
+    fn settle(&mut self)
+        ensures { self.new ≡ self.old }
+    {
+        if let Some(first) = self.first_open(0, MOST_POSITIONS) {
+            self.frontier = first;
+        }
+    }
+
+    /// The least open position from `from` on.
+    pub(crate) fn first_open(&self, from: u64, committed: u64) -> Option<u64>
+        requires { committed ≤ 2 ^ 62 }
+        ensures some { IfSome result (IsLeast (λ i. (from ≤ i) × IsOpenAt committed self.now.acked self.now.deliveries i)) }
+        ensures none { IfNone result ((i : ℕ) → from ≤ i → IsOpenAt committed self.now.acked self.now.deliveries i → ⊥) }
+    {
+        let mut position = from.max(self.frontier);
         while position < committed {
             position = self.acked.first_open(position);
             if position >= committed {
@@ -202,6 +241,24 @@ fn forget(holds: &mut Holds, positions: &[u64])
 {
     for position in positions {
         holds.forget(*position);
+    }
+}
+
+// The consumer gives back those of the positions that it holds.
+fn give_back_each(holds: &mut Holds, consumer: ConsumerKey, positions: &[u64])
+    ensures { (q : ℕ) → map.get holds.new q ≡ cond (list_any (λ p. nat_eq p q) positions.now) (option_map (given_back consumer) (map.get holds.old q)) (map.get holds.old q) }
+{
+    for position in positions {
+        give_back_one(holds, consumer, *position);
+    }
+}
+
+// The consumer gives back the position, if it holds it.
+fn give_back_one(holds: &mut Holds, consumer: ConsumerKey, position: u64)
+    ensures { (q : ℕ) → map.get holds.new q ≡ cond (nat_eq position q) (option_map (given_back consumer) (map.get holds.old q)) (map.get holds.old q) }
+{
+    if holds.holder(position) == Some(consumer) {
+        holds.release(position);
     }
 }
 

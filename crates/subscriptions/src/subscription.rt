@@ -1,13 +1,16 @@
 ghost use Rattle.std.specs.Prelude.{◌≡◌, ◌+◌, ◌^◌, ◌<◌, ◌≤◌, ◌++◌, ◌∷◌, [], ℕ, All, IfOk, IfNone, IfSome, MatchResult, OnOk, OnErr, Some, None, true, false, ◌&&◌, filter, length, nat_eq, not, nat_lt, position, cond};
-ghost use Rattle.std.specs.Option.{option_map};
+ghost use Rattle.std.specs.Option.{option_map, option_copied};
 ghost use Rattle.std.specs.List.{find, list_any};
 ghost use Rattle.std.specs.FinMap as map;
-ghost use Rattle.holds.specs.Deliveries.{times};
-ghost use Rattle.subscriptions.specs.Steps.{is_consumer, is_on, first_changed, first_standing, same_mode, is_exclusive, attach_refusals, attached_to, made, opened_one, granted_to, granted_on, is_past, acked_on, acked_through_on, has_permit, serves, is_first, AdmitsOn, sent_one, sent_on, left_on};
+ghost use Rattle.holds.specs.Deliveries.{times, given_back, same_key};
+ghost use Rattle.subscriptions.specs.Steps.{is_consumer, is_on, first_changed, first_standing, same_mode, is_exclusive, is_failover, serves_many, attach_refusals, attached_to, made, opened_one, granted_to, granted_on, is_past, acked_on, acked_through_on, has_permit, AdmitsOn, sent_one, sent_on, left_on, detached_on, is_asked_back, redelivered_on};
+ghost use Rattle.subscriptions.specs.Dispatching.{mode_of, keys_of, keys};
 ghost use Rattle.subscriptions.specs.Freeing.{freed_among};
 ghost use Rattle.subscriptions.specs.Statuses.{IsStatus};
 
+use crate::backlog::Backlog;
 use crate::consumer::{Consumer, Mode, Refusal, TooManyPermits};
+use crate::dispatch::Dispatch;
 use crate::progress::Progress;
 use crate::status::SubscriptionStatus;
 use cursor::Cursor;
@@ -25,7 +28,7 @@ const MOST_PERMITS: u64 = 1 << 62;
 #[derive(Drop)]
 pub(crate) struct Subscription {
     name: Name,
-    mode: Mode,
+    dispatch: Dispatch,
     consumers: Vec<Consumer>,
     progress: Progress,
 }
@@ -40,12 +43,11 @@ impl Model for Subscription {
 
     ghost coded = { Prim.hlevel (codes, positions_code, deliveries_code) };
 
-    ghost use Rattle.subscriptions.specs.Held.{subscription_of};
-    ghost use Rattle.subscriptions.specs.Soundness.{IsSoundSubscription};
+    ghost use Rattle.subscriptions.specs.Held.{subscription_of, IsHeld};
 
     ghost view = { subscription_of };
 
-    ghost invariant = { λ s. IsSoundSubscription (subscription_of s) };
+    ghost invariant = { λ s. IsHeld s };
 }
 
 impl Subscription {
@@ -56,7 +58,7 @@ impl Subscription {
     {
         Subscription {
             name,
-            mode,
+            dispatch: Dispatch::new(alloc, mode),
             consumers: Vec::new(alloc),
             progress: Progress::new(alloc, start),
         }
@@ -68,7 +70,7 @@ impl Subscription {
     {
         Subscription {
             name,
-            mode: Mode::Exclusive,
+            dispatch: Dispatch::new(alloc, Mode::Exclusive),
             consumers: Vec::new(alloc),
             progress: Progress::opened(alloc, acked),
         }
@@ -99,7 +101,7 @@ impl Subscription {
     pub(crate) fn refusal(&self, mode: Mode) -> Option<Refusal>
         ensures { result ≡ first_standing (attach_refusals mode self.now) }
     {
-        if !self.consumers.is_empty() && !same_mode(self.mode, mode) {
+        if !self.consumers.is_empty() && !same_mode(self.dispatch.mode(), mode) {
             return Some(Refusal::ConsumerBusy);
         }
         if !self.consumers.is_empty() && is_exclusive(mode) {
@@ -111,19 +113,26 @@ impl Subscription {
         None
     }
 
-    /// Attaches a consumer behind the others. A refusal changes nothing.
-    pub(crate) fn attach(&mut self, mode: Mode, key: ConsumerKey) -> Result<(), AllocError>
+    /// Attaches a consumer behind the others. The first one sets the mode. A refusal changes
+    /// nothing.
+    pub(crate) fn attach(
+        &mut self,
+        alloc: Global,
+        mode: Mode,
+        key: ConsumerKey,
+    ) -> Result<(), AllocError>
         requires { first_standing (attach_refusals mode self.old) ≡ None }
         ensures ok { OnOk result (self.new ≡ attached_to mode key self.old) }
         ensures err { OnErr result (self.new ≡ self.old) }
     {
-        let consumer = Consumer {
-            key,
-            granted: 0,
-            sent: 0,
-        };
-        self.consumers.push(consumer)?;
-        self.mode = mode;
+        self.consumers.reserve(1)?;
+        if self.consumers.is_empty() {
+            self.dispatch = first_one(alloc, mode, key)?;
+            self.consumers.push(newcomer(key)).unwrap();
+            return Ok(());
+        }
+        self.dispatch.attach(alloc, key)?;
+        self.consumers.push(newcomer(key)).unwrap();
         Ok(())
     }
 
@@ -167,18 +176,14 @@ impl Subscription {
         ensures some { IfSome result (AdmitsOn self.now key committed) }
         ensures none { IfNone result ((i : ℕ) → AdmitsOn self.now key committed i → ⊥) }
     {
-        if !self.is_ready(key) {
+        if !has_permit(self.consumers.as_slice(), key) {
             return None;
         }
-        self.progress.first_open(committed)
-    }
-
-    /// Whether the consumer has a permit and is served.
-    fn is_ready(&self, key: ConsumerKey) -> bool
-        ensures { result ≡ (has_permit (find (is_consumer key) self.now.consumers) && serves self.now.mode key self.now.consumers) }
-    {
-        has_permit(self.consumers.as_slice(), key)
-            && serves(self.mode, self.consumers.as_slice(), key)
+        let backlog = Backlog {
+            progress: &self.progress,
+            committed,
+        };
+        self.dispatch.pick(&backlog, key)
     }
 
     /// The consumer gets a position that it may get, and the answer is how often that was sent
@@ -206,7 +211,33 @@ impl Subscription {
         ensures { self.new ≡ left_on who self.old }
     {
         free_all(&mut self.progress, self.consumers.as_slice(), who);
+        detach_all(&mut self.dispatch, self.consumers.as_slice(), who);
         forget_consumers(&mut self.consumers, who);
+    }
+
+    /// The consumer goes, and what it holds is free.
+    pub(crate) fn detach(&mut self, key: ConsumerKey)
+        ensures { self.new ≡ detached_on key self.old }
+    {
+        self.progress.give_back(key);
+        self.dispatch.detach(key);
+        forget_consumer(&mut self.consumers, key);
+    }
+
+    /// The consumer gives back what it holds: the positions that are asked for, where the mode
+    /// serves many, and else all.
+    pub(crate) fn redeliver(&mut self, key: ConsumerKey, asked: Option<&[u64]>)
+        ensures { self.new ≡ redelivered_on key (option_copied asked.entry) self.old }
+    {
+        let mode = self.dispatch.mode();
+        give_back_asked(&mut self.progress, key, mode, asked);
+    }
+
+    /// Whether the mode serves many consumers.
+    pub(crate) fn shares(&self) -> bool
+        ensures { result ≡ serves_many self.now.mode }
+    {
+        serves_many(self.dispatch.mode())
     }
 }
 
@@ -215,16 +246,48 @@ fn same_mode(a: Mode, b: Mode) -> bool
 {
     match a {
         Mode::Exclusive => is_exclusive(b),
-        Mode::Failover => !is_exclusive(b),
+        Mode::Failover => is_failover(b),
+        Mode::Shared => serves_many(b),
     }
 }
 
 fn is_exclusive(mode: Mode) -> bool
     ensures { result ≡ is_exclusive mode }
 {
-    match mode {
-        Mode::Exclusive => true,
-        Mode::Failover => false,
+    matches!(mode, Mode::Exclusive)
+}
+
+fn is_failover(mode: Mode) -> bool
+    ensures { result ≡ is_failover mode }
+{
+    matches!(mode, Mode::Failover)
+}
+
+/// Whether more than one consumer is served.
+fn serves_many(mode: Mode) -> bool
+    ensures { result ≡ serves_many mode }
+{
+    matches!(mode, Mode::Shared)
+}
+
+/// A dispatcher with its first consumer.
+fn first_one(alloc: Global, mode: Mode, key: ConsumerKey) -> Result<Dispatch, AllocError>
+    ensures mode { IfOk result (λ d. mode_of d ≡ mode) }
+    ensures keys { IfOk result (λ d. keys_of d ≡ key ∷ []) }
+{
+    let mut dispatch = Dispatch::new(alloc, mode);
+    dispatch.attach(alloc, key)?;
+    Ok(dispatch)
+}
+
+/// A consumer without permits.
+fn newcomer(key: ConsumerKey) -> Consumer
+    ensures { result ≡ record { key = key; granted = 0; sent = 0 } }
+{
+    Consumer {
+        key,
+        granted: 0,
+        sent: 0,
     }
 }
 
@@ -255,24 +318,6 @@ fn has_permit(consumers: &[Consumer], key: ConsumerKey) -> bool
     };
     let consumer = consumers[place];
     consumer.sent < consumer.granted
-}
-
-fn serves(mode: Mode, consumers: &[Consumer], key: ConsumerKey) -> bool
-    ensures { result ≡ serves mode key consumers.now }
-{
-    match mode {
-        Mode::Exclusive => true,
-        Mode::Failover => is_first(consumers, key),
-    }
-}
-
-fn is_first(consumers: &[Consumer], key: ConsumerKey) -> bool
-    ensures { result ≡ is_first key consumers.now }
-{
-    match consumers.first() {
-        Some(first) => first.key.session == key.session && first.key.id == key.id,
-        None => false,
-    }
 }
 
 /// Grants a consumer more permits, unless it would have more than 2^62 in all.
@@ -324,9 +369,54 @@ fn free_all(progress: &mut Progress, consumers: &[Consumer], who: u64)
     }
 }
 
+/// The consumer gives back what it holds of the positions that are asked for.
+fn give_back_asked(progress: &mut Progress, key: ConsumerKey, mode: Mode, asked: Option<&[u64]>)
+    ensures acked { progress.new.acked ≡ progress.old.acked }
+    ensures deliveries { (q : ℕ) → map.get progress.new.deliveries q ≡ option_map (λ d. cond (is_asked_back mode (option_copied asked.entry) q) (given_back key d) d) (map.get progress.old.deliveries q) }
+{
+    let Some(positions) = asked else {
+        progress.give_back(key);
+        return;
+    };
+    if !serves_many(mode) {
+        progress.give_back(key);
+        return;
+    }
+    progress.give_back_among(key, positions);
+}
+
 /// Drops the consumers of the session.
 fn forget_consumers(consumers: &mut Vec<Consumer>, who: u64)
     ensures { consumers.new.items ≡ filter (λ c. not (nat_eq c.key.session who)) consumers.old.items }
 {
     consumers.retain(|c| c.key.session != who);
+}
+
+/// Drops the consumer.
+fn forget_consumer(consumers: &mut Vec<Consumer>, key: ConsumerKey)
+    ensures { consumers.new.items ≡ filter (λ c. not (is_consumer key c)) consumers.old.items }
+{
+    consumers.retain(|c| c.key != key);
+}
+
+/// The dispatcher lets the session's consumers go.
+fn detach_all(dispatch: &mut Dispatch, consumers: &[Consumer], who: u64)
+    requires { keys_of dispatch.old ≡ keys consumers.now }
+    ensures mode { mode_of dispatch.new ≡ mode_of dispatch.old }
+    ensures keys { keys_of dispatch.new ≡ keys (filter (λ c. not (nat_eq c.key.session who)) consumers.now) }
+{
+    for consumer in consumers {
+        detach_of(dispatch, consumer.key, who);
+    }
+}
+
+/// The dispatcher lets a consumer go, if it is of the session.
+fn detach_of(dispatch: &mut Dispatch, key: ConsumerKey, who: u64)
+    ensures mode { mode_of dispatch.new ≡ mode_of dispatch.old }
+    ensures keys { keys_of dispatch.new ≡ filter (λ k. not (nat_eq key.session who && same_key k key)) (keys_of dispatch.old) }
+{
+    if key.session != who {
+        return;
+    }
+    dispatch.detach(key);
 }

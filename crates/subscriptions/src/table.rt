@@ -3,7 +3,8 @@ ghost use Rattle.std.specs.List.{IsDistinct, find, list_any};
 ghost use Rattle.std.specs.Str.{bytes_eq};
 ghost use Rattle.records.specs.declared.kept_cursor.KeptCursor.{KeptCursor};
 ghost use Rattle.records.specs.declared.record.Record.TheVariants.{Acknowledged as acknowledged_change};
-ghost use Rattle.subscriptions.specs.Steps.{none_yet, opened_one, opened_all, first_changed, is_on, is_named, has_consumer, first_standing, making_refusals, subscribe_refusals, attach_refusals, attached_to, attached, attached_at, start_of, made, granted, granted_on, is_past_on, grants_too_many, acknowledged, acked_on, acknowledged_through, acked_through_on, is_shared, unsubscribe_refusals, unsubscribed, Admits, AdmitsAt, AdmitsOn, sent, sent_on, sent_before, times_at, left, left_on, settled};
+ghost use Rattle.subscriptions.specs.Steps.{none_yet, opened_one, opened_all, first_changed, is_on, is_named, has_consumer, first_standing, making_refusals, subscribe_refusals, attach_refusals, attached_to, attached, attached_at, start_of, made, granted, granted_on, is_past_on, grants_too_many, acknowledged, acked_on, acknowledged_through, acked_through_on, is_shared, unsubscribe_refusals, unsubscribed, Admits, AdmitsAt, AdmitsOn, sent, sent_on, sent_before, times_at, left, left_on, detached, detached_on, redelivered, redelivered_on, shares, is_among_many, settled};
+ghost use Rattle.std.specs.Option.{option_copied};
 ghost use Rattle.subscriptions.specs.Statuses.{AreStatuses};
 
 use crate::consumer::{Mode, Refusal, TooManyPermits};
@@ -153,7 +154,7 @@ impl Subscriptions {
             return Ok(());
         };
         let sub = &mut self.subs[place];
-        sub.attach(mode, key)?;
+        sub.attach(self.alloc, mode, key)?;
         Ok(())
     }
 
@@ -283,6 +284,38 @@ impl Subscriptions {
         leave_all(&mut self.subs, who);
     }
 
+    /// CLOSE_CONSUMER: the consumer goes, and what it holds is free. An unknown consumer changes
+    /// nothing. Takes no memory.
+    pub fn detach(&mut self, key: ConsumerKey)
+        ensures { self.new ≡ detached self.old key }
+    {
+        let Some(place) = place_of(self.subs.as_slice(), key) else {
+            return;
+        };
+        let sub = &mut self.subs[place];
+        sub.detach(key);
+    }
+
+    /// REDELIVER: the consumer gives back what it holds: the positions that are asked for, where
+    /// its mode serves many, and else all. Counts stay, and permits are spent. An unknown consumer
+    /// changes nothing. Takes no memory.
+    pub fn redeliver(&mut self, key: ConsumerKey, asked: Option<&[u64]>)
+        ensures { self.new ≡ redelivered self.old key (option_copied asked.entry) }
+    {
+        let Some(place) = place_of(self.subs.as_slice(), key) else {
+            return;
+        };
+        let sub = &mut self.subs[place];
+        sub.redeliver(key, asked);
+    }
+
+    /// Whether the consumer is attached to a subscription of which the mode serves many.
+    pub fn shares(&self, key: ConsumerKey) -> bool
+        ensures { result ≡ shares self.now key }
+    {
+        is_among_many(self.subs.as_slice(), key)
+    }
+
     /// The first changes are durable, and go.
     pub fn settle(&mut self, count: usize)
         requires { count ≤ length self.old.changes }
@@ -316,7 +349,7 @@ fn new_subscription(
     ensures { IfOk result (λ s. s ≡ attached_to mode key (made name.now mode start)) }
 {
     let mut sub = Subscription::new(alloc, Name::new(alloc, name)?, mode, start);
-    sub.attach(mode, key)?;
+    sub.attach(alloc, mode, key)?;
     Ok(sub)
 }
 
@@ -357,6 +390,17 @@ fn is_shared(subs: &[Subscription], key: ConsumerKey) -> bool
     };
     let sub = &subs[place];
     sub.is_shared()
+}
+
+/// Whether the mode of the consumer's subscription serves many.
+fn is_among_many(subs: &[Subscription], key: ConsumerKey) -> bool
+    ensures { result ≡ is_among_many (find (is_on key) subs.now) }
+{
+    let Some(place) = place_of(subs, key) else {
+        return false;
+    };
+    let sub = &subs[place];
+    sub.shares()
 }
 
 /// A change for each position.

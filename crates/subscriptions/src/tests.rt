@@ -1,12 +1,12 @@
 ghost use Rattle.std.specs.Prelude.{◌^◌, ◌≤◌};
 
-use crate::plain::PlainSubscription;
 use crate::{InitialPosition, Mode, Refusal, Subscriptions, TooManyPermits};
 use holds::ConsumerKey;
 use records::Record;
-use std::alloc::{AllocError, Global};
-use std::process::Abort;
+use std::alloc::AllocError;
 use std::test::Fail;
+
+mod scripts;
 
 const FIRST: ConsumerKey = ConsumerKey { session: 0, id: 2 };
 
@@ -282,103 +282,64 @@ fn most_permits(rt: HostRuntime) -> Result<(), Fail> {
     Ok(())
 }
 
-#[derive(Clone, Copy, Debug)]
-enum Action {
-    Grant(u32),
-    Send,
-    Ack(u32),
-    Change,
-}
-
-use Action::{Ack, Change as ChangeConsumer, Grant, Send};
-
-/// Works one action with both programs, and compares what goes out of six committed positions.
-fn act(
-    rt: &impl Abort,
-    subs: &mut Subscriptions,
-    plain: &mut PlainSubscription,
-    action: Action,
-) -> Result<(), AllocError> {
-    match action {
-        Grant(permits) => {
-            plain.grant(permits);
-            assert_eq!(rt; subs.grant(FIRST, u64::from(permits)), Ok(()));
-        }
-        Send => assert_eq!(rt; dispatch(subs, FIRST, 6)?, plain.dispatch(6)?),
-        Ack(position) => {
-            acknowledge(subs, FIRST, position)?;
-            plain.acknowledge(u64::from(position))?;
-        }
-        ChangeConsumer => {
-            subs.leave(0);
-            subscribe(
-                subs,
-                "s",
-                Mode::Exclusive,
-                FIRST,
-                InitialPosition::Latest,
-                6,
-            )?;
-            plain.change_consumer();
-        }
+#[test]
+fn shared_consumers(rt: HostRuntime) -> Result<(), Fail> {
+    let mut subs = Subscriptions::new(rt.alloc());
+    for key in [FIRST, SECOND] {
+        subscribe(
+            &mut subs,
+            "s",
+            Mode::Shared,
+            key,
+            InitialPosition::Earliest,
+            0,
+        )?;
+        assert_eq!(rt; subs.grant(key, 1), Ok(()));
     }
-    Ok(())
-}
-
-fn run_both(rt: &impl Abort, alloc: Global, script: &[Action]) -> Result<(), AllocError> {
-    let mut subs = Subscriptions::new(alloc);
-    let mut plain = PlainSubscription::new(alloc);
-    subscribe(
-        &mut subs,
-        "s",
-        Mode::Exclusive,
-        FIRST,
-        InitialPosition::Earliest,
-        0,
-    )?;
-    for action in script {
-        act(rt, &mut subs, &mut plain, *action)?;
-    }
+    assert_eq!(rt;
+        subs.refusal("s", Mode::Failover),
+        Some(Refusal::ConsumerBusy)
+    );
+    assert!(rt; subs.shares(FIRST));
+    assert_eq!(rt; dispatch(&mut subs, SECOND, 3)?, Some((0, 0)));
+    assert_eq!(rt; dispatch(&mut subs, FIRST, 3)?, Some((1, 0)));
+    assert_eq!(rt; subs.grant(FIRST, 0), Ok(()));
+    assert_eq!(rt; dispatch(&mut subs, FIRST, 3)?, None);
+    assert_eq!(rt; subs.grant(FIRST, 1), Ok(()));
+    assert_eq!(rt; dispatch(&mut subs, FIRST, 3)?, Some((2, 0)));
+    subs.redeliver(FIRST, Some(&[0, 2]));
+    assert_eq!(rt; subs.grant(SECOND, 5), Ok(()));
+    assert_eq!(rt; dispatch(&mut subs, SECOND, 3)?, Some((2, 1)));
+    assert_eq!(rt; dispatch(&mut subs, SECOND, 3)?, None);
+    subs.detach(FIRST);
+    assert!(rt; !subs.has_consumer(FIRST) && !subs.shares(FIRST));
+    assert_eq!(rt; dispatch(&mut subs, SECOND, 3)?, Some((1, 1)));
     Ok(())
 }
 
 #[test]
-fn acknowledged_positions_are_passed_over(rt: HostRuntime) -> Result<(), Fail> {
-    run_both(
-        &rt,
-        rt.alloc(),
-        &[
-            Ack(1),
-            Grant(2),
-            Send,
-            Send,
-            Send,
-            Ack(0),
-            Grant(3),
-            Send,
-            Ack(4),
-            Send,
-        ],
-    )?;
-    Ok(())
-}
-
-#[test]
-fn what_a_consumer_held_goes_to_the_next(rt: HostRuntime) -> Result<(), Fail> {
-    run_both(
-        &rt,
-        rt.alloc(),
-        &[
-            Grant(3),
-            Send,
-            Send,
-            Ack(0),
-            ChangeConsumer,
-            Send,
-            Grant(9),
-            Send,
-            Send,
-        ],
-    )?;
+fn failover_gives_back_all(rt: HostRuntime) -> Result<(), Fail> {
+    let mut subs = Subscriptions::new(rt.alloc());
+    for key in [FIRST, SECOND] {
+        subscribe(
+            &mut subs,
+            "f",
+            Mode::Failover,
+            key,
+            InitialPosition::Earliest,
+            0,
+        )?;
+        assert_eq!(rt; subs.grant(key, 3), Ok(()));
+    }
+    assert!(rt; !subs.shares(FIRST));
+    assert_eq!(rt; dispatch(&mut subs, FIRST, 2)?, Some((0, 0)));
+    assert_eq!(rt; dispatch(&mut subs, FIRST, 2)?, Some((1, 0)));
+    subs.redeliver(FIRST, Some(&[1]));
+    assert_eq!(rt; dispatch(&mut subs, SECOND, 2)?, None);
+    assert_eq!(rt; dispatch(&mut subs, FIRST, 2)?, Some((0, 1)));
+    assert_eq!(rt; dispatch(&mut subs, FIRST, 2)?, None);
+    subs.detach(FIRST);
+    assert_eq!(rt; dispatch(&mut subs, SECOND, 2)?, Some((0, 2)));
+    assert_eq!(rt; dispatch(&mut subs, SECOND, 2)?, Some((1, 1)));
     Ok(())
 }

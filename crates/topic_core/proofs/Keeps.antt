@@ -2,7 +2,7 @@
 use Rattle.std.proofs.lemmas.List.{take_all, drop_all, length-take, take-append-le}
 use Rattle.std.proofs.Common.{◌≡◌, ⊎_elim, ℕ, ◌+◌, ◌≤◌, ◌^◌, Bool, true, false, cond, not, ◌&&◌, Option, Some, None, is_some, Result, Ok, Err, List, [], ◌∷◌, ◌++◌, length, map, take, refl, subst, sym, ap, ◌∙◌, arith, length-append}
 use Rattle.commands.specs.declared.reply.Reply.{Reply}
-use Rattle.commands.specs.declared.reply.Reply.TheVariants.{ProducerSuccess, SendError, Error}
+use Rattle.commands.specs.declared.reply.Reply.TheVariants.{ProducerSuccess, SendError, Success, Error}
 use Rattle.topic_core.specs.declared.producer.Producer.{Producer}
 use Rattle.gated_log.specs.declared.refusal.Refusal.{Refusal}
 use Rattle.gated_log.specs.declared.refusal.Refusal.TheVariants as refusal
@@ -29,7 +29,7 @@ use Rattle.topic_core.specs.declared.dispatch.Outgoing.{Outgoing}
 use Rattle.reply_queues.specs.Replies.{SessionReplies, is_for, due_to, pending_to, make_all_due}
 use Rattle.topic_core.specs.Core.{Core, Topic, Doubt, opened, entries_of, changes_of, entries_in_doubt, changes_in_doubt}
 use Rattle.topic_core.specs.Soundness.{IsSound, AreReceipts, IsSoundTopic}
-use Rattle.topic_core.specs.Steps.{CoreStep, TopicStep, Collects, GrantStep, outcome_of, refused_or, first_standing, producer_refusals, send_refusals, with_producer, accepted, bytes_of, subscribe_refusal, subscribed, close_refusals, closing, unsubscribe_refusal, unsubscribed, ack_refusals, ack_refused, ack_accepted, key_of, start_of, granted, grants_too_many, left}
+use Rattle.topic_core.specs.Steps.{CoreStep, TopicStep, Collects, GrantStep, outcome_of, refused_or, first_standing, producer_refusals, send_refusals, with_producer, accepted, bytes_of, subscribe_refusal, subscribed, close_refusals, closing, unsubscribe_refusal, unsubscribed, ack_refusals, ack_refused, ack_accepted, detach_refusals, detached, asked_back, key_of, start_of, granted, grants_too_many, left}
 use Rattle.topic_core.specs.Dispatch.{Admits, Dispatches, DispatchStep, sent}
 use Rattle.topic_core.specs.Flush.{handed_on, flushed_topic, failed_topic, FlushStep, FlushIn, FlushEnds}
 use Rattle.topic_core.specs.Crashes.{IsLeft, TopicCrash, ReopenStep, ReopenEnds, ReopenIn, reopened, longer, changed}
@@ -96,6 +96,31 @@ entries-acked t who ack (Some request) = refl
 changes-acked : (t : Core) (who : ℕ) (ack : Ack) → changes_of t.doubt ≤ length t.subs.changes → (request : Option ℕ) → changes_in_doubt (ack_accepted t who ack request).core ≡ changes_in_doubt t
 changes-acked t who ack low None = first-acked (changes_of t.doubt) ack.ack_type t.subs _ _ low
 changes-acked t who ack low (Some request) = first-acked (changes_of t.doubt) ack.ack_type t.subs _ _ low
+
+-- the subscriptions alone change, and add no change
+pub detached-keeps : (t : Core) (key : ConsumerKey) → Keeps t (record t { subs = subscriptions.detached t.subs key })
+detached-keeps t key sound are = record {
+  sound = sound-subs t (subscriptions.detached t.subs key) sound (each_sound.detach t.subs key sound.subs) (each_committed.detach t.committed t.subs key sound.sent) (omega arith);
+  receipts = receipts-subs t (subscriptions.detached t.subs key) are;
+  committed = refl;
+  kept = λ kept is. are_kept.detach t.committed kept t.subs key is;
+  failed = refl;
+  per_ledger = refl;
+  entries = refl;
+  changes = refl;
+}
+
+pub redelivered-keeps : (t : Core) (key : ConsumerKey) (asked : Option (List ℕ)) → Keeps t (record t { subs = subscriptions.redelivered t.subs key asked })
+redelivered-keeps t key asked sound are = record {
+  sound = sound-subs t (subscriptions.redelivered t.subs key asked) sound (each_sound.redeliver t.subs key asked sound.subs) (each_committed.redeliver t.committed t.subs key asked sound.sent) (omega arith);
+  receipts = receipts-subs t (subscriptions.redelivered t.subs key asked) are;
+  committed = refl;
+  kept = λ kept is. are_kept.redeliver t.committed kept t.subs key asked is;
+  failed = refl;
+  per_ledger = refl;
+  entries = refl;
+  changes = refl;
+}
 
 outcome-keeps : (t : Core) (who : ℕ) (c : TopicCommand) → Keeps t (outcome_of t who c).core
 outcome-keeps t who (command.Producer id request name) =
@@ -178,6 +203,17 @@ outcome-keeps t who (command.Unsubscribe u) =
       }
       | Some error ↦ λ _. still t
     ] refl
+outcome-keeps t who (command.CloseConsumer close) =
+    elim (first_standing (detach_refusals t who close)) as (λ o.
+    Keeps t (refused_or o (λ error. Now (Error close.request_id error)) t (record { answer = Now (Success close.request_id); core = detached t who close })).core) [
+      | None ↦ detached-keeps t (key_of who close.consumer_id)
+      | Some error ↦ still t
+    ]
+outcome-keeps t who (command.Redeliver r) =
+    elim t.failed as (λ b. Keeps t (cond b t (record t { subs = subscriptions.redelivered t.subs (key_of who r.consumer_id) (asked_back t.per_ledger t.committed r.ids) }))) [
+      | true ↦ still t
+      | false ↦ redelivered-keeps t (key_of who r.consumer_id) (asked_back t.per_ledger t.committed r.ids)
+    ]
 
 to : (old a b : Core) → a ≡ b → Keeps old b → Keeps old a
 to old a b e h = let P : Core → Type 0 = λ x. Keeps old x in subst P (sym e) h

@@ -6,6 +6,7 @@ pub mod Sends
 pub mod Collects
 pub mod Flushes
 pub mod Subscribing
+pub mod GivenBack
 pub mod Closings
 pub mod Openings
 pub mod Flushing

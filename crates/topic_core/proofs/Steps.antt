@@ -14,12 +14,15 @@ use Rattle.topic_core.specs.declared.command.Subscribe.{Subscribe}
 use Rattle.topic_core.specs.declared.command.Ack.{Ack}
 use Rattle.topic_core.specs.declared.command.CloseProducer.{CloseProducer}
 use Rattle.topic_core.specs.declared.command.Unsubscribe.{Unsubscribe}
+use Rattle.topic_core.specs.declared.command.CloseConsumer.{CloseConsumer}
+use Rattle.topic_core.specs.declared.command.Redeliver.{Redeliver}
 use Rattle.topic_core.specs.declared.command.TopicCommand.{TopicCommand}
 use Rattle.topic_core.specs.declared.command.TopicCommand.TheVariants as command
 use Rattle.topic_core.specs.declared.command.Answer.{Answer}
 use Rattle.topic_core.specs.declared.command.Answer.TheVariants.{Now, Later, Nothing, NoMemory}
+use Rattle.subscriptions.specs.Steps as subscriptions
 use Rattle.topic_core.specs.Core.{Core}
-use Rattle.topic_core.specs.Steps.{CoreStep, Fits, IsAmong, outcome_of, first_standing, refused_or, producer_refusals, send_refusals, producer_errors, send_errors, with_producer, accepted, bytes_of, error_of, subscribe_refusal, subscribed, subscribe_errors, close_refusals, closing, close_errors, unsubscribe_refusal, unsubscribed, unsubscribe_errors, has_consumer, ack_refusals, ack_refused, ack_accepted, ack_errors}
+use Rattle.topic_core.specs.Steps.{CoreStep, Fits, IsAmong, outcome_of, first_standing, refused_or, producer_refusals, send_refusals, producer_errors, send_errors, with_producer, accepted, bytes_of, error_of, subscribe_refusal, subscribed, subscribe_errors, close_refusals, closing, close_errors, unsubscribe_refusal, unsubscribed, unsubscribe_errors, has_consumer, ack_refusals, ack_refused, ack_accepted, ack_errors, key_of, detach_refusals, detached, detach_errors, asked_back}
 use Rattle.topic_core.specs.Laws.{IsPublished, entries_added}
 
 -- the first refusal that stands is one of the table's
@@ -90,7 +93,7 @@ outcome-fits t who (command.Ack ack) =
     (ack_accepted t who ack ack.request_id)).answer) [
       | None ↦ λ _. ack-accepted-fits t who ack ack.request_id refl
       | Some e ↦ λ is. ack-refused-fits ack ack.request_id e refl
-          (among ack_errors (ack_refusals t who ack) (inl refl, (inr (inl refl), (inr (inr (inl refl)), (inr (inr (inl refl)), (inr (inr (inr (inl refl))), tt))))) e is)
+          (among ack_errors (ack_refusals t who ack) (inl refl, (inr (inl refl), (inr (inr (inl refl)), (inr (inr (inl refl)), (inr (inr (inl refl)), (inr (inr (inr (inl refl))), tt)))))) e is)
     ] refl
 outcome-fits t who (command.CloseProducer close) =
     elim (first_standing (close_refusals t who close)) as (λ o. first_standing (close_refusals t who close) ≡ o → Fits (command.CloseProducer close) (refused_or o (λ error. Now (Error close.request_id error)) t
@@ -104,6 +107,13 @@ outcome-fits t who (command.Unsubscribe u) =
       | None ↦ λ _. tt
       | Some e ↦ λ is. (refl, unsubscribe-among (has_consumer t who u.consumer_id) t.failed _ e is)
     ] refl
+outcome-fits t who (command.CloseConsumer close) =
+    elim (first_standing (detach_refusals t who close)) as (λ o. first_standing (detach_refusals t who close) ≡ o → Fits (command.CloseConsumer close) (refused_or o (λ error. Now (Error close.request_id error)) t
+    (record { answer = Now (Success close.request_id); core = detached t who close })).answer) [
+      | None ↦ λ _. refl
+      | Some e ↦ λ is. (refl, among detach_errors (detach_refusals t who close) (inl refl, (inr (inl refl), tt)) e is)
+    ] refl
+outcome-fits t who (command.Redeliver redeliver) = tt
 
 pub step-fits : (t : Core) (who : ℕ) (c : TopicCommand) (a : Answer) (new : Core) → CoreStep t who c a new → Fits c a
 step-fits t who c NoMemory new h = tt
@@ -162,6 +172,22 @@ unsubscribe-publishes t new who u a is =
       | Some error ↦ λ e. unchanged t new (command.Unsubscribe u) a refl (ap (λ (k : Core). k.waiting) e) (ap (λ (k : Core). k.accepted) e)
     ] is
 
+detach-publishes : (t new : Core) (who : ℕ) (close : CloseConsumer) (a : Answer) → new ≡ (outcome_of t who (command.CloseConsumer close)).core → IsPublished t (command.CloseConsumer close) a new
+detach-publishes t new who close a is =
+    elim (first_standing (detach_refusals t who close)) as (λ o. new ≡ (refused_or o (λ error. Now (Error close.request_id error)) t (record { answer = Now (Success close.request_id); core = detached t who close })).core
+    → IsPublished t (command.CloseConsumer close) a new) [
+      | None ↦ λ e. unchanged t new (command.CloseConsumer close) a refl (ap (λ (k : Core). k.waiting) e) (ap (λ (k : Core). k.accepted) e)
+      | Some error ↦ λ e. unchanged t new (command.CloseConsumer close) a refl (ap (λ (k : Core). k.waiting) e) (ap (λ (k : Core). k.accepted) e)
+    ] is
+
+redeliver-publishes : (t new : Core) (who : ℕ) (r : Redeliver) (a : Answer) → new ≡ (outcome_of t who (command.Redeliver r)).core → IsPublished t (command.Redeliver r) a new
+redeliver-publishes t new who r a is =
+    elim t.failed as (λ b. new ≡ cond b t (record t { subs = subscriptions.redelivered t.subs (key_of who r.consumer_id) (asked_back t.per_ledger t.committed r.ids) })
+    → IsPublished t (command.Redeliver r) a new) [
+      | true ↦ λ e. unchanged t new (command.Redeliver r) a refl (ap (λ (k : Core). k.waiting) e) (ap (λ (k : Core). k.accepted) e)
+      | false ↦ λ e. unchanged t new (command.Redeliver r) a refl (ap (λ (k : Core). k.waiting) e) (ap (λ (k : Core). k.accepted) e)
+    ] is
+
 ack-adds-none : (t new : Core) (who : ℕ) (ack : Ack) (a : Answer) (request : Option ℕ) → new ≡ (ack_accepted t who ack request).core → IsPublished t (command.Ack ack) a new
 ack-adds-none t new who ack a None e = unchanged t new (command.Ack ack) a refl (ap (λ (k : Core). k.waiting) e) (ap (λ (k : Core). k.accepted) e)
 ack-adds-none t new who ack a (Some request) e = unchanged t new (command.Ack ack) a refl (ap (λ (k : Core). k.waiting) e) (ap (λ (k : Core). k.accepted) e)
@@ -199,6 +225,14 @@ step-publishes t who (command.Unsubscribe u) NoMemory new h = unchanged t new (c
 step-publishes t who (command.Unsubscribe u) (Now r) new h = unsubscribe-publishes t new who u (Now r) h.1
 step-publishes t who (command.Unsubscribe u) Later new h = unsubscribe-publishes t new who u Later h.1
 step-publishes t who (command.Unsubscribe u) Nothing new h = unsubscribe-publishes t new who u Nothing h.1
+step-publishes t who (command.CloseConsumer close) NoMemory new h = unchanged t new (command.CloseConsumer close) NoMemory refl (ap (λ (k : Core). k.waiting) h) (ap (λ (k : Core). k.accepted) h)
+step-publishes t who (command.CloseConsumer close) (Now r) new h = detach-publishes t new who close (Now r) h.1
+step-publishes t who (command.CloseConsumer close) Later new h = detach-publishes t new who close Later h.1
+step-publishes t who (command.CloseConsumer close) Nothing new h = detach-publishes t new who close Nothing h.1
+step-publishes t who (command.Redeliver r) NoMemory new h = unchanged t new (command.Redeliver r) NoMemory refl (ap (λ (k : Core). k.waiting) h) (ap (λ (k : Core). k.accepted) h)
+step-publishes t who (command.Redeliver r) (Now reply) new h = redeliver-publishes t new who r (Now reply) h.1
+step-publishes t who (command.Redeliver r) Later new h = redeliver-publishes t new who r Later h.1
+step-publishes t who (command.Redeliver r) Nothing new h = redeliver-publishes t new who r Nothing h.1
 
 -- what fits at once is no receipt
 pub fits-plain : (c : TopicCommand) (r : Reply) → Fits c (Now r) → is_receipt r ≡ false
@@ -210,6 +244,8 @@ fits-plain (command.Subscribe subscribe) (SendReceipt p s i) h = absurd h
 fits-plain (command.Ack ack) (SendReceipt p s i) h = absurd h
 fits-plain (command.CloseProducer close) (SendReceipt p s i) h = absurd h
 fits-plain (command.Unsubscribe u) (SendReceipt p s i) h = absurd h
+fits-plain (command.CloseConsumer close) (SendReceipt p s i) h = absurd h
+fits-plain (command.Redeliver r) (SendReceipt p s i) h = absurd h
 fits-plain c (SendError p s e) h = refl
 fits-plain c (Message k i n) h = refl
 fits-plain c (Success request) h = refl

@@ -33,7 +33,7 @@ use Rattle.topic_core.specs.declared.command.Ack.{Ack}
 use Rattle.reply_queues.specs.Replies.{SessionReplies, is_receipt, receipts_in, with_pending, queued}
 use Rattle.topic_core.specs.Core.{Core, entries_of}
 use Rattle.topic_core.specs.Soundness.{IsSound, AreReceipts, HasReceipts, is_receipt_for}
-use Rattle.topic_core.specs.Steps.{first_standing, error_of, attach_refusal, subscribe_refusal, subscribed, key_of, start_of, has_consumer, is_committed, is_whole, position_at, ack_refusals, is_ill_counted, acked, acknowledged_at, ack_accepted}
+use Rattle.topic_core.specs.Steps.{first_standing, error_of, attach_refusal, subscribe_refusal, subscribed, key_of, start_of, has_consumer, is_committed, is_whole, position_at, ack_refusals, is_ill_counted, is_shared_cumulative, acked, acknowledged_at, ack_accepted}
 use Rattle.topic_core.proofs.Queues.{all-each, all-queued, all-both, sum_by-queued, distinct-queued}
 use Rattle.reply_queues.proofs.Places.{made}
 use Rattle.topic_core.proofs.Receipts.{rising-plain, plain-for}
@@ -172,12 +172,13 @@ pub accepts : (t : Core) (who : ℕ) (ack : Ack) → first_standing (ack_refusal
 accepts t who ack none =
     let second = none-rest (not (has_consumer t who ack.consumer_id)) ConsumerNotFound _ none in
     let third = none-rest t.failed PersistenceError _ second in
-    let fourth = none-rest (is_ill_counted ack) NotAllowedError _ third in
-    let fifth = none-rest (not (list_all (is_committed t.per_ledger t.committed) ack.ids)) NotAllowedError _ fourth in
+    let fourth = none-rest (is_shared_cumulative t who ack) NotAllowedError _ third in
+    let fifth = none-rest (is_ill_counted ack) NotAllowedError _ fourth in
+    let sixth = none-rest (not (list_all (is_committed t.per_ledger t.committed) ack.ids)) NotAllowedError _ fifth in
     record {
       works = none-first t.failed PersistenceError _ second;
-      named = turned _ (none-first _ NotAllowedError _ fourth);
-      room = ltb-false 65536 (length t.subs.changes + length ack.ids) (none-first _ TooManyRequests _ fifth);
+      named = turned _ (none-first _ NotAllowedError _ fifth);
+      room = ltb-false 65536 (length t.subs.changes + length ack.ids) (none-first _ TooManyRequests _ sixth);
     }
 
 length-map : {A B : Type 0} (f : A → B) (xs : List A) → length (map f xs) ≡ length xs

@@ -44,6 +44,8 @@ entries_added (asked.Subscribe subscribe) answer = []
 entries_added (asked.Ack ack) answer = []
 entries_added (asked.CloseProducer close) answer = []
 entries_added (asked.Unsubscribe unsubscribe) answer = []
+entries_added (asked.CloseConsumer close) answer = []
+entries_added (asked.Redeliver redeliver) answer = []
 
 -- what waits are the entries of accepted SENDs, and each is counted once
 pub record IsPublished (old : Core) (c : TopicCommand) (answer : Answer) (new : Core) : Type 0 where

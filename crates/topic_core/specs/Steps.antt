@@ -33,6 +33,8 @@ use Rattle.topic_core.specs.declared.command.Subscribe.{Subscribe}
 use Rattle.topic_core.specs.declared.command.Ack.{Ack}
 use Rattle.topic_core.specs.declared.command.CloseProducer.{CloseProducer}
 use Rattle.topic_core.specs.declared.command.Unsubscribe.{Unsubscribe}
+use Rattle.topic_core.specs.declared.command.CloseConsumer.{CloseConsumer}
+use Rattle.topic_core.specs.declared.command.Redeliver.{Redeliver}
 use Rattle.topic_core.specs.declared.command.TopicCommand.{TopicCommand}
 use Rattle.topic_core.specs.declared.command.TopicCommand.TheVariants as command
 use Rattle.topic_core.specs.declared.command.Answer.{Answer}
@@ -271,11 +273,16 @@ is_cumulative Cumulative = true
 abbrev pub is_ill_counted : Ack → Bool
 is_ill_counted ack = is_cumulative ack.ack_type && not (nat_eq (length ack.ids) 1)
 
+-- a cumulative ACK of a consumer whose subscription serves many
+abbrev pub is_shared_cumulative : Core → ℕ → Ack → Bool
+is_shared_cumulative t who ack = is_cumulative ack.ack_type && subscriptions.shares t.subs (key_of who ack.consumer_id)
+
 -- ACK: what the topic refuses, in order; a cumulative one has one id, and makes one change
 abbrev pub ack_refusals : Core → ℕ → Ack → List (Bool × ServerError)
 ack_refusals t who ack =
     (not (has_consumer t who ack.consumer_id), ConsumerNotFound)
     ∷ (t.failed, PersistenceError)
+    ∷ (is_shared_cumulative t who ack, NotAllowedError)
     ∷ (is_ill_counted ack, NotAllowedError)
     ∷ (not (list_all (is_committed t.per_ledger t.committed) ack.ids), NotAllowedError)
     ∷ (nat_lt 65536 (length t.subs.changes + length ack.ids), TooManyRequests)
@@ -311,6 +318,43 @@ ack_accepted t who ack (Some request) = record {
 abbrev pub ack_outcome : Core → ℕ → Ack → Outcome
 ack_outcome t who ack = refused_or (first_standing (ack_refusals t who ack)) (ack_refused ack.consumer_id ack.request_id) t (ack_accepted t who ack ack.request_id)
 
+-- CLOSE_CONSUMER: what the topic refuses, in order
+abbrev pub detach_refusals : Core → ℕ → CloseConsumer → List (Bool × ServerError)
+detach_refusals t who close =
+    (not (has_consumer t who close.consumer_id), ConsumerNotFound)
+    ∷ (t.failed, PersistenceError)
+    ∷ []
+
+-- the consumer goes, and what it holds is free, at once
+abbrev pub detached : Core → ℕ → CloseConsumer → Core
+detached t who close = record t { subs = subscriptions.detached t.subs (key_of who close.consumer_id) }
+
+abbrev pub detach_outcome : Core → ℕ → CloseConsumer → Outcome
+detach_outcome t who close =
+    refused_or (first_standing (detach_refusals t who close)) (λ error. Now (Error close.request_id error)) t
+    (record {
+      answer = Now (Success close.request_id);
+      core = detached t who close;
+    })
+
+-- REDELIVER: the committed positions that ids name; other ids are passed over
+abbrev pub named_positions : ℕ → ℕ → List MessageIdData → List ℕ
+named_positions n committed ids = map (λ id. position_at n id) (filter (is_committed n committed) ids)
+
+-- without ids all is asked back
+abbrev pub asked_back : ℕ → ℕ → List MessageIdData → Option (List ℕ)
+asked_back n committed [] = None
+asked_back n committed (id ∷ ids) = Some (named_positions n committed (id ∷ ids))
+
+-- the consumer gives back what it is asked for; of a failed topic, or for an unknown consumer, nothing changes
+abbrev pub redelivered : Core → ℕ → Redeliver → Core
+redelivered t who redeliver =
+    cond t.failed t (record t { subs = subscriptions.redelivered t.subs (key_of who redeliver.consumer_id) (asked_back t.per_ledger t.committed redeliver.ids) })
+
+-- it has no answer
+abbrev pub redeliver_outcome : Core → ℕ → Redeliver → Outcome
+redeliver_outcome t who redeliver = record { answer = Nothing; core = redelivered t who redeliver }
+
 -- what each command does
 abbrev pub outcome_of : Core → ℕ → TopicCommand → Outcome
 outcome_of t who (command.Producer id request name) = producer_outcome t who id request name
@@ -319,6 +363,8 @@ outcome_of t who (command.Subscribe subscribe) = subscribe_outcome t who subscri
 outcome_of t who (command.Ack ack) = ack_outcome t who ack
 outcome_of t who (command.CloseProducer close) = close_outcome t who close
 outcome_of t who (command.Unsubscribe unsubscribe) = unsubscribe_outcome t who unsubscribe
+outcome_of t who (command.CloseConsumer close) = detach_outcome t who close
+outcome_of t who (command.Redeliver redeliver) = redeliver_outcome t who redeliver
 
 -- an outcome is met, or memory was refused and nothing changed
 abbrev pub Meets : Outcome → Core → Answer → Core → Type 0
@@ -356,6 +402,9 @@ close_errors = NotAllowedError ∷ PersistenceError ∷ []
 abbrev pub unsubscribe_errors : List ServerError
 unsubscribe_errors = ConsumerNotFound ∷ PersistenceError ∷ ConsumerBusy ∷ TooManyRequests ∷ []
 
+abbrev pub detach_errors : List ServerError
+detach_errors = ConsumerNotFound ∷ PersistenceError ∷ []
+
 -- it is one of them
 abbrev pub IsAmong : ServerError → List ServerError → Type 0
 IsAmong error [] = ⊥
@@ -389,6 +438,14 @@ Fits (command.Unsubscribe unsubscribe) (Now (Error r e)) = (r ≡ unsubscribe.re
 Fits (command.Unsubscribe unsubscribe) (Now _) = ⊥
 Fits (command.Unsubscribe unsubscribe) Later = Unit {0}
 Fits (command.Unsubscribe unsubscribe) Nothing = ⊥
+Fits (command.CloseConsumer close) (Now (Success r)) = r ≡ close.request_id
+Fits (command.CloseConsumer close) (Now (Error r e)) = (r ≡ close.request_id) × IsAmong e detach_errors
+Fits (command.CloseConsumer close) (Now _) = ⊥
+Fits (command.CloseConsumer close) Later = ⊥
+Fits (command.CloseConsumer close) Nothing = ⊥
+Fits (command.Redeliver redeliver) (Now _) = ⊥
+Fits (command.Redeliver redeliver) Later = ⊥
+Fits (command.Redeliver redeliver) Nothing = Unit {0}
 
 -- how many receipts a reply is
 abbrev pub receipts_of : Reply → ℕ

@@ -70,6 +70,21 @@ pub struct Unsubscribe {
     pub request_id: u64,
 }
 
+/// A CLOSE_CONSUMER ("PulsarApi.proto, CommandCloseConsumer").
+#[derive(Drop)]
+pub struct CloseConsumer {
+    pub consumer_id: u64,
+    pub request_id: u64,
+}
+
+/// A REDELIVER ("PulsarApi.proto, CommandRedeliverUnacknowledgedMessages").
+#[derive(Drop)]
+pub struct Redeliver {
+    pub consumer_id: u64,
+    /// As they stand in the command; without ids all that the consumer holds is meant.
+    pub ids: Sequence<MessageIdData>,
+}
+
 /// What a session asks of a topic.
 #[derive(Drop)]
 pub enum TopicCommand {
@@ -84,6 +99,8 @@ pub enum TopicCommand {
     Ack(Ack),
     CloseProducer(CloseProducer),
     Unsubscribe(Unsubscribe),
+    CloseConsumer(CloseConsumer),
+    Redeliver(Redeliver),
 }
 
 /// What a topic answers.

@@ -110,6 +110,10 @@ impl TopicCore {
         if self.is_failed() {
             return Some(ServerError::PersistenceError);
         }
+        let key = key_of(who, ack.consumer_id);
+        if is_cumulative(ack.ack_type) && self.subs.shares(key) {
+            return Some(ServerError::NotAllowedError);
+        }
         let ids = ack.ids.as_slice();
         if is_cumulative(ack.ack_type) && ids.len() != 1 {
             return Some(ServerError::NotAllowedError);
@@ -265,7 +269,7 @@ fn ack_refused(consumer_id: u64, request_id: Option<u64>, error: ServerError) ->
 
 /// The position that an id names, where it is committed.
 #[tactic(auto, using(crate::proofs::Ids::unnamed))]
-fn committed_position(id: &MessageIdData, n: u32, committed: u64) -> Option<u64>
+pub(crate) fn committed_position(id: &MessageIdData, n: u32, committed: u64) -> Option<u64>
     requires some { 0 < n }
     requires few { committed ≤ 2 ^ 62 }
     ensures value { result ≡ cond (is_committed n committed id.now) (Some (position_at n id.now)) None }

@@ -16,12 +16,14 @@ mod flush;
 mod laws;
 mod opening;
 mod producer;
+mod redelivering;
 mod stores;
 mod topic;
 mod unsubscribing;
 
 pub use command::{
-    Ack, Answer, CloseProducer, PlainEntry, Send, SentEntry, Subscribe, TopicCommand, Unsubscribe,
+    Ack, Answer, CloseConsumer, CloseProducer, PlainEntry, Redeliver, Send, SentEntry, Subscribe,
+    TopicCommand, Unsubscribe,
 };
 pub use dispatch::Outgoing;
 pub use laws::{

@@ -268,6 +268,11 @@ impl TopicCore {
             TopicCommand::Ack(ack) => self.acknowledge(who, &ack),
             TopicCommand::CloseProducer(close) => self.close_producer(who, &close),
             TopicCommand::Unsubscribe(unsubscribe) => self.unsubscribe(who, &unsubscribe),
+            TopicCommand::CloseConsumer(close) => Ok(self.close_consumer(who, &close)),
+            TopicCommand::Redeliver(redeliver) => {
+                self.redeliver(who, &redeliver);
+                Ok(Answer::Nothing)
+            }
         };
         answer.unwrap_or(Answer::NoMemory)
     }

@@ -4,6 +4,8 @@ mod basics;
 mod crashes;
 mod failures;
 mod limits;
+mod sharing;
+mod slow;
 mod table;
 
 ghost use Rattle.std.specs.Prelude.{◌<◌, IfOk};

@@ -18,8 +18,10 @@ fn subscribe(alloc: Global, text: &str) -> Result<Option<Subscribe>, CommandFaul
         | Command::Flow(_)
         | Command::Unsubscribe(_)
         | Command::CloseProducer(_)
+        | Command::CloseConsumer(_)
         | Command::Ping
         | Command::Pong
+        | Command::RedeliverUnacknowledgedMessages(_)
         | Command::Other(_) => { Ok(None) }
     }
 }
@@ -34,8 +36,10 @@ fn ack(alloc: Global, text: &str) -> Result<Option<Ack>, CommandFault> {
         | Command::Flow(_)
         | Command::Unsubscribe(_)
         | Command::CloseProducer(_)
+        | Command::CloseConsumer(_)
         | Command::Ping
         | Command::Pong
+        | Command::RedeliverUnacknowledgedMessages(_)
         | Command::Other(_) => { Ok(None) }
     }
 }
@@ -50,8 +54,10 @@ fn flow(alloc: Global, text: &str) -> Result<Option<Flow>, CommandFault> {
         | Command::Ack(_)
         | Command::Unsubscribe(_)
         | Command::CloseProducer(_)
+        | Command::CloseConsumer(_)
         | Command::Ping
         | Command::Pong
+        | Command::RedeliverUnacknowledgedMessages(_)
         | Command::Other(_) => { Ok(None) }
     }
 }
@@ -66,8 +72,10 @@ fn unsubscribe(alloc: Global, text: &str) -> Result<Option<Unsubscribe>, Command
         | Command::Ack(_)
         | Command::Flow(_)
         | Command::CloseProducer(_)
+        | Command::CloseConsumer(_)
         | Command::Ping
         | Command::Pong
+        | Command::RedeliverUnacknowledgedMessages(_)
         | Command::Other(_) => { Ok(None) }
     }
 }

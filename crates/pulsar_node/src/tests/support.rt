@@ -105,7 +105,7 @@ pub fn tells_no_memory(lines: &[u8]) -> bool {
 }
 
 /// Whether a line tells that the device failed: so does one in memory where a growth of its own was refused.
-fn tells_a_failure(lines: &[u8]) -> bool {
+pub fn tells_a_failure(lines: &[u8]) -> bool {
     lines.windows(3).any(|word| word == b" S1".as_slice())
 }
 

@@ -1,7 +1,7 @@
 ghost use Rattle.std.specs.Prelude.{◌≡◌, ◌≤◌, [], cond, length};
 ghost use Rattle.session.specs.Broker.{IsMessageFor, SendsTo};
 ghost use Rattle.topic_core.specs.Steps.{Fits};
-ghost use Rattle.topic_core.specs.declared.command.TopicCommand.TheVariants.{Send as SendCommand, Ack as AckCommand, CloseProducer as CloseCommand, Unsubscribe as UnsubscribeCommand};
+ghost use Rattle.topic_core.specs.declared.command.TopicCommand.TheVariants.{Send as SendCommand, Ack as AckCommand, CloseProducer as CloseCommand, Unsubscribe as UnsubscribeCommand, CloseConsumer as CloseConsumerCommand, Redeliver as RedeliverCommand};
 
 use bytes::Bytes;
 use commands::{Reply, ServerError};
@@ -11,8 +11,8 @@ use ids::MessageId;
 use session::{Found, Port};
 use std::alloc::{AllocError, Global};
 use topic_core::{
-    Ack, Answer, CloseProducer, Outgoing, Send, SentEntry, Subscribe, TooManyPermits, TopicCommand,
-    Unsubscribe,
+    Ack, Answer, CloseConsumer, CloseProducer, Outgoing, Redeliver, Send, SentEntry, Subscribe,
+    TooManyPermits, TopicCommand, Unsubscribe,
 };
 
 /// The entry of SEND: the size of its metadata, the metadata (producer `p`, sequence id 0, time 8000) and the payload 5.
@@ -60,6 +60,8 @@ pub struct Board {
     pub sent: Vec<SentEntry>,
     pub subscribed: Vec<Subscribe>,
     pub acked: Vec<Ack>,
+    /// The last REDELIVER.
+    pub redelivered: Option<Redeliver>,
     /// The permits of all FLOWs.
     pub granted: u64,
     /// What is due after a flush.
@@ -86,6 +88,7 @@ impl Board {
             sent: Vec::new(alloc),
             subscribed: Vec::new(alloc),
             acked: Vec::new(alloc),
+            redelivered: None,
             granted: 0,
             waiting: Vec::new(alloc),
             due: Vec::new(alloc),
@@ -227,6 +230,30 @@ impl Board {
         }
     }
 
+    fn close_consumer(&mut self, asked: CloseConsumer) -> Answer
+        ensures fits { Fits (CloseConsumerCommand asked) result }
+        ensures stays { self.new.has_topic ≡ self.old.has_topic }
+    {
+        if !self.consumers.contains(&asked.consumer_id) {
+            return Answer::Now(Reply::Error {
+                request_id: asked.request_id,
+                error: ServerError::ConsumerNotFound,
+            });
+        }
+        self.consumers.retain(|id| *id != asked.consumer_id);
+        Answer::Now(Reply::Success {
+            request_id: asked.request_id,
+        })
+    }
+
+    fn redeliver(&mut self, asked: Redeliver) -> Answer
+        ensures fits { Fits (RedeliverCommand asked) result }
+        ensures stays { self.new.has_topic ≡ self.old.has_topic }
+    {
+        self.redelivered = Some(asked);
+        Answer::Nothing
+    }
+
     /// What the next dispatch answers to this consumer.
     fn next_dispatch(&mut self, consumer_id: u64) -> Result<Option<Dispatch>, AllocError>
         ensures stays { self.new.has_topic ≡ self.old.has_topic }
@@ -309,6 +336,8 @@ impl Port for Board {
             TopicCommand::Ack(asked) => self.ack(asked),
             TopicCommand::CloseProducer(asked) => self.close(asked),
             TopicCommand::Unsubscribe(asked) => self.unsubscribe(asked),
+            TopicCommand::CloseConsumer(asked) => self.close_consumer(asked),
+            TopicCommand::Redeliver(asked) => self.redeliver(asked),
         }
     }
 

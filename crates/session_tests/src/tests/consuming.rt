@@ -1,7 +1,7 @@
 use super::board::Dispatch;
 use super::{
-    ACK, ACK_RESPONSE, CONSUMER_NOT_FOUND, FLOW, MESSAGE, NOT_ALLOWED_OF_8, PING, RECEIPT, SEND,
-    SILENT_ACK, SUBSCRIBE, SUCCESS, Stage, UNSUBSCRIBE,
+    ACK, ACK_RESPONSE, CONSUMER_NOT_FOUND, FLOW, MESSAGE, NO_CONSUMER_OF_8, NOT_ALLOWED_OF_8, PING,
+    RECEIPT, SEND, SILENT_ACK, SUBSCRIBE, SUCCESS, Stage, UNSUBSCRIBE,
 };
 use commands::{AckType, InitialPosition};
 use session::{Fault, More};
@@ -36,12 +36,6 @@ const TOO_MANY_CONSUMERS: [u8; 33] = [
 const CONSUMER_ON_INVALID_TOPIC: [u8; 34] = [
     0, 0, 0, 0x1e, 0, 0, 0, 0x1a, 8, 0x0e, 0x72, 0x16, 8, 8, 0x10, 0x11, 0x1a, 0x10, 0x49, 0x6e,
     0x76, 0x61, 0x6c, 0x69, 0x64, 0x54, 0x6f, 0x70, 0x69, 0x63, 0x4e, 0x61, 0x6d, 0x65,
-];
-
-/// ERROR of request 8 with ConsumerNotFound.
-const NO_CONSUMER_TO_UNSUBSCRIBE: [u8; 34] = [
-    0, 0, 0, 0x1e, 0, 0, 0, 0x1a, 8, 0x0e, 0x72, 0x16, 8, 8, 0x10, 0x0d, 0x1a, 0x10, 0x43, 0x6f,
-    0x6e, 0x73, 0x75, 0x6d, 0x65, 0x72, 0x4e, 0x6f, 0x74, 0x46, 0x6f, 0x75, 0x6e, 0x64,
 ];
 
 #[test]
@@ -132,7 +126,7 @@ fn a_consumer_unsubscribes(rt: HostRuntime) -> Result<(), Fail> {
     assert!(rt; stage.out.is_empty());
     assert_eq!(rt; stage.board.unsubscribed.as_slice(), [2].as_slice());
     stage.feed(&UNSUBSCRIBE)?;
-    assert_eq!(rt; stage.out.as_slice(), NO_CONSUMER_TO_UNSUBSCRIBE.as_slice());
+    assert_eq!(rt; stage.out.as_slice(), NO_CONSUMER_OF_8.as_slice());
     assert_eq!(rt; stage.flush_and_pump()?, More::No);
     assert_eq!(rt; stage.out.as_slice(), SUCCESS.as_slice());
     stage.out.clear();
@@ -146,18 +140,12 @@ fn a_consumer_unsubscribes(rt: HostRuntime) -> Result<(), Fail> {
 fn an_unknown_consumer_unsubscribes_from_nothing(rt: HostRuntime) -> Result<(), Fail> {
     let mut unknown = Stage::connected(rt.alloc())?;
     unknown.feed(&UNSUBSCRIBE)?;
-    assert_eq!(rt;
-        unknown.out.as_slice(),
-        NO_CONSUMER_TO_UNSUBSCRIBE.as_slice()
-    );
+    assert_eq!(rt; unknown.out.as_slice(), NO_CONSUMER_OF_8.as_slice());
     let mut without_topic = Stage::connected(rt.alloc())?;
     without_topic.feed(&SUBSCRIBE)?;
     without_topic.board.has_topic = false;
     without_topic.feed(&UNSUBSCRIBE)?;
-    assert_eq!(rt;
-        without_topic.out.as_slice(),
-        NO_CONSUMER_TO_UNSUBSCRIBE.as_slice()
-    );
+    assert_eq!(rt; without_topic.out.as_slice(), NO_CONSUMER_OF_8.as_slice());
     assert!(rt; without_topic.board.unsubscribed.is_empty());
     Ok(())
 }
@@ -272,11 +260,18 @@ fn lengths_of_a_subscription_name(rt: HostRuntime) -> Result<(), Fail> {
 #[test]
 fn subscription_types_that_are_served(rt: HostRuntime) -> Result<(), Fail> {
     let mut frame = SUBSCRIBE;
-    for kind in 1..4u8 {
+    for (kind, mode) in [(0, Mode::Exclusive), (1, Mode::Shared), (2, Mode::Failover)] {
         frame[36] = kind;
-        is_refused(&rt, rt.alloc(), &frame)?;
+        let mut stage = Stage::connected(rt.alloc())?;
+        stage.feed(&frame)?;
+        let [asked] = stage.board.subscribed.as_slice() else {
+            return Err("there is not one SUBSCRIBE".into());
+        };
+        assert_eq!(rt; asked.mode, mode);
+        assert!(rt; stage.out.is_empty());
     }
-    Ok(())
+    frame[36] = 3;
+    is_refused(&rt, rt.alloc(), &frame)
 }
 
 #[test]

@@ -17,7 +17,8 @@ use std::alloc::{AllocError, Global};
 use std::test::Fail;
 use subscriptions::Mode;
 use topic_core::{
-    Ack, Answer, CloseProducer, PlainEntry, Send, SentEntry, Subscribe, TopicCommand, Unsubscribe,
+    Ack, Answer, CloseConsumer, CloseProducer, PlainEntry, Redeliver, Send, SentEntry, Subscribe,
+    TopicCommand, Unsubscribe,
 };
 
 // Metadata of ten bytes, behind their size: the producer "p", the sequence id 0, the time 1 and a field that isn't known.
@@ -211,6 +212,21 @@ pub(super) fn subscribe(
     requires { AreMatched topic.old.core topic.old.stores }
     ensures { AreMatched topic.new.core topic.new.stores }
 {
+    subscribe_as(alloc, topic, who, id, Mode::Exclusive, initial)
+}
+
+/// Asks for a consumer of the subscription `s`.
+pub(super) fn subscribe_as(
+    alloc: Global,
+    topic: &mut Topic,
+    who: u64,
+    id: u64,
+    mode: Mode,
+    initial: InitialPosition,
+) -> Result<Told, AllocError>
+    requires { AreMatched topic.old.core topic.old.stores }
+    ensures { AreMatched topic.new.core topic.new.stores }
+{
     let subscription = Text::new(String::from_str(alloc, "s")?);
     if !is_subscription_name(subscription.as_str().as_bytes()) {
         return Ok(Told::Nothing);
@@ -221,7 +237,7 @@ pub(super) fn subscribe(
             consumer_id: id,
             request_id: 200 + id % 100,
             subscription,
-            mode: Mode::Exclusive,
+            mode,
             initial,
         }),
     );
@@ -319,6 +335,41 @@ pub(super) fn unsubscribe(topic: &mut Topic, who: u64, id: u64) -> Result<Told, 
         TopicCommand::Unsubscribe(Unsubscribe {
             consumer_id: id,
             request_id: 600 + id % 100,
+        }),
+    );
+    answered(&answer)
+}
+
+/// Closes a consumer.
+pub(super) fn close_consumer(topic: &mut Topic, who: u64, id: u64) -> Result<Told, AllocError>
+    requires { AreMatched topic.old.core topic.old.stores }
+    ensures { AreMatched topic.new.core topic.new.stores }
+{
+    let answer = topic.command(
+        who,
+        TopicCommand::CloseConsumer(CloseConsumer {
+            consumer_id: id,
+            request_id: 700 + id % 100,
+        }),
+    );
+    answered(&answer)
+}
+
+/// Asks what a consumer holds back: what these ids name, or all.
+pub(super) fn redeliver(
+    topic: &mut Topic,
+    who: u64,
+    id: u64,
+    ids: Vec<MessageIdData>,
+) -> Result<Told, AllocError>
+    requires { AreMatched topic.old.core topic.old.stores }
+    ensures { AreMatched topic.new.core topic.new.stores }
+{
+    let answer = topic.command(
+        who,
+        TopicCommand::Redeliver(Redeliver {
+            consumer_id: id,
+            ids: Sequence::new(ids),
         }),
     );
     answered(&answer)

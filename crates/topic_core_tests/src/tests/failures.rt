@@ -3,7 +3,8 @@ ghost use Rattle.std.specs.Prelude.{◌<◌, IfOk};
 ghost use Rattle.topic_core_tests.specs.Matching.{AreMatched};
 
 use super::asking::{
-    Told, acknowledge, collected, dispatched, entry_id, produce, send, send_entry, subscribe,
+    Told, acknowledge, close_consumer, collected, dispatched, entry_id, produce, redeliver, send,
+    send_entry, subscribe,
 };
 use super::{Topic, answer};
 use commands::{InitialPosition, ServerError};
@@ -111,6 +112,12 @@ fn a_failed_topic_refuses_in_its_turn(rt: HostRuntime) -> Result<(), Fail> {
     assert_eq!(rt; told, persistence);
     let told = acknowledge(alloc, &mut topic, 2, 5, first, Some(7))?;
     assert_eq!(rt; told, Told::Refused(7, ServerError::ConsumerNotFound));
+    let told = close_consumer(&mut topic, 1, 5)?;
+    assert_eq!(rt; told, Told::Refused(705, ServerError::PersistenceError));
+    let told = close_consumer(&mut topic, 2, 5)?;
+    assert_eq!(rt; told, Told::Refused(705, ServerError::ConsumerNotFound));
+    let told = redeliver(&mut topic, 1, 5, Vec::new(alloc))?;
+    assert_eq!(rt; told, Told::Nothing);
     assert!(rt; topic.grant(1, 5, 1).is_ok());
     assert_eq!(rt; dispatched(&mut topic, 1, 5)?, Told::Nothing);
     Ok(())

@@ -1,0 +1,139 @@
+use crate::KeySharedDispatcher;
+use crate::tests::keyed::Keyed;
+use holds::{Consumer, ConsumerKey, Dispatcher, Refusal, SlotRange};
+use std::alloc::{AllocError, Global};
+use std::test::Fail;
+
+/// The slots of entries without a key, with the key `hello`, and with the key `test`.
+const SLOTS: [u16; 6] = [0, 64071, 53779, 64071, 0, 53779];
+
+fn key(id: u64) -> ConsumerKey {
+    ConsumerKey { session: 5, id }
+}
+
+/// Attaches a consumer. Only want of memory is an error, and another refusal is the answer.
+fn attach(
+    dispatcher: &mut KeySharedDispatcher,
+    alloc: Global,
+    id: u64,
+    ends: &[(u16, u16)],
+) -> Result<Option<Refusal>, AllocError> {
+    let mut ranges = Vec::new(alloc);
+    for &(start, end) in ends {
+        ranges.push(SlotRange { start, end })?;
+    }
+    let newcomer = Consumer {
+        key: key(id),
+        ranges,
+    };
+    let foretold = dispatcher.refusal(&newcomer);
+    match dispatcher.attach(newcomer) {
+        Ok(()) => Ok(None),
+        Err(Refusal::NoMemory) => Err(AllocError),
+        Err(_) => Ok(foretold),
+    }
+}
+
+/// All but the positions below `first` are open.
+fn open_from(first: u32) -> Keyed {
+    Keyed {
+        first,
+        slots: SLOTS,
+    }
+}
+
+#[test]
+fn each_key_goes_to_its_consumer(rt: HostRuntime) -> Result<(), Fail> {
+    let mut dispatcher = KeySharedDispatcher::new(rt.alloc());
+    let all = open_from(0);
+    let later = open_from(2);
+    assert_eq!(rt; dispatcher.pick(&all, key(1)), None);
+    assert_eq!(rt;
+        attach(&mut dispatcher, rt.alloc(), 1, &[(0, 32767)])?,
+        None
+    );
+    assert_eq!(rt;
+        attach(&mut dispatcher, rt.alloc(), 2, &[(32768, 65535)])?,
+        None
+    );
+    assert_eq!(rt; dispatcher.pick(&all, key(1)), Some(0));
+    assert_eq!(rt; dispatcher.pick(&all, key(2)), Some(1));
+    assert_eq!(rt; dispatcher.pick(&later, key(1)), Some(4));
+    assert_eq!(rt; dispatcher.pick(&later, key(2)), Some(2));
+    assert_eq!(rt; dispatcher.pick(&all, key(3)), None);
+    dispatcher.detach(key(2));
+    assert_eq!(rt; dispatcher.pick(&all, key(2)), None);
+    assert_eq!(rt;
+        attach(
+            &mut dispatcher,
+            rt.alloc(),
+            3,
+            &[(64071, 64071), (40000, 53778)]
+        )?,
+        None
+    );
+    assert_eq!(rt; dispatcher.pick(&later, key(3)), Some(3));
+    assert_eq!(rt; dispatcher.pick(&open_from(4), key(3)), None);
+    Ok(())
+}
+
+#[test]
+fn ranges_that_meet_are_refused(rt: HostRuntime) -> Result<(), Fail> {
+    let mut dispatcher = KeySharedDispatcher::new(rt.alloc());
+    assert_eq!(rt;
+        attach(&mut dispatcher, rt.alloc(), 1, &[(100, 200), (300, 300)])?,
+        None
+    );
+    let refused: [&[(u16, u16)]; 9] = [
+        &[],
+        &[(50, 49)],
+        &[(0, 10), (10, 20)],
+        &[(0, 100)],
+        &[(200, 250)],
+        &[(120, 130)],
+        &[(0, 65535)],
+        &[(0, 10), (250, 300)],
+        &[(300, 300)],
+    ];
+    for ranges in refused {
+        assert_eq!(rt;
+            attach(&mut dispatcher, rt.alloc(), 2, ranges)?,
+            Some(Refusal::ConsumerAssignError),
+            "at {ranges:?}"
+        );
+    }
+    let allowed: [&[(u16, u16)]; 3] = [&[(0, 99)], &[(201, 299)], &[(301, 65535)]];
+    for ranges in allowed {
+        assert_eq!(rt;
+            attach(&mut dispatcher, rt.alloc(), 2, ranges)?,
+            None,
+            "at {ranges:?}"
+        );
+    }
+    Ok(())
+}
+
+#[test]
+fn sixty_four_come_before_the_ranges(rt: HostRuntime) -> Result<(), Fail> {
+    let mut dispatcher = KeySharedDispatcher::new(rt.alloc());
+    for id in 0..64u16 {
+        assert_eq!(rt;
+            attach(&mut dispatcher, rt.alloc(), u64::from(id), &[(id, id)])?,
+            None,
+            "at {id}"
+        );
+    }
+    for ranges in [&[(64, 64)], &[(1, 0)]] {
+        assert_eq!(rt;
+            attach(&mut dispatcher, rt.alloc(), 64, ranges)?,
+            Some(Refusal::TooManyConsumers)
+        );
+    }
+    dispatcher.detach(key(7));
+    assert_eq!(rt;
+        attach(&mut dispatcher, rt.alloc(), 64, &[(8, 8)])?,
+        Some(Refusal::ConsumerAssignError)
+    );
+    assert_eq!(rt; attach(&mut dispatcher, rt.alloc(), 64, &[(7, 7)])?, None);
+    Ok(())
+}

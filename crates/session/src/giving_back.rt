@@ -1,0 +1,57 @@
+ghost use Rattle.session.specs.Client.{Client, Play, play, Speaks};
+ghost use Rattle.session.specs.GivingBack.{CloseConsumerStep, RedeliverStep};
+
+use crate::port::Port;
+use crate::session::Session;
+use commands::{CloseConsumer, Redeliver, ServerError};
+use topic_core::TopicCommand;
+
+impl Session {
+    /// Works CLOSE_CONSUMER ("PulsarApi.proto, CommandCloseConsumer"). The id is free once the topic has detached the
+    /// consumer.
+    pub(crate) fn close_consumer<P: Port>(
+        &mut self,
+        asked: CloseConsumer,
+        port: &mut P,
+        out: &mut Vec<u8>,
+    )
+        ensures step { P.sole port.old → CloseConsumerStep (play self.old (P.broker port.old) out.old.items) asked
+            (play self.new (P.broker port.new) out.new.items) }
+        ensures speaks { Speaks self.old out.old.items self.new out.new.items }
+        ensures passes { P.passes port.old port.new }
+    {
+        let Some(topic) = self.consumer_topic(asked.consumer_id) else {
+            return self.refuse_consumer(asked.request_id, ServerError::ConsumerNotFound, out);
+        };
+        if topic >= port.topics() {
+            return self.refuse_consumer(asked.request_id, ServerError::ConsumerNotFound, out);
+        }
+        let command = TopicCommand::CloseConsumer(topic_core::CloseConsumer {
+            consumer_id: asked.consumer_id,
+            request_id: asked.request_id,
+        });
+        let answer = port.command(topic, self.number, command);
+        self.answer(&answer, out)
+    }
+
+    /// Works REDELIVER ("PulsarApi.proto, CommandRedeliverUnacknowledgedMessages"), which has no answer.
+    pub(crate) fn redeliver<P: Port>(&mut self, asked: Redeliver, port: &mut P, out: &mut Vec<u8>)
+        ensures step { P.sole port.old → RedeliverStep (play self.old (P.broker port.old) out.old.items) asked
+            (play self.new (P.broker port.new) out.new.items) }
+        ensures speaks { Speaks self.old out.old.items self.new out.new.items }
+        ensures passes { P.passes port.old port.new }
+    {
+        let Some(topic) = self.consumer_topic(asked.consumer_id) else {
+            return;
+        };
+        if topic >= port.topics() {
+            return;
+        }
+        let command = TopicCommand::Redeliver(topic_core::Redeliver {
+            consumer_id: asked.consumer_id,
+            ids: asked.message_ids,
+        });
+        let answer = port.command(topic, self.number, command);
+        self.answer(&answer, out)
+    }
+}

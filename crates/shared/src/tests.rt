@@ -1,0 +1,78 @@
+use super::*;
+use holds::{Consumer, ConsumerKey, Dispatcher, Refusal};
+use std::alloc::{AllocError, Global};
+use std::test::Fail;
+
+mod tail;
+
+use tail::Tail;
+
+const FIRST: ConsumerKey = ConsumerKey { session: 5, id: 1 };
+
+const SECOND: ConsumerKey = ConsumerKey { session: 5, id: 2 };
+
+/// Has the first consumer's id, in another session.
+const STRANGER: ConsumerKey = ConsumerKey { session: 6, id: 1 };
+
+const OPEN: Tail = Tail {
+    first: 3,
+    committed: 6,
+};
+
+const NONE_OPEN: Tail = Tail {
+    first: 6,
+    committed: 6,
+};
+
+/// Attaches a consumer. Only want of memory is an error, and another refusal is the answer.
+fn attach(
+    dispatcher: &mut SharedDispatcher,
+    alloc: Global,
+    key: ConsumerKey,
+) -> Result<Option<Refusal>, AllocError> {
+    let newcomer = Consumer {
+        key,
+        ranges: Vec::new(alloc),
+    };
+    let foretold = dispatcher.refusal(&newcomer);
+    match dispatcher.attach(newcomer) {
+        Ok(()) => Ok(None),
+        Err(Refusal::NoMemory) => Err(AllocError),
+        Err(_) => Ok(foretold),
+    }
+}
+
+#[test]
+fn serves_whoever_is_attached(rt: HostRuntime) -> Result<(), Fail> {
+    let mut dispatcher = SharedDispatcher::new(rt.alloc());
+    assert_eq!(rt; dispatcher.pick(&OPEN, FIRST), None);
+    assert_eq!(rt; attach(&mut dispatcher, rt.alloc(), FIRST)?, None);
+    assert_eq!(rt; attach(&mut dispatcher, rt.alloc(), SECOND)?, None);
+    assert_eq!(rt; dispatcher.pick(&OPEN, FIRST), Some(3));
+    assert_eq!(rt; dispatcher.pick(&OPEN, SECOND), Some(3));
+    assert_eq!(rt; dispatcher.pick(&OPEN, STRANGER), None);
+    assert_eq!(rt; dispatcher.pick(&NONE_OPEN, FIRST), None);
+    dispatcher.detach(FIRST);
+    assert_eq!(rt; dispatcher.pick(&OPEN, FIRST), None);
+    assert_eq!(rt; dispatcher.pick(&OPEN, SECOND), Some(3));
+    Ok(())
+}
+
+#[test]
+fn takes_sixty_four(rt: HostRuntime) -> Result<(), Fail> {
+    let mut dispatcher = SharedDispatcher::new(rt.alloc());
+    for id in 0..64 {
+        let key = ConsumerKey { session: 5, id };
+        assert_eq!(rt; attach(&mut dispatcher, rt.alloc(), key)?, None, "at {id}");
+    }
+    assert_eq!(rt;
+        attach(&mut dispatcher, rt.alloc(), STRANGER)?,
+        Some(Refusal::TooManyConsumers)
+    );
+    assert_eq!(rt; dispatcher.pick(&OPEN, STRANGER), None);
+    assert_eq!(rt; dispatcher.pick(&OPEN, SECOND), Some(3));
+    dispatcher.detach(SECOND);
+    assert_eq!(rt; attach(&mut dispatcher, rt.alloc(), STRANGER)?, None);
+    assert_eq!(rt; dispatcher.pick(&OPEN, STRANGER), Some(3));
+    Ok(())
+}
