@@ -35,15 +35,29 @@ def frame(kind, fields, entry=b""):
 CONNECT = frame(2, text(1, b"c") + number(4, 5))
 PRODUCER = frame(5, text(1, TOPIC) + number(2, 1) + number(3, 7))
 METADATA = text(1, b"p") + number(2, 0) + number(3, 1)
-SEND = frame(6, number(1, 1) + number(2, 0), len(METADATA).to_bytes(4, "big") + METADATA)
+
+
+def send(metadata):
+    return frame(6, number(1, 1) + number(2, 0), len(metadata).to_bytes(4, "big") + metadata)
+
+
+SEND = send(METADATA)
+
+
+def keyed(key):
+    """A SEND of an entry with this partition key."""
+    return send(METADATA + text(6, key))
 
 
 EXCLUSIVE = 0
+KEY_SHARED = 3
 
 
-def subscribe(consumer, name, kind=EXCLUSIVE):
-    """From the first entry on."""
-    return frame(4, text(1, TOPIC) + text(2, name) + number(3, kind) + number(4, consumer) + number(5, 8) + number(13, 1))
+def subscribe(consumer, name, kind=EXCLUSIVE, ranges=()):
+    """From the first entry on; the ranges of hash slots, both ends included, are those of a sticky Key_Shared consumer."""
+    sticky = number(1, 1) + b"".join(text(3, number(1, start) + number(2, end)) for start, end in ranges)
+    meta = text(17, sticky) if ranges else b""
+    return frame(4, text(1, TOPIC) + text(2, name) + number(3, kind) + number(4, consumer) + number(5, 8) + number(13, 1) + meta)
 
 
 def flow(consumer, permits):
@@ -60,10 +74,10 @@ def begin(script):
     script.write(f"init {PER_LEDGER}\nopen\nbytes 0 {CONNECT}\nbytes 0 {PRODUCER}\n")
 
 
-def publish(script, entries, batch):
+def publish(script, entries, batch, sent=SEND):
     """So many committed entries, with so many a flush."""
     for _ in range(entries // batch):
-        script.write(f"bytes 0 {SEND * batch}\nflush 0\npump 0\n")
+        script.write(f"bytes 0 {sent * batch}\nflush 0\npump 0\n")
 
 
 def processor_seconds():

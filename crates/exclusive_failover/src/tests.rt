@@ -1,5 +1,5 @@
 use super::*;
-use holds::{Consumer, ConsumerKey, Dispatcher, Refusal};
+use holds::{Consumer, ConsumerKey, Dispatcher, Refusal, SlotRanges};
 use std::alloc::{AllocError, Global};
 use std::test::Fail;
 
@@ -14,7 +14,7 @@ fn key(id: u64) -> ConsumerKey {
 fn consumer(alloc: Global, id: u64) -> Consumer {
     Consumer {
         key: key(id),
-        ranges: Vec::new(alloc),
+        ranges: SlotRanges::new(Vec::new(alloc)),
     }
 }
 

@@ -1,9 +1,8 @@
 -- Reading what stands behind a command, and what an entry is, say the same.
-use Rattle.std.proofs.Common.{◌≡◌, ◌≤◌, ℕ, ◌+◌, ◌-◌, List, [], ◌∷◌, ◌++◌, length, take, drop, Result, Ok, Err, Bool, true, false, cond, nat_lt, nat_eq, ◌⊎◌, inl, inr, refl, ap, ◌∙◌, sym, subst, arith, append_assoc, append-nil, length-append, length-drop}
-use Rattle.std.proofs.lemmas.Bool.{cases_Bool, ltb-false, le-ltb, and_parts, eqb-true, false≢true}
+use Rattle.std.proofs.Common.{◌≡◌, ◌≤◌, ℕ, ◌-◌, List, [], ◌∷◌, ◌++◌, length, take, drop, Result, Ok, Err, Bool, true, false, cond, nat_lt, nat_eq, ◌⊎◌, inl, inr, refl, ap, ◌∙◌, sym, subst, arith, append_assoc, append-nil, length-drop}
+use Rattle.std.proofs.lemmas.Bool.{cases_Bool, ltb-false, and_parts, eqb-true, false≢true}
 use Rattle.std.proofs.lemmas.List.{take-append-drop, length-take-le}
 use Rattle.std.proofs.Math.Seq.{take-append_seam, drop-append_seam}
-use Rattle.std.specs.Int.{w32, from_be_bytes}
 use Rattle.commands.specs.declared.command.Command.{Command}
 use Rattle.commands.specs.declared.command.Command.TheVariants.{Connect, Subscribe, Producer, Send, Ack, Flow, Unsubscribe, CloseProducer, CloseConsumer, Ping, Pong, RedeliverUnacknowledgedMessages, Other}
 use Rattle.commands.specs.declared.metadata.MessageMeta.{MessageMeta}
@@ -15,9 +14,8 @@ use Rattle.frames.specs.declared.frame.FrameEntry.{FrameEntry}
 use Rattle.frames.specs.declared.frame.FrameEntry.TheVariants.{Nothing, Checksummed, Entry}
 use Rattle.frames.specs.Frames.{IsChecksummed, HasMetadata, IsSendEntry, IsNothing, IsEntry}
 use Rattle.frames.specs.declared.plain_entry.PlainEntry.{PlainEntry}
-use Rattle.frames.specs.Reading.{◌>>=◌, read_as_metadata, is_checksummed, plain_of, send_entry_of, nothing_of, entry_behind}
-use Rattle.std.specs.Result.{is_ok}
-use Rattle.std.proofs.Props.{props}
+use Rattle.frames.specs.Reading.{◌>>=◌, is_checksummed, plain_of, send_entry_of, nothing_of, entry_behind}
+use Rattle.std.proofs.Math.Path.{path_j}
 
 -- which way a choice went
 pub chosen : {A : Type 0} (b : Bool) (x y z : A) → cond b x y ≡ z → ((b ≡ true) × (x ≡ z)) ⊎ ((b ≡ false) × (y ≡ z))
@@ -75,51 +73,24 @@ metadata-from bytes metadata h =
       ]
     ]
 
--- and what stands in the entry is read
-metadata-to : (bytes : List ℕ) (metadata : MessageMeta) → HasMetadata bytes metadata → entry_of bytes ≡ Ok metadata
-unfolding entry_of
-metadata-to bytes metadata h =
-    let whole : bytes ≡ h.size ++ (h.meta ++ h.payload) = h.whole ∙ append_assoc h.size h.meta h.payload in
-    let front : take 4 bytes ≡ h.size = ap (take 4) whole ∙ take_front 4 h.size (h.meta ++ h.payload) h.size_width in
-    let behind : drop 4 bytes ≡ h.meta ++ h.payload = ap (drop 4) whole ∙ drop_front 4 h.size (h.meta ++ h.payload) h.size_width in
-    let size_is : size_at bytes ≡ length h.meta = ap (λ b. from_be_bytes w32 b) front ∙ h.size_is in
-    let total : length bytes ≡ 4 + (length h.meta + length h.payload) = ap length whole ∙ simp length-append (let k = h.size_width in omega arith) in
-    let a : nat_lt (length bytes) 4 ≡ false = le-ltb _ _ (omega arith) in
-    let b : nat_lt (length bytes - 4) (size_at bytes) ≡ false = le-ltb _ _ (rw size_is (omega arith)) in
-    let part : take (size_at bytes) (drop 4 bytes) ≡ h.meta = rw (size_is, behind) (take_front _ h.meta h.payload refl) in
-    rw (a, b) (rw part h.meta_is)
-
 -- a plain entry has the bytes and the metadata that is read of them
 plain-from : (bytes : List ℕ) (r : Result MessageMeta CommandFault) (is : entry_of bytes ≡ r) (entry : FrameEntry) → plain_of bytes r is ≡ Ok entry →
     (plain : PlainEntry) × (let left : Result FrameEntry Fault = Ok (Entry plain) in left ≡ Ok entry) × (plain.bytes ≡ bytes) × (entry_of bytes ≡ Ok plain.metadata)
-plain-from bytes (Ok metadata) is entry h = (record { bytes = bytes; metadata = metadata; readable = ap is_ok is }, h, refl, is)
+plain-from bytes (Ok metadata) is entry h = (record { bytes = bytes; metadata = metadata; readable = is }, h, refl, is)
 plain-from bytes (Err e) is entry h = cc
 
-abbrev plain : (bytes : List ℕ) (metadata : MessageMeta) → is_ok (entry_of bytes) ≡ true → Result FrameEntry Fault
-plain bytes metadata readable = Ok (Entry (record { bytes = bytes; metadata = metadata; readable = readable }))
+-- it is one, however its metadata was read
+one_plain : (bytes : List ℕ) {r : Result MessageMeta CommandFault} (is : entry_of bytes ≡ r) → plain_of bytes r is ≡ plain_of bytes (entry_of bytes) refl
+one_plain bytes is = path_j (λ r q. plain_of bytes r q ≡ plain_of bytes (entry_of bytes) refl) refl is
 
--- it is one with its bytes and its metadata
-same_plain : (b : List ℕ) (m : MessageMeta) (b' : List ℕ) (m' : MessageMeta) (r : is_ok (entry_of b) ≡ true) (r' : is_ok (entry_of b') ≡ true) → b ≡ b' → m ≡ m' → plain b m r ≡ plain b' m' r'
-same_plain b m b' m' r r' bytes metadata =
-    let one : IsProp (is_ok (entry_of b) ≡ true) = hlevel props in
-    let P : List ℕ → Type 0 = λ x. (q : is_ok (entry_of x) ≡ true) → plain b m r ≡ plain x m q in
-    let here : P b = λ q. ap (λ (z : is_ok (entry_of b) ≡ true). plain b m z) (one r q) in
-    subst P bytes here r' ∙ ap (λ (x : MessageMeta). plain b' x r') metadata
-
--- and there is one of these bytes and this metadata
-pub plain-to : (bytes : List ℕ) (r : Result MessageMeta CommandFault) (is : entry_of bytes ≡ r) (p : PlainEntry) → p.bytes ≡ bytes → entry_of bytes ≡ Ok p.metadata →
-    plain_of bytes r is ≡ Ok (Entry p)
-plain-to bytes (Ok metadata) is p same read =
-    let e : metadata ≡ p.metadata = let k = sym is ∙ read in cc in
-    same_plain bytes metadata p.bytes p.metadata (ap is_ok is) p.readable (sym same) e
-plain-to bytes (Err e) is p same read = let k = sym is ∙ read in cc
+-- and there is one of these bytes
+pub plain-to : (bytes : List ℕ) (p : PlainEntry) → p.bytes ≡ bytes → plain_of bytes (entry_of bytes) refl ≡ Ok (Entry p)
+plain-to bytes p same =
+    let P : List ℕ → Type 0 = λ b. plain_of b (entry_of b) refl ≡ Ok (Entry p) in
+    subst P same (sym (one_plain p.bytes p.readable))
 
 same_entry : (e f : FrameEntry) → (let left : Result FrameEntry Fault = Ok e in left ≡ Ok f) → e ≡ f
 same_entry e f h = cc
-
-read_as_metadata-ok : (r : Result MessageMeta CommandFault) (metadata : MessageMeta) → read_as_metadata r ≡ Ok metadata → r ≡ Ok metadata
-read_as_metadata-ok (Ok x) metadata h = let e : x ≡ metadata = cc in ap (λ z. Ok z) e
-read_as_metadata-ok (Err e) metadata h = cc
 
 -- a slice up to the end is what is left
 pub behind-is : (n : ℕ) (xs ys : List ℕ) → xs ≡ ys → take (length xs - n) (drop n xs) ≡ drop n ys
@@ -127,9 +98,9 @@ behind-is n xs ys e =
     ap (λ l. take (length xs - n) l) (sym (append-nil (drop n xs))) ∙ take_front (length xs - n) (drop n xs) [] (length-drop n xs) ∙ ap (drop n) e
 
 -- so it is what stands behind a SEND
-pub plain-sent : (bytes : List ℕ) (p : PlainEntry) → is_checksummed bytes ≡ false → p.bytes ≡ bytes → read_as_metadata (entry_of bytes) ≡ Ok p.metadata → send_entry_of bytes ≡ Ok (Entry p)
+pub plain-sent : (bytes : List ℕ) (p : PlainEntry) → is_checksummed bytes ≡ false → p.bytes ≡ bytes → send_entry_of bytes ≡ Ok (Entry p)
 unfolding send_entry_of
-plain-sent bytes p plain same read = rw plain (plain-to bytes (entry_of bytes) refl p same (read_as_metadata-ok (entry_of bytes) p.metadata read))
+plain-sent bytes p plain same = rw plain (plain-to bytes p same)
 
 send-from : (bytes : List ℕ) (entry : FrameEntry) → send_entry_of bytes ≡ Ok entry → IsSendEntry bytes entry
 unfolding send_entry_of
@@ -149,7 +120,7 @@ send-to bytes Checksummed h = rw (checksum-to bytes h) refl
 send-to bytes (Entry entry) h =
     elim (cases_Bool (is_checksummed bytes)) [
       | inl so ↦ absurd (h.0 (checksum-from bytes so))
-      | inr not_so ↦ rw not_so (plain-to bytes (entry_of bytes) refl entry h.1 (metadata-to bytes entry.metadata h.2))
+      | inr not_so ↦ rw not_so (plain-to bytes entry h.1)
     ]
 
 send-fault : (bytes : List ℕ) (fault : Fault) → send_entry_of bytes ≡ Err fault → fault ≡ BadPayload

@@ -1,8 +1,7 @@
 -- How a frame is read, step by step.
 use Rattle.std.specs.Prelude.{◌≡◌, ◌≢◌, ◌≤◌, ℕ, ◌+◌, List, length, take, drop, Result, Ok, Err, Bool, nat_lt, ◌==◌, ◌&&◌, slice_index, if◌then◌else◌}
 use Rattle.std.specs.Bool.{MatchBool}
-use Rattle.std.specs.Result.{is_ok}
-use Rattle.std.proofs.Common.{refl, ap}
+use Rattle.std.proofs.Common.{refl}
 use Rattle.commands.specs.declared.command.Command.{Command}
 use Rattle.commands.specs.declared.command.Command.TheVariants.{Connect, Subscribe, Producer, Send, Ack, Flow, Unsubscribe, CloseProducer, CloseConsumer, Ping, Pong, RedeliverUnacknowledgedMessages, Other}
 use Rattle.commands.specs.declared.fault.CommandFault.{CommandFault}
@@ -56,7 +55,7 @@ is_checksummed bytes = slice_index bytes 0 == 14 && slice_index bytes 1 == 1
 
 -- an entry that isn't checksummed, where its metadata is read
 abbrev pub plain_of : (behind : List ℕ) (read : Result MessageMeta CommandFault) → entry_of behind ≡ read → Result FrameEntry Fault
-plain_of behind (Ok metadata) is = Ok (Entry (record { bytes = behind; metadata = metadata; readable = ap is_ok is }))
+plain_of behind (Ok metadata) is = Ok (Entry (record { bytes = behind; metadata = metadata; readable = is }))
 plain_of behind (Err e) is = Err BadPayload
 
 -- what stands behind a SEND

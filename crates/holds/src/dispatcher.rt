@@ -1,11 +1,11 @@
 ghost use Rattle.std.specs.Prelude.{◌≡◌, ℕ, ◌<◌, ◌≤◌, ◌^◌, ◌++◌, ◌∷◌, [], ◌⊎◌, List, Some, None, Option, slice_index, IfSome, IfNone, OnOk, OnErr, IfErr};
-ghost use Rattle.holds.specs.Backlog.{Backlog, IsOpen, IsOpenIn, IsLeast, without};
+ghost use Rattle.holds.specs.Backlog.{Backlog, IsOpen, IsLeast, without};
 ghost use Rattle.holds.specs.declared.consumer.Consumer.{Consumer as TheConsumer};
 ghost use Rattle.holds.specs.declared.consumer.ConsumerKey.{ConsumerKey as TheKey};
 ghost use Rattle.holds.specs.declared.consumer.Refusal.{Refusal as TheRefusal};
 ghost use Rattle.holds.specs.declared.consumer.Refusal.TheVariants.{NoMemory};
 
-use crate::consumer::{Consumer, ConsumerKey, Refusal, SlotRange};
+use crate::consumer::{Consumer, ConsumerKey, Refusal};
 
 /// What a dispatcher may ask of its subscription. None of it takes memory.
 pub trait Pending {
@@ -17,10 +17,6 @@ pub trait Pending {
         ensures some { IfSome result (IsLeast (λ i. (from ≤ i) × IsOpen (backlog self.now) i)) }
         ensures none { IfNone result ((i : ℕ) → from ≤ i → IsOpen (backlog self.now) i → ⊥) }
         ensures fits { IfSome result (λ i. i < 2 ^ 62) };
-
-    /// A position before which no open one has its slot in the ranges, to begin a search at.
-    fn passed_over(&self, ranges: &[SlotRange]) -> u64
-        ensures { (i : ℕ) → i < result → IsOpenIn (backlog self.now) ranges.now i → ⊥ };
 
     /// The hash slot of an open position.
     fn slot(&self, position: u64) -> u16

@@ -11,7 +11,7 @@ mod dispatcher;
 mod holds_map;
 mod laws;
 
-pub use consumer::{Consumer, ConsumerKey, Refusal, SlotRange};
+pub use consumer::{Consumer, ConsumerKey, Refusal, SlotRange, SlotRanges};
 pub use delivery::Delivery;
 pub use dispatcher::{Dispatcher, Pending};
 pub use holds_map::Holds;

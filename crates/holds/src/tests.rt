@@ -90,6 +90,6 @@ fn key(id: u64) -> ConsumerKey {
 fn consumer(alloc: Global, id: u64) -> Consumer {
     Consumer {
         key: key(id),
-        ranges: Vec::new(alloc),
+        ranges: SlotRanges::new(Vec::new(alloc)),
     }
 }

@@ -59,10 +59,10 @@ meets_at slot (a ∷ rest) others here there =
 
 -- whether the consumer's ranges meet those of the attached one
 abbrev meets_with : Consumer → Consumer → Bool
-meets_with c d = meet c.ranges.items d.ranges.items
+meets_with c d = meet c.ranges d.ranges
 
 disjoint : (c d : Consumer) → meets_with c d ≡ false → AreDisjoint d c
-disjoint c d apart slot in_d in_c = not_both _ apart (meets_at slot c.ranges.items d.ranges.items in_c in_d)
+disjoint c d apart slot in_d in_c = not_both _ apart (meets_at slot c.ranges d.ranges in_c in_d)
 
 not_met_by : (b : Bool) → ¬ (b ≡ true) → b ≡ false
 not_met_by true h = absurd (h refl)
@@ -121,17 +121,17 @@ one_place consumers i j c d k l same at_i at_j is_k is_l =
     sym is_k ∙ ap (λ x. x.key) one ∙ is_l
 
 two_places : (slot : ℕ) (consumers : List Consumer) (i j : ℕ) (c d : Consumer) → AreApart consumers → i < j → slice_get consumers i ≡ Some c → slice_get consumers j ≡ Some d
-    → in_ranges c.ranges.items slot ≡ true → in_ranges d.ranges.items slot ≡ true → ⊥
+    → in_ranges c.ranges slot ≡ true → in_ranges d.ranges slot ≡ true → ⊥
 two_places slot consumers i j c d apart low at_i at_j in_c in_d =
-    let of : Consumer → ℕ → Bool = λ x s. in_ranges x.ranges.items s in
+    let of : Consumer → ℕ → Bool = λ x s. in_ranges x.ranges s in
     apart i j c low (slice_get_within consumers j d at_j) slot
     (ap (λ x. of x slot) (get_or_from_slice_get consumers i c c at_i) ∙ in_c)
     (ap (λ x. of x slot) (get_or_from_slice_get consumers j d c at_j) ∙ in_d)
 
 pub one_consumer : (consumers : List Consumer) (slot : ℕ) (k l : ConsumerKey) → AreApart consumers
-    → IsSomeAnd (attached k consumers) (λ c. IsTrue (in_ranges c.ranges.items slot)) → IsSomeAnd (attached l consumers) (λ c. IsTrue (in_ranges c.ranges.items slot)) → k ≡ l
+    → IsSomeAnd (attached k consumers) (λ c. IsTrue (in_ranges c.ranges slot)) → IsSomeAnd (attached l consumers) (λ c. IsTrue (in_ranges c.ranges slot)) → k ≡ l
 one_consumer consumers slot k l apart has_k has_l =
-    let P : Consumer → Type 0 = λ c. IsTrue (in_ranges c.ranges.items slot) in
+    let P : Consumer → Type 0 = λ c. IsTrue (in_ranges c.ranges slot) in
     let here : IsFound k P consumers = found k P consumers has_k in
     let there : IsFound l P consumers = found l P consumers has_l in
     elim (eqb_tells here.place there.place) [
@@ -146,7 +146,7 @@ one_consumer consumers slot k l apart has_k has_l =
 pub admitted_once : (consumers : List Consumer) (b : Backlog) (k l : ConsumerKey) (i : ℕ) → AreApart consumers → AdmitsSticky consumers b k i → AdmitsSticky consumers b l i → k ≡ l
 admitted_once consumers b k l i apart has_k has_l = one_consumer consumers (slice_index b.slots i) k l apart (in_its (attached k consumers) has_k) (in_its (attached l consumers) has_l)
   where
-    in_its : (o : Option Consumer) → IsSomeAnd o (λ c. IsLeast (IsOpenIn b c.ranges.items) i) → IsSomeAnd o (λ c. IsTrue (in_ranges c.ranges.items (slice_index b.slots i)))
+    in_its : (o : Option Consumer) → IsSomeAnd o (λ c. IsLeast (IsOpenIn b c.ranges) i) → IsSomeAnd o (λ c. IsTrue (in_ranges c.ranges (slice_index b.slots i)))
     in_its None h = h
     in_its (Some c) h = h.0.1
 

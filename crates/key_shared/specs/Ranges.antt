@@ -1,5 +1,5 @@
 -- Why a consumer's hash ranges are refused, and what a consumer may get.
-use Rattle.std.specs.Prelude.{ℕ, List, [], ◌∷◌, length, nat_lt, nat_le, nat_eq, Bool, false, ◌&&◌, ◌||◌, cond, Some, None, Option, IsTrue, IsSomeAnd}
+use Rattle.std.specs.Prelude.{ℕ, ◌≤◌, List, [], ◌∷◌, length, nat_lt, nat_le, nat_eq, Bool, false, ◌&&◌, ◌||◌, cond, Some, None, Option, IsTrue, IsSomeAnd}
 use Rattle.std.specs.List.{list_any, AllPairs}
 use Rattle.holds.specs.Backlog.{Backlog, IsOpenIn, IsLeast, attached, in_ranges}
 use Rattle.holds.specs.declared.consumer.Consumer.{Consumer}
@@ -28,20 +28,24 @@ meet ranges others = list_any (λ r. list_any (meets r) others) ranges
 -- whether the ranges are none, or one is backward, or meets another or one of an attached consumer
 abbrev pub are_refused : List Consumer → List SlotRange → Bool
 are_refused consumers ranges =
-    nat_eq (length ranges) 0 || list_any is_backward ranges || meets_own ranges || list_any (λ c. meet ranges c.ranges.items) consumers
+    nat_eq (length ranges) 0 || list_any is_backward ranges || meets_own ranges || list_any (λ c. meet ranges c.ranges) consumers
 
 -- a subscription takes sixty-four consumers, and their ranges don't meet
 abbrev pub sticky_refusal : List Consumer → Consumer → Option Refusal
 sticky_refusal consumers consumer =
-    cond (nat_lt (length consumers) 64) (cond (are_refused consumers consumer.ranges.items) (Some ConsumerAssignError) None) (Some TooManyConsumers)
+    cond (nat_lt (length consumers) 64) (cond (are_refused consumers consumer.ranges) (Some ConsumerAssignError) None) (Some TooManyConsumers)
 
 -- an attached consumer may get the least open position whose slot lies in its ranges
 abbrev pub AdmitsSticky : List Consumer → Backlog → ConsumerKey → ℕ → Type 0
-AdmitsSticky consumers b key i = IsSomeAnd (attached key consumers) (λ c. IsLeast (IsOpenIn b c.ranges.items) i)
+AdmitsSticky consumers b key i = IsSomeAnd (attached key consumers) (λ c. IsLeast (IsOpenIn b c.ranges) i)
+
+-- position i from a place on is open, and its slot lies in the ranges
+abbrev pub IsOpenFrom : Backlog → List SlotRange → ℕ → ℕ → Type 0
+IsOpenFrom b ranges from i = (from ≤ i) × IsOpenIn b ranges i
 
 -- no slot lies in the ranges of both consumers
 abbrev pub AreDisjoint : Consumer → Consumer → Type 0
-AreDisjoint c d = (slot : ℕ) → IsTrue (in_ranges c.ranges.items slot) → IsTrue (in_ranges d.ranges.items slot) → ⊥
+AreDisjoint c d = (slot : ℕ) → IsTrue (in_ranges c.ranges slot) → IsTrue (in_ranges d.ranges slot) → ⊥
 
 -- no slot lies in the ranges of two consumers
 abbrev pub AreApart : List Consumer → Type 0

@@ -1,6 +1,6 @@
-ghost use Rattle.std.specs.Prelude.{◌≡◌, ℕ, [], IfSome, IfNone};
-ghost use Rattle.holds.specs.Backlog.{IsOpenIn, IsLeast};
-ghost use Rattle.key_shared.specs.Ranges.{sticky_refusal, AdmitsSticky, AreApart};
+ghost use Rattle.std.specs.Prelude.{◌≡◌, ℕ, [], IfSome, IfNone, IsSomeAnd};
+ghost use Rattle.holds.specs.Backlog.{IsLeast, attached};
+ghost use Rattle.key_shared.specs.Ranges.{are_refused, sticky_refusal, AdmitsSticky, AreApart, IsOpenFrom};
 
 use crate::ranges::{are_refused, in_ranges};
 use holds::{Consumer, ConsumerKey, Dispatcher, Pending, Refusal, SlotRange, attached};
@@ -23,6 +23,28 @@ impl KeySharedDispatcher {
             consumers: Vec::new(alloc),
         }
     }
+
+    /// Whether such ranges are refused: they are none, or one of them is backward, or meets another of them or one of an
+    /// attached consumer.
+    pub fn refuses_ranges(&self, ranges: &[SlotRange]) -> bool
+        ensures { result ≡ are_refused self.now.consumers.items ranges.now }
+    {
+        are_refused(&self.consumers, ranges)
+    }
+
+    /// The least open position from `from` on whose slot lies in the consumer's ranges. An unknown consumer has none.
+    pub fn pick_from<P: Pending>(
+        &self,
+        pending: &P,
+        consumer: ConsumerKey,
+        from: u64,
+    ) -> Option<u64>
+        ensures some { IfSome result (λ i. IsSomeAnd (attached consumer self.now.consumers.items) (λ c. IsLeast (IsOpenFrom (P.backlog pending.now) c.ranges from) i)) }
+        ensures none { IfNone result ((i : ℕ) → IsSomeAnd (attached consumer self.now.consumers.items) (λ c. IsOpenFrom (P.backlog pending.now) c.ranges from i) → ⊥) }
+    {
+        let attached = attached::find(&self.consumers, consumer)?;
+        first_in(pending, attached.ranges.as_slice(), from)
+    }
 }
 
 impl Dispatcher for KeySharedDispatcher {
@@ -36,7 +58,7 @@ impl Dispatcher for KeySharedDispatcher {
         if let Some(refusal) = attached::full(&self.consumers) {
             return Some(refusal);
         }
-        if are_refused(&self.consumers, &consumer.ranges) {
+        if are_refused(&self.consumers, consumer.ranges.as_slice()) {
             return Some(Refusal::ConsumerAssignError);
         }
         None
@@ -54,17 +76,16 @@ impl Dispatcher for KeySharedDispatcher {
     }
 
     fn pick<P: Pending>(&self, pending: &P, consumer: ConsumerKey) -> Option<u64> {
-        let attached = attached::find(&self.consumers, consumer)?;
-        pick_in(pending, &attached.ranges)
+        self.pick_from(pending, consumer, 0)
     }
 }
 
-/// The least open position whose slot lies in the ranges.
-fn pick_in<P: Pending>(pending: &P, ranges: &[SlotRange]) -> Option<u64>
-    ensures some { IfSome result (IsLeast (IsOpenIn (P.backlog pending.now) ranges.now)) }
-    ensures none { IfNone result ((i : ℕ) → IsOpenIn (P.backlog pending.now) ranges.now i → ⊥) }
+/// The least open position from `start` on whose slot lies in the ranges.
+fn first_in<P: Pending>(pending: &P, ranges: &[SlotRange], start: u64) -> Option<u64>
+    ensures some { IfSome result (IsLeast (IsOpenFrom (P.backlog pending.now) ranges.now start)) }
+    ensures none { IfNone result ((i : ℕ) → IsOpenFrom (P.backlog pending.now) ranges.now start i → ⊥) }
 {
-    let mut from = pending.passed_over(ranges);
+    let mut from = start;
     while let Some(position) = pending.first_open(from) {
         if in_ranges(ranges, pending.slot(position)) {
             return Some(position);

@@ -15,6 +15,7 @@ pub use laws::{
     bytes_are_blocks_and_a_tail, no_position_for_two, ranges_stay_apart, ranges_that_meet,
 };
 pub use murmur::slot;
+pub use ranges::are_refused;
 
 #[cfg(test)]
 mod tests;

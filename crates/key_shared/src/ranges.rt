@@ -15,7 +15,7 @@ pub(crate) fn in_ranges(ranges: &[SlotRange], slot: u16) -> bool
 
 /// Whether the ranges are none, or one of them is backward, or meets another of them or one of an
 /// attached consumer.
-pub(crate) fn are_refused(consumers: &[Consumer], ranges: &[SlotRange]) -> bool
+pub fn are_refused(consumers: &[Consumer], ranges: &[SlotRange]) -> bool
     ensures { result ≡ are_refused consumers.now ranges.now }
 {
     ranges.is_empty()
@@ -47,9 +47,9 @@ fn meets_own(ranges: &[SlotRange]) -> bool
 
 /// Whether one of the ranges meets one of an attached consumer.
 fn meets_attached(consumers: &[Consumer], ranges: &[SlotRange]) -> bool
-    ensures { result ≡ list_any (λ c. meet ranges.now c.ranges.items) consumers.now }
+    ensures { result ≡ list_any (λ c. meet ranges.now c.ranges) consumers.now }
 {
-    consumers.iter().any(|c| meet(ranges, &c.ranges))
+    consumers.iter().any(|c| meet(ranges, c.ranges.as_slice()))
 }
 
 /// Whether a range of the one list meets one of the other.

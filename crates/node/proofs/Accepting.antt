@@ -6,6 +6,7 @@ use Rattle.std.specs.FinSet as set
 use Rattle.cursor.specs.Positions.{Positions, Has, below, has_empty, has_union}
 use Rattle.commands.specs.declared.consuming.AckType.{AckType}
 use Rattle.commands.specs.declared.consuming.AckType.TheVariants.{Individual, Cumulative}
+use Rattle.holds.specs.declared.consumer.Consumer.{Consumer as Seat}
 use Rattle.holds.specs.declared.consumer.ConsumerKey.{ConsumerKey}
 use Rattle.records.specs.declared.record.Record.{Record}
 use Rattle.records.specs.declared.record.Record.TheVariants.{Made, Removed, Acknowledged}
@@ -41,29 +42,29 @@ nothing_has s i has = let none = has_empty i in absurd (cc)
 
 -- ---- SUBSCRIBE
 
-pub adds_attached : (t : Subscriptions) (name : List ℕ) (mode : Mode) (key : ConsumerKey) (start : ℕ) → Adds t.changes None (attached t name mode key start).changes
-adds_attached t name mode key start = elim (find (is_named name) t.subs) as (λ o. Adds t.changes None (attached_at o t name mode key start).changes) [
+pub adds_attached : (t : Subscriptions) (name : List ℕ) (mode : Mode) (seat : Seat) (start : ℕ) → Adds t.changes None (attached t name mode seat start).changes
+adds_attached t name mode seat start = elim (find (is_named name) t.subs) as (λ o. Adds t.changes None (attached_at o t name mode seat start).changes) [
   | None ↦ record { added = Made name start ∷ []; behind = refl; spares = λ p remains. (tt, tt) }
   | Some s ↦ adds_nothing t.changes None
 ]
 
-there_attached : (t : Subscriptions) (name : List ℕ) (mode : Mode) (key : ConsumerKey) (start : ℕ) → (s : Positions) × (acked_as name (attached t name mode key start).subs ≡ Some s)
-there_attached t name mode key start =
-    elim (find (is_named name) t.subs) as (λ o. find (is_named name) t.subs ≡ o → (s : Positions) × (acked_as name (attached_at o t name mode key start).subs ≡ Some s)) [
+there_attached : (t : Subscriptions) (name : List ℕ) (mode : Mode) (seat : Seat) (start : ℕ) → (s : Positions) × (acked_as name (attached t name mode seat start).subs ≡ Some s)
+there_attached t name mode seat start =
+    elim (find (is_named name) t.subs) as (λ o. find (is_named name) t.subs ≡ o → (s : Positions) × (acked_as name (attached_at o t name mode seat start).subs ≡ Some s)) [
       | None ↦ λ none.
-          let new = attached_to mode key (made name mode start) in
+          let new = attached_to mode seat (made name mode start) in
           (new.acked, acked_pushed name t.subs new none ∙ ap (λ b. cond b (Some new.acked) (acked_as name t.subs)) (name_itself name))
       | Some s ↦ λ found. (
         s.acked,
-        acked_spared (is_named name) (attached_to mode key) (record { name = λ _. refl; acked = λ _. refl }) name t.subs ∙ ap (λ (o : Option Subscription). option_map (λ (x : Subscription). x.acked) o) found,
+        acked_spared (is_named name) (attached_to mode seat) (record { name = λ _. refl; acked = λ _. refl }) name t.subs ∙ ap (λ (o : Option Subscription). option_map (λ (x : Subscription). x.acked) o) found,
       )
     ] refl
 
-pub lands_attached : (e : ℕ) (kept : Kept) (t : Subscriptions) (name : List ℕ) (mode : Mode) (key : ConsumerKey) (start : ℕ) → AreKept e kept (attached t name mode key start)
-    → Lands (attached t name mode key start).changes kept (record { name = name; acked = set.empty })
-lands_attached e kept t name mode key start are =
-    let there = there_attached t name mode key start in
-    lands_there e kept (attached t name mode key start) (record { name = name; acked = set.empty }) there.0 are there.1 (λ i has. nothing_has there.0 i has)
+pub lands_attached : (e : ℕ) (kept : Kept) (t : Subscriptions) (name : List ℕ) (mode : Mode) (seat : Seat) (start : ℕ) → AreKept e kept (attached t name mode seat start)
+    → Lands (attached t name mode seat start).changes kept (record { name = name; acked = set.empty })
+lands_attached e kept t name mode seat start are =
+    let there = there_attached t name mode seat start in
+    lands_there e kept (attached t name mode seat start) (record { name = name; acked = set.empty }) there.0 are there.1 (λ i has. nothing_has there.0 i has)
 
 -- ---- ACK
 

@@ -1,9 +1,10 @@
 -- How flushes, openings and crashes end, and that ledgers only grow.
-use Rattle.std.proofs.Common.{◌≡◌, ◌⊎◌, inl, inr, ⊎_elim, ◌∙◌, ℕ, Bool, true, false, Result, Ok, Err, is_some, List, [], ◌++◌, length, take, drop, refl, sym, ap, append-nil, append_assoc}
+use Rattle.std.proofs.Common.{◌≡◌, ◌⊎◌, inl, inr, ⊎_elim, ◌∙◌, ℕ, Bool, true, false, Result, Ok, Err, is_some, List, [], ◌++◌, length, take, drop, map, refl, sym, ap, append-nil, append_assoc}
 use Rattle.std.proofs.lemmas.List.{take-append-drop}
 use Rattle.records.specs.Maps.{Kept}
 use Rattle.gated_log.specs.declared.refusal.Refusal.{Refusal}
 use Rattle.gated_log.specs.declared.refusal.Refusal.TheVariants as refusal
+use Rattle.topic_core.specs.Slots.{slot_of_entry}
 use Rattle.topic_core.specs.Core.{Topic, entries_of}
 use Rattle.topic_core.specs.Flush.{FlushStep, FlushIn, FlushEnds, flushed_topic, failed_topic}
 use Rattle.topic_core.specs.Crashes.{IsLeft, ReopenStep, ReopenIn, ReopenEnds, reopened}
@@ -33,7 +34,7 @@ flush_cases t result u s = flush_in t.core.failed (is_some t.core.doubt) t resul
 pub record Reopened (t u : Topic) : Type 0 where
   pub failed : t.core.failed ≡ true
   pub left : IsLeft t u.ledger u.kept
-  pub core : u.core ≡ reopened t.core (length u.ledger) u.kept
+  pub core : u.core ≡ reopened t.core (length u.ledger) (map slot_of_entry u.ledger) u.kept
 
 reopen_ends : (t : Topic) (result : Result (Unit {0}) Refusal) (u : Topic) → t.core.failed ≡ true → ReopenEnds t result u → (u ≡ t) ⊎ Reopened t u
 reopen_ends t (Ok done) u failed s = inr (record { failed = failed; left = s.0; core = s.1 })

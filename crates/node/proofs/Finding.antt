@@ -1,5 +1,5 @@
 -- Each entry is that of the latest SEND for its position, and what a receipt promised is found ever after.
-use Rattle.std.proofs.Common.{◌≡◌, ◌⊎◌, inl, inr, ⊎_elim, ◌∙◌, ℕ, zero, suc, ◌+◌, ◌<◌, ◌≤◌, Bool, true, false, not, Some, None, List, [], ◌∷◌, ◌++◌, length, slice_get, refl, sym, ap, subst, arith, length-append, append-nil, append_assoc}
+use Rattle.std.proofs.Common.{◌≡◌, ◌⊎◌, inl, inr, ⊎_elim, ◌∙◌, ℕ, zero, suc, ◌+◌, ◌<◌, ◌≤◌, Bool, true, false, not, Some, None, List, [], ◌∷◌, ◌++◌, length, map, slice_get, refl, sym, ap, subst, arith, length-append, append-nil, append_assoc}
 use Rattle.std.proofs.lemmas.Option.{slice_get_within}
 use Rattle.commands.specs.declared.reply.Reply.{Reply}
 use Rattle.commands.specs.declared.reply.Reply.TheVariants.{Connected, ProducerSuccess, SendReceipt, SendError, Message, Success, Error, AckResponse, Pong}
@@ -8,6 +8,7 @@ use Rattle.topic_core.specs.declared.command.Answer.TheVariants.{Now, Later, Not
 use Rattle.topic_core.specs.declared.command.Send.{Send}
 use Rattle.topic_core.specs.declared.command.TopicCommand.{TopicCommand}
 use Rattle.topic_core.specs.declared.command.TopicCommand.TheVariants as asked
+use Rattle.topic_core.specs.Slots.{slot_of_entry}
 use Rattle.topic_core.specs.Core.{Core, Topic, next_position, opened}
 use Rattle.reply_queues.specs.Replies.{SessionReplies, is_for, is_receipt, due_to, refused}
 use Rattle.topic_core.specs.Steps.{CoreStep, bytes_of, accepted, receipt, with_producer, collected, left}
@@ -291,12 +292,12 @@ module _ (base : ℕ) (before : List Sent) where
 
   -- a failed topic is opened again: nothing of it is pending
   opens_again : (t u : Topic) → Reopened t u → Owes base before t.core t.ledger → KeepsAll t u
-  opens_again t u s o = fronted t u (reopened t.core (length u.ledger) u.kept) s.core refl refl (left_front t u.ledger u.kept s.left)
+  opens_again t u s o = fronted t u (reopened t.core (length u.ledger) (map slot_of_entry u.ledger) u.kept) s.core refl refl (left_front t u.ledger u.kept s.left)
       (λ more. each_owed (Finds before t.ledger) (Awaited before t.ledger t.core.waiting t.core.failed) (Finds before u.ledger) (Awaited before u.ledger [] false)
       more (λ h q. absurd (works_and_failed t.core.failed q.1 s.failed)) t.core.queues o.queues) o
 
   crashes : (t u : Topic) → TopicCrash t u → Owes base before t.core t.ledger → KeepsAll t u
-  crashes t u s o = fronted t u (opened t.core.per_ledger (length u.ledger) u.kept) s.core refl refl (left_front t u.ledger u.kept s.left) (λ more. tt) o
+  crashes t u s o = fronted t u (opened t.core.per_ledger (length u.ledger) (map slot_of_entry u.ledger) u.kept) s.core refl refl (left_front t u.ledger u.kept s.left) (λ more. tt) o
 
   moved : (t : Topic) (m : Move) (u : Topic) → MoveStep t m u → Owes base before t.core t.ledger → Keeps base before (before ++ sends_on t.core m) t u
   moved t (Command who c a) u s o = commanded t who c a u s.core s.ledger o

@@ -174,7 +174,7 @@ sends None (Some entry) old c new s = says_alone old (reply.SendError c.producer
 sends (Some topic) (Some entry) old c new s = asked old new old.client topic old.client.number (send_command c entry) s.answer refl s.step s.answered
 
 wanted : (f : Found) (old : Play) (c : Wanted) (new : Play) → consuming.FoundStep old c f new → Plays old new
-wanted (found.Topic number) old c new (inl s) = asked old new _ number old.client.number (consuming.subscribe_command c s.mode s.named) s.answer refl s.step s.answered
+wanted (found.Topic number) old c new (inl s) = asked old new _ number old.client.number (consuming.subscribe_command c s.named) s.answer refl s.step s.answered
 wanted (found.Topic number) old c new (inr s) = ends old new _ s
 wanted found.TooMany old c new s = says_alone old (reply.Error c.request_id TooManyRequests) new (record { no_receipt = refl; no_message = refl }) s
 wanted found.NoMemory old c new s = ends old new _ s

@@ -28,7 +28,7 @@ use Rattle.topic_core.specs.Core.{Core, Topic, changes_of}
 use Rattle.topic_core.specs.Soundness.{IsSoundTopic}
 use Rattle.topic_core.specs.Flush.{flushed_topic, failed_topic}
 use Rattle.topic_core.specs.Crashes.{IsLeft, TopicCrash}
-use Rattle.topic_core.specs.Steps.{Outcome, CoreStep, Meets, GrantStep, key_of, refused_or, first_standing, producer_refusals, subscribe_refusal, subscribed, start_of, ack_refusals, ack_refused, ack_accepted, close_refusals, closing, unsubscribe_refusal, unsubscribed, detach_refusals, detach_outcome, detached, redeliver_outcome, redelivered, asked_back, with_producer, accepted, receipt, bytes_of}
+use Rattle.topic_core.specs.Steps.{Outcome, CoreStep, Meets, GrantStep, key_of, seat_of, refused_or, first_standing, producer_refusals, subscribe_refusal, subscribed, start_of, ack_refusals, ack_refused, ack_accepted, close_refusals, closing, unsubscribe_refusal, unsubscribed, detach_refusals, detach_outcome, detached, redeliver_outcome, redelivered, asked_back, with_producer, accepted, receipt, bytes_of}
 use Rattle.node.specs.Moves.{Handed, Move, Command, Tell, Lose, Grant, Deliver, Miss, Leave, Flush, Reopen, Crash, MoveStep, Moves, Takes}
 use Rattle.node.specs.Finding.{IsQuiet}
 use Rattle.node.specs.Promising.{Promise, IsKept, Word, nothing_yet, promise_of, positions_of, removed_by, ack_reply, released, with_owed, without_first, promised, told, answered, word_after, word_by, InTurn, AreInTurn}
@@ -108,13 +108,13 @@ module _ (t : Core) (kept : Kept) (word : Word) (limits : HasLimits t.subs) (h :
   subscribes : (who : ℕ) (subscribe : Subscribe) (u : Core) → u ≡ subscribed t who subscribe → AreKeptIn u → HoldsIn u kept (answered t who (asked.Subscribe subscribe) Later word)
   subscribes who subscribe u is are =
       let c = subscribed t who subscribe in
-      let key = key_of who subscribe.consumer_id in
+      let seat = seat_of who subscribe in
       let start = subscriptions.start_of (start_of subscribe.initial) t.committed in
       let are' = at_core u c is are in
       back u c (answered t who (asked.Subscribe subscribe) Later word) is
       (owes t.committed c.subs.changes None who (Success subscribe.request_id) (promise_of t who (asked.Subscribe subscribe)) are'.formed
-      (adds_attached t.subs subscribe.subscription subscribe.mode key start)
-      (lands_attached t.committed kept t.subs subscribe.subscription subscribe.mode key start are', tt))
+      (adds_attached t.subs subscribe.subscription subscribe.mode seat start)
+      (lands_attached t.committed kept t.subs subscribe.subscription subscribe.mode seat start are', tt))
 
   acks_later : (request : Option ℕ) (who : ℕ) (ack : Ack) (u : Core) → Later ≡ (ack_accepted t who ack request).answer → u ≡ (ack_accepted t who ack request).core → AreKeptIn u
       → HoldsIn u kept (with_owed (record { session = who; reply = ack_reply ack.consumer_id request; promise = promise_of t who (asked.Ack ack) }) word)

@@ -1,5 +1,5 @@
 -- Moves keep a topic sound.
-use Rattle.std.proofs.Common.{◌≡◌, ◌∙◌, ℕ, ◌<◌, zero, suc, true, Option, None, Some, is_some, Ok, List, ◌∷◌, refl, sym, ap, subst, arith}
+use Rattle.std.proofs.Common.{◌≡◌, ◌∙◌, ℕ, ◌<◌, zero, suc, true, Option, None, Some, is_some, Ok, List, [], ◌∷◌, refl, sym, ap, subst, arith}
 use Rattle.std.specs.Ordering.{nat_cmp}
 use Rattle.std.specs.Cmp.Lexicographic.{slice_cmp}
 use Rattle.std.specs.FinMap as map
@@ -10,6 +10,7 @@ use Rattle.topic_core.specs.Soundness.{IsSoundTopic}
 use Rattle.topic_core.proofs.Keeps.{command-sound, grant-sound, dispatch-sound, flush-sound, reopen-sound, crash-sound, collected-sound, leave-sound}
 use Rattle.topic_core.proofs.Openings.{sound-opened, receipts-opened}
 use Rattle.session.specs.Broker.{Broker, fresh, topic_at}
+use Rattle.subscriptions.specs.Steps as subscriptions
 use Rattle.subscriptions.specs.Laws.{AreDurable}
 use Rattle.subscriptions.proofs.Durable.{are_kept}
 use Rattle.cursor.specs.Positions.{Positions}
@@ -67,10 +68,11 @@ durable_empty = record {
 
 pub fresh_sound : (n : ℕ) → 0 < n → IsSoundTopic (fresh n)
 fresh_sound n some = record {
-  core = sound-opened n 0 map.empty some (omega arith) durable_empty;
-  receipts = receipts-opened n 0 map.empty;
+  core = sound-opened n 0 [] map.empty some (omega arith) refl durable_empty;
+  receipts = receipts-opened n 0 [] map.empty;
   counted = refl;
-  kept = are_kept.opened 0 map.empty durable_empty;
+  kept = are_kept.slot 0 map.empty (subscriptions.opened map.empty) [] (are_kept.opened 0 map.empty durable_empty);
+  slots = refl;
 }
 
 pub fresh_broker_sound : (n : ℕ) → 0 < n → IsSoundBroker (fresh_broker n)

@@ -1,5 +1,5 @@
 -- Calls of a port, one after another.
-use Rattle.std.proofs.Common.{◌≡◌, inl, inr, ◌≤◌, List, ◌++◌, length, take, refl, sym, ap, subst, ◌∙◌, arith}
+use Rattle.std.proofs.Common.{◌≡◌, inl, inr, ◌≤◌, List, ◌++◌, length, take, map, refl, sym, ap, subst, ◌∙◌, arith}
 use Rattle.disk.specs.Disk.{Disk, Image, Same, Leaves, Kept as Counted}
 use Rattle.disk.specs.Moments.{starts, joins, weaken}
 use Rattle.managed_ledger.specs.declared.entry_store.EntryStore.{Ghosts as EntryMembers}
@@ -9,6 +9,7 @@ use Rattle.managed_ledger.specs.Stores as entries
 use Rattle.records.specs.Maps.{Kept}
 use Rattle.records.specs.Records.{after_all}
 use Rattle.records.specs.declared.record.Record.{Record}
+use Rattle.topic_core.specs.Slots.{slot_of_entry}
 use Rattle.topic_core.specs.Core.{Core, Topic, entries_in_doubt, changes_in_doubt}
 use Rattle.topic_core.specs.Crashes.{IsLeft}
 use Rattle.topic_core.specs.Standing.{Match, Standing, StandsFor, GoesOn, topic_in}
@@ -50,6 +51,7 @@ standing_read core v old new same leaves honest h = record {
       steady = λ c may. subst (λ (i : Image). v.subscriptions.written c ≡ v.subscriptions.written i) (sym same) (x.subscriptions.steady c (leaves.now c may));
     };
   };
+  slots = subst (λ (i : Image). core.subs.slots ≡ map slot_of_entry (take core.committed (v.entries.content i) ++ core.waiting)) (sym same) h.slots;
 }
 
 module _ {E C S P Q : Type 0} {entries : EntryMembers E P} {subscriptions : SubMembers C Q} (disk : S → Disk) where

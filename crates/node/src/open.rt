@@ -33,8 +33,8 @@ impl<E: EntryStore, C: SubStore, S: Shelf + Drop> Node<E, C, S> {
         Ok(())
     }
 
-    /// Opens the node that the device holds, whatever a crash left of it, where a ledger id has `per_ledger` entry ids. No
-    /// session is open. A refusal hands the device back.
+    /// Opens the node that the device holds, whatever a crash left of it, where a ledger id has `per_ledger` entry ids. Each
+    /// entry is read once, for its hash slot. No session is open. A refusal hands the device back.
     pub fn open(alloc: Global, per_ledger: u32, mut shelf: S) -> Result<Node<E, C, S>, (Refusal, S)>
         requires numbered { 1 ≤ per_ledger }
         ensures opened { (old : State) → AtRest E.stands C.stands old (S.disk shelf) → IsServed per_ledger old →
@@ -52,9 +52,9 @@ impl<E: EntryStore, C: SubStore, S: Shelf + Drop> Node<E, C, S> {
             Ok(stores) => stores,
             Err(why) => return Err((why, shelf)),
         };
-        let core = match TopicCore::open(alloc, per_ledger, &stores) {
+        let core = match TopicCore::open(alloc, per_ledger, &stores, &mut shelf) {
             Ok(core) => core,
-            Err(_) => return Err((Refusal::NoMemory, shelf)),
+            Err(why) => return Err((why, shelf)),
         };
         Ok(Node {
             alloc,

@@ -1,6 +1,6 @@
 // Each output was worked out by hand from the protocol.
 use cursor_store::CursorStore;
-use disk::{CursorSlot, FileId, Shelf};
+use disk::{CursorSlot, FileId, Fuse, Shelf};
 use disk_mem::MemShelf;
 use managed_ledger::ManagedLedger;
 use node::{
@@ -172,6 +172,49 @@ fn a_machine_is_driven_through_events_and_crashes(rt: HostRuntime) -> Result<(),
     ];
     assert!(rt; are(outputs, &expected)?);
     assert_eq!(rt; machine.status()?.map(|status| status.entries), Some(1));
+    Ok(())
+}
+
+/// A machine whose node has one entry.
+fn with_an_entry(alloc: Global) -> Result<MemMachine, Fail> {
+    let mut happenings = Vec::with_capacity(alloc, 5)?;
+    happenings.push(Happening::Event(Event::Open))?;
+    happenings.push(Happening::Event(Event::Bytes(0, octets(alloc, &CONNECT)?)))?;
+    happenings.push(Happening::Event(Event::Bytes(0, octets(alloc, &PRODUCER)?)))?;
+    happenings.push(Happening::Event(Event::Bytes(0, octets(alloc, &SEND)?)))?;
+    happenings.push(Happening::Event(Event::Flush(0)))?;
+    let mut outputs = Vec::new(alloc);
+    let machine = drive(alloc, 1_000, made(alloc)?, happenings, &mut outputs)?;
+    for output in outputs.as_slice() {
+        done(output)?;
+    }
+    Ok(machine)
+}
+
+/// What found no memory, in the node or within the device, is an error.
+fn done(output: &Output) -> Result<(), Refusal> {
+    match output.result {
+        Verdict::Refused(refusal) => Err(refusal),
+        Verdict::Ended(Fault::NoMemory) => Err(Refusal::NoMemory),
+        Verdict::Done | Verdict::Ended(_) | Verdict::Full | Verdict::Unknown => Ok(()),
+    }
+}
+
+// Each read of an opening fails in turn; the last one is that of the entry.
+#[test]
+fn a_failing_read_refuses_an_opening(rt: HostRuntime) -> Result<(), Fail> {
+    let alloc = rt.alloc();
+    for read in 1..=13u64 {
+        let mut machine = with_an_entry(alloc)?;
+        machine.arm(Fuse::FailRead(read))?;
+        let (machine, output) = machine.crash(alloc, 1_000);
+        let refused = Verdict::Refused(Refusal::Device);
+        assert_eq!(rt; worked(output)?.result, refused, "{read}");
+        assert!(rt; machine.status()?.is_none(), "{read}");
+        let (machine, output) = machine.crash(alloc, 1_000);
+        assert_eq!(rt; worked(output)?.result, Verdict::Done, "{read}");
+        assert_eq!(rt; machine.status()?.map(|status| status.entries), Some(1));
+    }
     Ok(())
 }
 

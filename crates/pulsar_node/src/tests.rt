@@ -1,6 +1,8 @@
 mod acknowledging;
 mod crashes;
 mod faults;
+mod keyed;
+mod keyed_openings;
 mod limits;
 mod rows;
 mod scripts;

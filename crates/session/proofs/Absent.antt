@@ -55,14 +55,14 @@ none_kept-entries : map.entries none_kept ≡ []
 none_kept-entries = nothing_in (map.entries none_kept) (sym (map.len-entries none_kept) ∙ none_kept-len)
 
 abbrev no_subs : Subscriptions
-no_subs = record { subs = []; changes = [] }
+no_subs = record { subs = []; changes = []; slots = [] }
 
 none_opened : subscriptions.opened none_kept ≡ no_subs
 none_opened = ap (λ es. subscriptions.opened_all es) none_kept-entries
 
 -- a topic over no entry and no durable subscription
 abbrev over : ℕ → Subscriptions → Topic
-over n subs = record { core = record (opened n 0 none_kept) { subs = subs }; ledger = []; kept = none_kept }
+over n subs = record { core = record (opened n 0 [] none_kept) { subs = subs }; ledger = []; kept = none_kept }
 
 -- a fresh topic has no subscription
 fresh-over : (n : ℕ) → fresh n ≡ over n no_subs

@@ -1,4 +1,5 @@
 pub mod Absent
+pub mod AllRanges
 pub mod Ends
 pub mod Leaving
 pub mod Names

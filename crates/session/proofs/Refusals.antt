@@ -1,6 +1,6 @@
 -- What a session that refuses nothing by itself knows of what it is asked.
 use Rattle.std.proofs.Common.{◌≡◌, Bool, true, false, not, cond, ◌||◌, Option, Some, None, List, length, refl}
-use Rattle.std.specs.Prelude.{is_some, is_none, IsSome, nat_le}
+use Rattle.std.specs.Prelude.{is_some, nat_le}
 use Rattle.std.proofs.lemmas.Bool.{true≢false}
 use Rattle.commands.specs.declared.consuming.Subscribe.{Subscribe}
 use Rattle.commands.specs.declared.producing.Producer.{Producer}
@@ -10,7 +10,7 @@ use Rattle.records.specs.Names.{is_subscription_name}
 use Rattle.topic_core.specs.Steps.{first_standing}
 use Rattle.session.specs.TopicName.{is_topic_name}
 use Rattle.session.specs.Producing as producing
-use Rattle.session.specs.Consuming.{has_entry, own_refusals, IsNamed, mode_of}
+use Rattle.session.specs.Consuming.{has_entry, own_refusals, IsNamed}
 use Rattle.session.specs.declared.consumer_entry.ConsumerEntry.{ConsumerEntry}
 use Rattle.session.specs.declared.producer_entry.ProducerEntry.{ProducerEntry}
 
@@ -44,7 +44,7 @@ subscribe_topic consumers asked none = turned _ (none-first (not (is_topic_name 
 
 -- what stands behind the first four
 fifth_row : (consumers : List ConsumerEntry) (asked : Subscribe) → first_standing (own_refusals consumers asked) ≡ None →
-    cond (not (is_subscription_name asked.subscription)) (Some NotAllowedError) (cond (is_none (mode_of asked.subscription_type)) (Some NotAllowedError) None) ≡ None
+    cond (not (is_subscription_name asked.subscription)) (Some NotAllowedError) None ≡ None
 fifth_row consumers asked none =
     let fourth = none-rest (not (is_topic_name asked.topic)) InvalidTopicName _ (third_row consumers asked _ none) in
     none-rest (not asked.durable || is_some asked.start_message_id) NotAllowedError _ fourth
@@ -52,13 +52,3 @@ fifth_row consumers asked none =
 -- and its subscription has the name of one
 pub subscribe_named : (consumers : List ConsumerEntry) (asked : Subscribe) → first_standing (own_refusals consumers asked) ≡ None → IsNamed asked
 subscribe_named consumers asked none = turned _ (none-first (not (is_subscription_name asked.subscription)) NotAllowedError _ (fifth_row consumers asked none))
-
-there : {A : Type 0} (o : Option A) → is_none o ≡ false → IsSome o
-there (Some x) h = refl
-there None h = cc
-
--- and a type that is served
-pub subscribe_served : (consumers : List ConsumerEntry) (asked : Subscribe) → first_standing (own_refusals consumers asked) ≡ None → IsSome (mode_of asked.subscription_type)
-subscribe_served consumers asked none =
-    let sixth = none-rest (not (is_subscription_name asked.subscription)) NotAllowedError _ (fifth_row consumers asked none) in
-    there _ (none-first (is_none (mode_of asked.subscription_type)) NotAllowedError _ sixth)

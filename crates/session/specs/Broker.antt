@@ -24,7 +24,7 @@ pub record Broker : Type 0 where
 
 -- a topic that nothing happened to yet
 abbrev pub fresh : ℕ → Topic
-fresh per_ledger = topic_of (opened per_ledger 0 each.empty) [] each.empty
+fresh per_ledger = topic_of (opened per_ledger 0 [] each.empty) [] each.empty
 
 -- the topic of a number; one that isn't there is as a fresh one
 abbrev pub topic_at : Broker → ℕ → Topic

@@ -1,5 +1,5 @@
 -- SUBSCRIBE, FLOW, ACK and UNSUBSCRIBE, as a session works them.
-use Rattle.std.specs.Prelude.{◌≡◌, ◌⊎◌, ℕ, Bool, true, false, not, ◌||◌, is_some, is_none, nat_eq, nat_lt, nat_le, Option, Some, None, Result, Ok, Err, List, ◌∷◌, [], length, filter, find}
+use Rattle.std.specs.Prelude.{◌≡◌, ◌⊎◌, ℕ, Bool, true, false, not, ◌||◌, is_some, nat_eq, nat_lt, nat_le, Option, Some, None, Result, Ok, Err, List, ◌∷◌, [], length, filter, find}
 use Rattle.std.specs.Option.{option_map}
 use Rattle.std.specs.List.{list_any, insert, position_or_len}
 use Rattle.commands.specs.declared.consuming.Subscribe.{Subscribe}
@@ -20,6 +20,7 @@ use Rattle.topic_core.specs.declared.command.Answer.{Answer}
 use Rattle.topic_core.specs.declared.command.Answer.TheVariants.{Now, Later, Nothing, NoMemory}
 use Rattle.topic_core.specs.Steps.{has_consumer, first_standing}
 use Rattle.records.specs.Names.{is_subscription_name}
+use Rattle.session.specs.HashRanges.{ranges_of}
 use Rattle.session.specs.TopicName.{is_topic_name}
 use Rattle.session.specs.Broker.{Broker, topic_at, FindStep, CommandStep, GrantAt}
 use Rattle.session.specs.Client.{Client, Play, ended, Ends, SaysAlone, Answered}
@@ -40,12 +41,12 @@ with_live_consumers p = record p { client = record p.client { consumers = filter
 abbrev pub has_entry : List ConsumerEntry → ℕ → Bool
 has_entry consumers id = list_any (λ entry. nat_eq entry.consumer_id id) consumers
 
--- the modes of the subscription types that are served; our own rule, for now
-abbrev pub mode_of : SubscriptionType → Option Mode
-mode_of type.Exclusive = Some mode.Exclusive
-mode_of type.Shared = Some mode.Shared
-mode_of type.Failover = Some mode.Failover
-mode_of type.KeyShared = None
+-- the mode of a subscription type
+abbrev pub mode_of : SubscriptionType → Mode
+mode_of type.Exclusive = mode.Exclusive
+mode_of type.Shared = mode.Shared
+mode_of type.Failover = mode.Failover
+mode_of type.KeyShared = mode.KeyShared
 
 -- SUBSCRIBE: what the session refuses by itself, in order
 abbrev pub own_refusals : List ConsumerEntry → Subscribe → List (Bool × ServerError)
@@ -55,7 +56,6 @@ own_refusals consumers asked =
     ∷ (not (is_topic_name asked.topic), InvalidTopicName)
     ∷ (not asked.durable || is_some asked.start_message_id, NotAllowedError)
     ∷ (not (is_subscription_name asked.subscription), NotAllowedError)
-    ∷ (is_none (mode_of asked.subscription_type), NotAllowedError)
     ∷ []
 
 -- the subscription that it asks for has the name of a subscription
@@ -63,12 +63,13 @@ abbrev pub IsNamed : Subscribe → Type 0
 IsNamed asked = is_subscription_name asked.subscription ≡ true
 
 -- what the session asks of the topic
-abbrev pub subscribe_command : (asked : Subscribe) → Mode → IsNamed asked → TopicCommand
-subscribe_command asked mode named = topic_command.Subscribe (record {
+abbrev pub subscribe_command : (asked : Subscribe) → IsNamed asked → TopicCommand
+subscribe_command asked named = topic_command.Subscribe (record {
   consumer_id = asked.consumer_id;
   request_id = asked.request_id;
   subscription = asked.subscription;
-  mode = mode;
+  mode = mode_of asked.subscription_type;
+  ranges = ranges_of asked.subscription_type asked.key_shared_meta;
   initial = asked.initial_position;
   named = named;
 })
@@ -91,10 +92,8 @@ with_consumer c accepted id topic = record c { consumers = with_entry c.consumer
 -- the topic works SUBSCRIBE; the session keeps the consumer if it was accepted, and hands on the answer
 pub record Subscribes (old : Play) (topic : ℕ) (asked : Subscribe) (new : Play) : Type 0 where
   pub named : IsNamed asked
-  pub mode : Mode
-  pub served : mode_of asked.subscription_type ≡ Some mode
   pub answer : Answer
-  pub step : CommandStep old.broker topic old.client.number (subscribe_command asked mode named) answer new.broker
+  pub step : CommandStep old.broker topic old.client.number (subscribe_command asked named) answer new.broker
   pub answered : Answered (with_consumer old.client (is_later answer) asked.consumer_id topic) old.out answer new.client new.out
 
 -- once its topic was looked for; want of memory may end the session before the topic works anything

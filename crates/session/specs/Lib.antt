@@ -3,6 +3,7 @@ pub mod TopicName
 pub mod Broker
 pub mod Client
 pub mod Producing
+pub mod HashRanges
 pub mod Consuming
 pub mod GivingBack
 pub mod Working

@@ -6,14 +6,17 @@ ghost use Rattle.topic_core.specs.Steps.{first_standing};
 ghost use Rattle.records.specs.Names.{is_name_byte, is_subscription_name};
 ghost use Rattle.session.specs.Broker.{Broker};
 ghost use Rattle.session.specs.Client.{Client, Play, play, plain, Says, Speaks};
+ghost use Rattle.session.specs.HashRanges.{ranges_of};
 ghost use Rattle.session.specs.Consuming.{is_live, has_entry, mode_of, own_refusals, IsNamed, subscribe_command, is_later, with_entry, Subscribes, FoundStep, SubscribeOf, SubscribeStep, topic_of, granting, FlowStep, RefusesAck, AckStep, UnsubscribeStep};
 
 use crate::consumer_entry::ConsumerEntry;
 use crate::fault::Fault;
+use crate::hash_ranges::ranges_of;
 use crate::port::{Found, Port};
 use crate::session::Session;
 use crate::topic_name::is_topic_name;
 use commands::{Ack, Flow, Reply, ServerError, Subscribe, SubscriptionType, Unsubscribe};
+use holds::SlotRanges;
 use std::alloc::AllocError;
 use subscriptions::{Mode, TooManyPermits};
 use topic_core::{Answer, TopicCommand};
@@ -78,7 +81,6 @@ impl Session {
     )
         requires there { topic < P.count port.old }
         requires named { IsNamed asked }
-        requires served { IsSome (mode_of asked.subscription_type) }
         ensures step { P.sole port.old → FoundStep (play self.old (P.broker port.old) out.old.items) asked (Topic topic)
             (play self.new (P.broker port.new) out.new.items) }
         ensures speaks { Speaks self.old out.old.items self.new out.new.items }
@@ -99,7 +101,6 @@ impl Session {
     ) -> Result<(), AllocError>
         requires there { topic < P.count port.old }
         requires named { IsNamed asked }
-        requires served { IsSome (mode_of asked.subscription_type) }
         ensures ok { OnOk result (P.sole port.old → Subscribes (play self.old (P.broker port.old) out.old.items) topic asked
             (play self.new (P.broker port.new) out.new.items)) }
         ensures err { OnErr result ((self.new ≡ self.old) × (out.new.items ≡ out.old.items)
@@ -109,8 +110,12 @@ impl Session {
     {
         self.consumers.reserve(1)?;
         let consumer_id = asked.consumer_id;
-        let mode = mode_of(asked.subscription_type).unwrap();
-        let answer = port.command(topic, self.number, subscribe_command(asked, mode));
+        let ranges = ranges_of(
+            self.alloc,
+            asked.subscription_type,
+            asked.key_shared_meta.as_ref(),
+        )?;
+        let answer = port.command(topic, self.number, subscribe_command(asked, ranges));
         keep(&mut self.consumers, is_later(&answer), consumer_id, topic);
         self.answer(&answer, out);
         Ok(())
@@ -279,15 +284,14 @@ fn is_subscription_name(name: &str) -> bool
     1 <= name.len() && name.len() <= LONGEST_NAME && are_name_bytes(name.as_bytes())
 }
 
-/// The mode of a subscription type, where its consumers are served. Our own rule, for now.
-fn mode_of(kind: SubscriptionType) -> Option<Mode>
+fn mode_of(kind: SubscriptionType) -> Mode
     ensures { result ≡ mode_of kind }
 {
     match kind {
-        SubscriptionType::Exclusive => Some(Mode::Exclusive),
-        SubscriptionType::Shared => Some(Mode::Shared),
-        SubscriptionType::Failover => Some(Mode::Failover),
-        SubscriptionType::KeyShared => None,
+        SubscriptionType::Exclusive => Mode::Exclusive,
+        SubscriptionType::Shared => Mode::Shared,
+        SubscriptionType::Failover => Mode::Failover,
+        SubscriptionType::KeyShared => Mode::KeyShared,
     }
 }
 
@@ -309,22 +313,21 @@ fn own_refusal(consumers: &[ConsumerEntry], asked: &Subscribe) -> Option<ServerE
     if !is_subscription_name(asked.subscription.as_str()) {
         return Some(ServerError::NotAllowedError);
     }
-    if mode_of(asked.subscription_type).is_none() {
-        return Some(ServerError::NotAllowedError);
-    }
     None
 }
 
-/// What the session asks of the topic.
-fn subscribe_command(asked: Subscribe, mode: Mode) -> TopicCommand
-    requires { IsNamed asked }
-    ensures { (named : IsNamed asked) → result ≡ subscribe_command asked mode named }
+/// What the session asks of the topic for a consumer with these hash ranges.
+fn subscribe_command(asked: Subscribe, ranges: SlotRanges) -> TopicCommand
+    requires named { IsNamed asked }
+    requires ranges { ranges ≡ ranges_of asked.subscription_type asked.key_shared_meta }
+    ensures { (named : IsNamed asked) → result ≡ subscribe_command asked named }
 {
     TopicCommand::Subscribe(topic_core::Subscribe {
         consumer_id: asked.consumer_id,
         request_id: asked.request_id,
         subscription: asked.subscription,
-        mode,
+        mode: mode_of(asked.subscription_type),
+        ranges,
         initial: asked.initial_position,
     })
 }

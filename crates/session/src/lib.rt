@@ -8,6 +8,7 @@ mod consumer_entry;
 mod consuming;
 mod fault;
 mod giving_back;
+mod hash_ranges;
 mod laws;
 mod port;
 mod producer_entry;

@@ -2,6 +2,7 @@
 mod board;
 mod consuming;
 mod giving_back;
+mod keyed;
 mod producing;
 mod pumping;
 

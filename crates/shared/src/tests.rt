@@ -1,5 +1,5 @@
 use super::*;
-use holds::{Consumer, ConsumerKey, Dispatcher, Refusal};
+use holds::{Consumer, ConsumerKey, Dispatcher, Refusal, SlotRanges};
 use std::alloc::{AllocError, Global};
 use std::test::Fail;
 
@@ -32,7 +32,7 @@ fn attach(
 ) -> Result<Option<Refusal>, AllocError> {
     let newcomer = Consumer {
         key,
-        ranges: Vec::new(alloc),
+        ranges: SlotRanges::new(Vec::new(alloc)),
     };
     let foretold = dispatcher.refusal(&newcomer);
     match dispatcher.attach(newcomer) {

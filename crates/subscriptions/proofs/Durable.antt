@@ -16,6 +16,7 @@ use Rattle.std.specs.FinMap.Entries as entries
 use Rattle.std.specs.Prelude.{map as each}
 use Rattle.cursor.specs.Positions.{Positions, below}
 use Rattle.holds.specs.declared.consumer.ConsumerKey.{ConsumerKey}
+use Rattle.holds.specs.declared.consumer.Consumer.{Consumer as Seat}
 use Rattle.holds.specs.declared.delivery.Delivery.{Delivery}
 use Rattle.records.specs.declared.kept_cursor.KeptCursor.{KeptCursor}
 use Rattle.records.specs.declared.record.Record.{Record}
@@ -26,7 +27,7 @@ use Rattle.records.specs.Records.{after, after_all, changed, changed_at, acknowl
 use Rattle.subscriptions.specs.declared.consumer.Mode.{Mode}
 use Rattle.subscriptions.specs.declared.consumer.Refusal.{Refusal}
 use Rattle.subscriptions.specs.State.{Subscription, Subscriptions}
-use Rattle.subscriptions.specs.Steps.{opened, opened_one, first_changed, first_standing, is_named, is_on, refusals_at, making_refusals, attached_at, attached_to, made, acked_on, acknowledgements, acked_through_on, acknowledgement_through, first_removed, removal, granted_on, sent_on, left_on, settled, detached_on, redelivered_on}
+use Rattle.subscriptions.specs.Steps.{opened, opened_one, first_changed, first_standing, is_named, is_on, refusals_at, attached_at, attached_to, made, acked_on, acknowledgements, acked_through_on, acknowledgement_through, first_removed, removal, granted_on, sent_on, left_on, settled, detached_on, redelivered_on}
 use Rattle.subscriptions.specs.Soundness.{IsSoundSubscription, HasLimits, IsSound, IsCommittedOn, IsCommitted}
 use Rattle.subscriptions.specs.Laws.{acked_as, AreDurable, IsKept, AreKept}
 use Rattle.subscriptions.proofs.Sound.{length_changed, sound_opened}
@@ -135,40 +136,40 @@ below_64 : (n : ℕ) → nat_le 64 n ≡ false → n < 64
 below_64 n h = grind (arith, nat_tests)
 
 -- a new name
-new_name : (e : ℕ) (kept : Kept) (t : Subscriptions) (name : List ℕ) (start : ℕ) → find (is_named name) t.subs ≡ None → first_standing (making_refusals t) ≡ None
+new_name : (e : ℕ) (kept : Kept) (t : Subscriptions) (name : List ℕ) (start : ℕ) → find (is_named name) t.subs ≡ None → nat_le 64 (length t.subs) ≡ false
     → is_subscription_name name ≡ true → start ≤ e → IsKept e kept t → IsFormed e (after_all t.changes kept) (Made name start)
-new_name e kept t name start none allowed named low is = record {
+new_name e kept t name start none few named low is = record {
   name_is = named;
   placed = (
     record {
       not_there = is.same name ∙ ap (λ o. option_map (λ (s : Subscription). s.acked) o) none;
-      few = subst (λ n. n < 64) (sym is.count) (below_64 (length t.subs) (first_row _ _ _ allowed));
+      few = subst (λ n. n < 64) (sym is.count) (below_64 (length t.subs) few);
     },
     low,
   );
 }
 
-attach_kept : (e : ℕ) (kept : Kept) (t : Subscriptions) (name : List ℕ) (mode : Mode) (key : ConsumerKey) (start : ℕ) (o : Option Subscription) → find (is_named name) t.subs ≡ o
-    → first_standing (refusals_at o t mode) ≡ None → is_subscription_name name ≡ true → start ≤ e → IsKept e kept t → IsKept e kept (attached_at o t name mode key start)
-attach_kept e kept t name mode key start None none allowed named low is =
-    let new = new_name e kept t name start none allowed named low is in
+attach_kept : (e : ℕ) (kept : Kept) (t : Subscriptions) (name : List ℕ) (mode : Mode) (seat : Seat) (start : ℕ) (o : Option Subscription) → find (is_named name) t.subs ≡ o
+    → first_standing (refusals_at o t mode seat.ranges) ≡ None → is_subscription_name name ≡ true → start ≤ e → IsKept e kept t → IsKept e kept (attached_at o t name mode seat start)
+attach_kept e kept t name mode seat start None none allowed named low is =
+    let new = new_name e kept t name start none (first_row _ _ _ allowed) named low is in
     let all = after_append t.changes (Made name start ∷ []) kept in
     record {
-      same = attached_same kept t name mode key start None none is.same;
+      same = attached_same kept t name mode seat start None none is.same;
       count = ap (λ m. map.len m) all ∙ len-new (after_all t.changes kept) name (below start) new.placed.0.not_there
-          ∙ omega (arith, is.count, length-append t.subs (attached_to mode key (made name mode start) ∷ []));
+          ∙ omega (arith, is.count, length-append t.subs (attached_to mode seat (made name mode start) ∷ []));
       durable = is.durable;
       formed = formed_append e t.changes (Made name start ∷ []) kept is.formed (new, tt);
     }
-attach_kept e kept t name mode key start (Some s) found allowed named low is = record {
-  same = attached_same kept t name mode key start (Some s) found is.same;
-  count = is.count ∙ sym (length_changed (is_named name) (attached_to mode key) t.subs);
+attach_kept e kept t name mode seat start (Some s) found allowed named low is = record {
+  same = attached_same kept t name mode seat start (Some s) found is.same;
+  count = is.count ∙ sym (length_changed (is_named name) (attached_to mode seat) t.subs);
   durable = is.durable;
   formed = is.formed;
 }
 
 ack_kept : (e : ℕ) (kept : Kept) (t : Subscriptions) (key : ConsumerKey) (ps : List ℕ) (o : Option Subscription) → find (is_on key) t.subs ≡ o → HasLimits t → AllByRecursion (λ p. p < e) ps → IsKept e kept t
-    → (let n : Subscriptions = record { subs = first_changed (is_on key) (acked_on ps) t.subs; changes = t.changes ++ acknowledgements o ps } in IsKept e kept n)
+    → (let n : Subscriptions = record t { subs = first_changed (is_on key) (acked_on ps) t.subs; changes = t.changes ++ acknowledgements o ps } in IsKept e kept n)
 ack_kept e kept t key ps None none limits all is = record {
   same = acknowledged_same kept t key ps None none limits.names is.same;
   count = ap (λ m. map.len m) (after_append t.changes [] kept) ∙ is.count ∙ sym (length_changed (is_on key) (acked_on ps) t.subs);
@@ -187,7 +188,7 @@ ack_kept e kept t key ps (Some s) found limits all is =
     }
 
 through_kept : (e : ℕ) (kept : Kept) (t : Subscriptions) (key : ConsumerKey) (p : ℕ) (o : Option Subscription) → find (is_on key) t.subs ≡ o → HasLimits t → p < e → IsKept e kept t
-    → (let n : Subscriptions = record { subs = first_changed (is_on key) (acked_through_on p) t.subs; changes = t.changes ++ acknowledgement_through o p } in IsKept e kept n)
+    → (let n : Subscriptions = record t { subs = first_changed (is_on key) (acked_through_on p) t.subs; changes = t.changes ++ acknowledgement_through o p } in IsKept e kept n)
 through_kept e kept t key p None none limits low is = record {
   same = through_same kept t key p None none limits.names is.same;
   count = ap (λ m. map.len m) (after_append t.changes [] kept) ∙ is.count ∙ sym (length_changed (is_on key) (acked_through_on p) t.subs);
@@ -213,7 +214,7 @@ one_fewer : (n m : ℕ) → m + 1 ≡ n → n - 1 ≡ m
 one_fewer n m h = omega (arith, h)
 
 removed_kept : (e : ℕ) (kept : Kept) (t : Subscriptions) (key : ConsumerKey) (o : Option Subscription) → find (is_on key) t.subs ≡ o → HasLimits t → IsKept e kept t
-    → (let n : Subscriptions = record { subs = first_removed (is_on key) t.subs; changes = t.changes ++ removal o } in IsKept e kept n)
+    → (let n : Subscriptions = record t { subs = first_removed (is_on key) t.subs; changes = t.changes ++ removal o } in IsKept e kept n)
 removed_kept e kept t key None none limits is = record {
   same = removed_same kept t key None none limits.names is.same;
   count = ap (λ m. map.len m) (after_append t.changes [] kept) ∙ is.count ∙ sym (ap (λ (xs : List Subscription). length xs) (removed-none (is_on key) t.subs (none_found (is_on key) t.subs none)));
@@ -314,9 +315,9 @@ names_of : (cursors : List KeptCursor) → names (each opened_one (pairs cursors
 names_of [] = refl
 names_of (c ∷ cs) = ap (λ ns. c.name ∷ ns) (names_of cs)
 
-pub limits_opened : (cursors : List KeptCursor) (subs : List Subscription) (changes : List Record) → length cursors ≤ 64 → IsDistinct bytes_eq (each (λ (c : KeptCursor). c.name) cursors)
-    → subs ≡ each opened_one (pairs cursors) → changes ≡ [] → HasLimits (record { subs = subs; changes = changes })
-limits_opened cursors subs changes few distinct first second = rw (first, second) (record {
+pub limits_opened : (cursors : List KeptCursor) (subs : List Subscription) (changes : List Record) (slots : List ℕ) → length cursors ≤ 64 → IsDistinct bytes_eq (each (λ (c : KeptCursor). c.name) cursors)
+    → subs ≡ each opened_one (pairs cursors) → changes ≡ [] → HasLimits (record { subs = subs; changes = changes; slots = slots })
+limits_opened cursors subs changes slots few distinct first second = rw (first, second) (record {
   names = subst (IsDistinct bytes_eq) (sym (names_of cursors)) distinct;
   subscriptions = omega (arith, length_each opened_one (pairs cursors), length_each {Y = List ℕ × Positions} (λ (c : KeptCursor). (c.name, c.acked)) cursors);
   changes = omega arith;
@@ -332,7 +333,7 @@ opened_committed committed kept = each_fresh committed (map.entries kept)
 pub are_kept : AreKept
 are_kept = record {
   opened = opened_kept;
-  attach = λ e kept t name mode key start allowed named low is. attach_kept e kept t name mode key start (find (is_named name) t.subs) refl allowed named low is;
+  attach = λ e kept t name mode seat start allowed named low is. attach_kept e kept t name mode seat start (find (is_named name) t.subs) refl allowed named low is;
   grant = λ e kept t key permits is. kept_spared e kept t _ (λ q. acked_spared (is_on key) (granted_on key permits) (record { name = λ _. refl; acked = λ _. refl }) q t.subs) (length_changed (is_on key) (granted_on key permits) t.subs) is;
   acknowledge = λ e kept t key ps limits all is. ack_kept e kept t key ps (find (is_on key) t.subs) refl limits all is;
   acknowledge_through = λ e kept t key p limits low is. through_kept e kept t key p (find (is_on key) t.subs) refl limits low is;
@@ -342,5 +343,6 @@ are_kept = record {
   detach = λ e kept t key is. kept_spared e kept t _ (λ q. acked_spared (is_on key) (detached_on key) (record { name = λ _. refl; acked = λ _. refl }) q t.subs) (length_changed (is_on key) (detached_on key) t.subs) is;
   redeliver = λ e kept t key asked is. kept_spared e kept t _ (λ q. acked_spared (is_on key) (redelivered_on key asked) (record { name = λ _. refl; acked = λ _. refl }) q t.subs) (length_changed (is_on key) (redelivered_on key asked) t.subs) is;
   settle = settle_kept;
+  slot = λ e kept t slots is. record { same = is.same; count = is.count; durable = is.durable; formed = is.formed };
   longer = λ e m kept t low is. record { same = is.same; count = is.count; durable = is.durable; formed = formed_longer e m t.changes kept low is.formed };
 }

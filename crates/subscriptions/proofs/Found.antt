@@ -1,16 +1,20 @@
 -- What one subscription does, of all: by where the one of a name or of a consumer stands.
-use Rattle.std.proofs.Common.{Result, Ok, Err, ◌≡◌, ℕ, Bool, false, List, [], ◌∷◌, ◌++◌, get_or, set, refl, ap, sym, subst, ◌∙◌, Some, None, Option}
+use Rattle.std.proofs.Common.{Result, Ok, Err, ◌≡◌, ℕ, Bool, true, false, List, [], ◌∷◌, ◌++◌, get_or, set, refl, ap, sym, subst, ◌∙◌, Some, None, Option}
 use Rattle.std.specs.Prelude.{map as each, IfSome, IfNone, OnErr}
+use Rattle.std.proofs.lemmas.Bool.{true≢false}
 use Rattle.std.specs.List.{find, position, remove}
 use Rattle.holds.specs.declared.consumer.ConsumerKey.{ConsumerKey}
+use Rattle.holds.specs.declared.consumer.Consumer.{Consumer as Seat}
+use Rattle.holds.specs.declared.consumer.SlotRange.{SlotRange}
 use Rattle.subscriptions.specs.declared.consumer.Mode.{Mode}
 use Rattle.subscriptions.specs.declared.consumer.Refusal.{Refusal}
 use Rattle.records.specs.declared.record.Record.{Record}
 use Rattle.records.specs.declared.record.Record.TheVariants.{Made, Acknowledged, Removed, AcknowledgedThrough}
 use Rattle.subscriptions.specs.State.{Subscription, Subscriptions}
-use Rattle.subscriptions.specs.Steps.{first_changed, first_standing, is_named, is_on, subscribe_refusals, refusals_at, making_refusals, attach_refusals, attached_to, attached_at, attached, made, granted, granted_on, grants_too_many, is_past, is_past_on, is_consumer, acknowledged, acknowledgements, acked_on, acknowledged_through, acknowledgement_through, acked_through_on, first_removed, unsubscribed, removal, Admits, AdmitsAt, AdmitsOn, sent_before, times_at}
+use Rattle.subscriptions.specs.Steps.{first_changed, first_standing, is_named, is_on, subscribe_refusals, refusals_at, making_refusals, attach_refusals, attached_to, attached_at, attached, made, granted, granted_on, grants_too_many, is_past, is_past_on, is_consumer, acknowledged, acknowledgements, acked_on, acknowledged_through, acknowledgement_through, acked_through_on, first_removed, unsubscribed, removal, Admits, AdmitsAt, AdmitsBy, AdmitsOn, has_permit, sent_before, times_at}
+use Rattle.holds.specs.Backlog.{IsOpenAt}
 use Rattle.holds.specs.Deliveries.{times}
-use Rattle.subscriptions.proofs.Places.{changes, finds, stays, misses, removes, removed-none, none_found}
+use Rattle.subscriptions.proofs.Places.{changes, finds, is_place, stays, misses, removes, removed-none, none_found}
 
 -- what holds anyhow holds where there is an error
 pub on_err : {T E P : Type 0} (r : Result T E) → P → OnErr r P
@@ -19,29 +23,29 @@ on_err (Err e) p = p
 
 -- ---- by name
 
-pub refusal_none : (t : Subscriptions) (name : List ℕ) (mode : Mode) (r : Option Refusal) → position (is_named name) t.subs ≡ None → r ≡ first_standing (making_refusals t) → r ≡ first_standing (subscribe_refusals t name mode)
-refusal_none t name mode r at is = is ∙ sym (ap (λ (o : Option Subscription). first_standing (refusals_at o t mode)) (misses (is_named name) t.subs at))
+pub refusal_none : (t : Subscriptions) (name : List ℕ) (mode : Mode) (ranges : List SlotRange) (r : Option Refusal) → position (is_named name) t.subs ≡ None → r ≡ first_standing (making_refusals mode ranges t) → r ≡ first_standing (subscribe_refusals t name mode ranges)
+refusal_none t name mode ranges r at is = is ∙ sym (ap (λ (o : Option Subscription). first_standing (refusals_at o t mode ranges)) (misses (is_named name) t.subs at))
 
-pub refusal_some : (t : Subscriptions) (name : List ℕ) (mode : Mode) (r : Option Refusal) (i : ℕ) (s : Subscription) → position (is_named name) t.subs ≡ Some i → s ≡ get_or t.subs i s → r ≡ first_standing (attach_refusals mode s) → r ≡ first_standing (subscribe_refusals t name mode)
-refusal_some t name mode r i s at read is = is ∙ sym (ap (λ (o : Option Subscription). first_standing (refusals_at o t mode)) (finds (is_named name) t.subs i s at read))
+pub refusal_some : (t : Subscriptions) (name : List ℕ) (mode : Mode) (ranges : List SlotRange) (r : Option Refusal) (i : ℕ) (s : Subscription) → position (is_named name) t.subs ≡ Some i → s ≡ get_or t.subs i s → r ≡ first_standing (attach_refusals mode ranges s) → r ≡ first_standing (subscribe_refusals t name mode ranges)
+refusal_some t name mode ranges r i s at read is = is ∙ sym (ap (λ (o : Option Subscription). first_standing (refusals_at o t mode ranges)) (finds (is_named name) t.subs i s at read))
 
-pub allowed_none : (t : Subscriptions) (name : List ℕ) (mode : Mode) → position (is_named name) t.subs ≡ None → first_standing (subscribe_refusals t name mode) ≡ None → first_standing (making_refusals t) ≡ None
-allowed_none t name mode at is = ap (λ (o : Option Subscription). first_standing (refusals_at o t mode)) (sym (misses (is_named name) t.subs at)) ∙ is
+pub allowed_none : (t : Subscriptions) (name : List ℕ) (mode : Mode) (ranges : List SlotRange) → position (is_named name) t.subs ≡ None → first_standing (subscribe_refusals t name mode ranges) ≡ None → first_standing (making_refusals mode ranges t) ≡ None
+allowed_none t name mode ranges at is = ap (λ (o : Option Subscription). first_standing (refusals_at o t mode ranges)) (sym (misses (is_named name) t.subs at)) ∙ is
 
-pub allowed_some : (t : Subscriptions) (name : List ℕ) (mode : Mode) (i : ℕ) (s : Subscription) → position (is_named name) t.subs ≡ Some i → s ≡ get_or t.subs i s → first_standing (subscribe_refusals t name mode) ≡ None → first_standing (attach_refusals mode s) ≡ None
-allowed_some t name mode i s at read is = ap (λ (o : Option Subscription). first_standing (refusals_at o t mode)) (sym (finds (is_named name) t.subs i s at read)) ∙ is
+pub allowed_some : (t : Subscriptions) (name : List ℕ) (mode : Mode) (ranges : List SlotRange) (i : ℕ) (s : Subscription) → position (is_named name) t.subs ≡ Some i → s ≡ get_or t.subs i s → first_standing (subscribe_refusals t name mode ranges) ≡ None → first_standing (attach_refusals mode ranges s) ≡ None
+allowed_some t name mode ranges i s at read is = ap (λ (o : Option Subscription). first_standing (refusals_at o t mode ranges)) (sym (finds (is_named name) t.subs i s at read)) ∙ is
 
-pub attaches_none : (t : Subscriptions) (name : List ℕ) (mode : Mode) (key : ConsumerKey) (start : ℕ) (s : Subscription) → position (is_named name) t.subs ≡ None → s ≡ attached_to mode key (made name mode start)
-    → (let n : Subscriptions = record { subs = t.subs ++ s ∷ []; changes = t.changes ++ Made name start ∷ [] } in n ≡ attached t name mode key start)
-attaches_none t name mode key start s at is =
-    ap (λ (x : Subscription). let n : Subscriptions = record { subs = t.subs ++ x ∷ []; changes = t.changes ++ Made name start ∷ [] } in n) is
-    ∙ sym (ap (λ (o : Option Subscription). attached_at o t name mode key start) (misses (is_named name) t.subs at))
+pub attaches_none : (t : Subscriptions) (name : List ℕ) (mode : Mode) (seat : Seat) (start : ℕ) (s : Subscription) → position (is_named name) t.subs ≡ None → s ≡ attached_to mode seat (made name mode start)
+    → (let n : Subscriptions = record t { subs = t.subs ++ s ∷ []; changes = t.changes ++ Made name start ∷ [] } in n ≡ attached t name mode seat start)
+attaches_none t name mode seat start s at is =
+    ap (λ (x : Subscription). let n : Subscriptions = record t { subs = t.subs ++ x ∷ []; changes = t.changes ++ Made name start ∷ [] } in n) is
+    ∙ sym (ap (λ (o : Option Subscription). attached_at o t name mode seat start) (misses (is_named name) t.subs at))
 
-pub attaches_some : (t : Subscriptions) (name : List ℕ) (mode : Mode) (key : ConsumerKey) (start : ℕ) (i : ℕ) (s s' : Subscription) → position (is_named name) t.subs ≡ Some i → s ≡ get_or t.subs i s → s' ≡ attached_to mode key s
-    → (let n : Subscriptions = record t { subs = set t.subs i s' } in n ≡ attached t name mode key start)
-attaches_some t name mode key start i s s' at read is =
-    ap (λ (xs : List Subscription). let n : Subscriptions = record t { subs = xs } in n) (changes (is_named name) (attached_to mode key) t.subs i s s' at read is)
-    ∙ sym (ap (λ (o : Option Subscription). attached_at o t name mode key start) (finds (is_named name) t.subs i s at read))
+pub attaches_some : (t : Subscriptions) (name : List ℕ) (mode : Mode) (seat : Seat) (start : ℕ) (i : ℕ) (s s' : Subscription) → position (is_named name) t.subs ≡ Some i → s ≡ get_or t.subs i s → s' ≡ attached_to mode seat s
+    → (let n : Subscriptions = record t { subs = set t.subs i s' } in n ≡ attached t name mode seat start)
+attaches_some t name mode seat start i s s' at read is =
+    ap (λ (xs : List Subscription). let n : Subscriptions = record t { subs = xs } in n) (changes (is_named name) (attached_to mode seat) t.subs i s s' at read is)
+    ∙ sym (ap (λ (o : Option Subscription). attached_at o t name mode seat start) (finds (is_named name) t.subs i s at read))
 
 -- ---- by consumer
 
@@ -71,7 +75,7 @@ module _ (t : Subscriptions) (key : ConsumerKey) where
   stays_at f at = ap with_subs (stays (is_on key) f t.subs at)
 
   abbrev with_both : List Subscription → List Record → Subscriptions
-  with_both xs cs = record { subs = xs; changes = cs }
+  with_both xs cs = record t { subs = xs; changes = cs }
 
   pub acknowledges_none : (ps : List ℕ) → position (is_on key) t.subs ≡ None → t ≡ acknowledged t key ps
   acknowledges_none ps at =
@@ -107,21 +111,33 @@ module _ (t : Subscriptions) (key : ConsumerKey) where
       ∙ sym (ap (λ (o : Option Subscription). with_both (first_removed (is_on key) t.subs) (t.changes ++ removal o)) (finds (is_on key) t.subs i s at read))
 
   pub admits_none : (committed i : ℕ) → position (is_on key) t.subs ≡ None → Admits t key committed i → ⊥
-  admits_none committed i at a = let none : AdmitsAt None key committed i = subst (λ (o : Option Subscription). AdmitsAt o key committed i) (misses (is_on key) t.subs at) a in none
+  admits_none committed i at a = let none : AdmitsAt None key t.slots committed i = subst (λ (o : Option Subscription). AdmitsAt o key t.slots committed i) (misses (is_on key) t.subs at) a in none
 
-  pub admitted : (committed i : ℕ) (p : ℕ) (s : Subscription) → position (is_on key) t.subs ≡ Some p → s ≡ get_or t.subs p s → Admits t key committed i → AdmitsOn s key committed i
-  admitted committed i p s at read a = subst (λ (o : Option Subscription). AdmitsAt o key committed i) (finds (is_on key) t.subs p s at read) a
+  pub admitted : (committed i : ℕ) (p : ℕ) (s : Subscription) → position (is_on key) t.subs ≡ Some p → s ≡ get_or t.subs p s → Admits t key committed i → AdmitsOn s key t.slots committed i
+  admitted committed i p s at read a = subst (λ (o : Option Subscription). AdmitsAt o key t.slots committed i) (finds (is_on key) t.subs p s at read) a
 
-  pub admits : (committed i : ℕ) (p : ℕ) (s : Subscription) → position (is_on key) t.subs ≡ Some p → s ≡ get_or t.subs p s → AdmitsOn s key committed i → Admits t key committed i
-  admits committed i p s at read a = subst (λ (o : Option Subscription). AdmitsAt o key committed i) (sym (finds (is_on key) t.subs p s at read)) a
+  pub admits : (committed i : ℕ) (p : ℕ) (s : Subscription) → position (is_on key) t.subs ≡ Some p → s ≡ get_or t.subs p s → AdmitsOn s key t.slots committed i → Admits t key committed i
+  admits committed i p s at read a = subst (λ (o : Option Subscription). AdmitsAt o key t.slots committed i) (sym (finds (is_on key) t.subs p s at read)) a
 
-  pub picks_some : (committed : ℕ) (p : ℕ) (s : Subscription) (r : Option ℕ) → position (is_on key) t.subs ≡ Some p → s ≡ get_or t.subs p s → IfSome r (AdmitsOn s key committed) → IfSome r (Admits t key committed)
-  picks_some committed p s (Some i) at read a = admits committed i p s at read a
-  picks_some committed p s None at read a = tt
+  -- a mode's answer to a consumer that has a permit
+  pub picks_some : (committed : ℕ) (p : ℕ) (s : Subscription) (slots : List ℕ) (r : Option ℕ) → position (is_on key) t.subs ≡ Some p → s ≡ get_or t.subs p s → slots ≡ t.slots → has_permit (find (is_consumer key) s.consumers) ≡ true
+      → IfSome r (AdmitsBy s.mode key s slots (IsOpenAt committed s.acked s.deliveries)) → IfSome r (Admits t key committed)
+  picks_some committed p s slots (Some i) at read same permit a =
+      admits committed i p s at read (record { permit = permit; served = subst (λ (slots : List ℕ). AdmitsBy s.mode key s slots (IsOpenAt committed s.acked s.deliveries) i) same a })
+  picks_some committed p s slots None at read same permit a = tt
 
-  pub picks_none : (committed : ℕ) (p : ℕ) (s : Subscription) (r : Option ℕ) → position (is_on key) t.subs ≡ Some p → s ≡ get_or t.subs p s → IfNone r ((i : ℕ) → AdmitsOn s key committed i → ⊥) → IfNone r ((i : ℕ) → Admits t key committed i → ⊥)
-  picks_none committed p s (Some i) at read never = tt
-  picks_none committed p s None at read never = λ i a. never i (admitted committed i p s at read a)
+  pub picks_none : (committed : ℕ) (p : ℕ) (s : Subscription) (slots : List ℕ) (r : Option ℕ) → position (is_on key) t.subs ≡ Some p → s ≡ get_or t.subs p s → slots ≡ t.slots
+      → IfNone r ((i : ℕ) → AdmitsBy s.mode key s slots (IsOpenAt committed s.acked s.deliveries) i → ⊥) → IfNone r ((i : ℕ) → Admits t key committed i → ⊥)
+  picks_none committed p s slots (Some i) at read same never = tt
+  picks_none committed p s slots None at read same never =
+      λ i a. never i (subst (λ (slots : List ℕ). AdmitsBy s.mode key s slots (IsOpenAt committed s.acked s.deliveries) i) (sym same) (admitted committed i p s at read a).served)
+
+  pub permits_none : (committed i : ℕ) (p : ℕ) (s : Subscription) → position (is_on key) t.subs ≡ Some p → s ≡ get_or t.subs p s → has_permit (find (is_consumer key) s.consumers) ≡ false → Admits t key committed i → ⊥
+  permits_none committed i p s at read without a = true≢false (sym (admitted committed i p s at read a).permit ∙ without)
+
+  -- the consumer is attached to the one that is found
+  pub stands : (p : ℕ) (s : Subscription) → position (is_on key) t.subs ≡ Some p → s ≡ get_or t.subs p s → is_on key s ≡ true
+  stands p s at read = ap (is_on key) read ∙ (is_place (is_on key) t.subs p s at).here
 
   pub before_at : (i : ℕ) (p : ℕ) (s : Subscription) (n : ℕ) → position (is_on key) t.subs ≡ Some p → s ≡ get_or t.subs p s → n ≡ times s.deliveries i → n ≡ sent_before t key i
   before_at i p s n at read is = is ∙ sym (ap (λ (o : Option Subscription). times_at o i) (finds (is_on key) t.subs p s at read))

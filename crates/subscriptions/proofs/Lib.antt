@@ -4,8 +4,10 @@ pub mod Settled
 pub mod Each
 pub mod Sound
 pub mod Seats
+pub mod Passed
 pub mod Kept
 pub mod Limits
 pub mod Found
 pub mod Durable
 pub mod Told
+pub mod Lowered

@@ -12,6 +12,7 @@ use Rattle.std.specs.FinMap as map
 use Rattle.holds.specs.Backlog.{IsOpenAt}
 use Rattle.holds.specs.Deliveries.{sent_to, given_back}
 use Rattle.holds.specs.declared.consumer.ConsumerKey.{ConsumerKey}
+use Rattle.holds.specs.declared.consumer.Consumer.{Consumer as Seat}
 use Rattle.holds.specs.declared.delivery.Delivery.{Delivery}
 use Rattle.holds.proofs.Kept.{get_inserted}
 use Rattle.subscriptions.specs.declared.consumer.Mode.{Mode}
@@ -19,10 +20,10 @@ use Rattle.subscriptions.specs.declared.consumer.Refusal.{Refusal}
 use Rattle.records.specs.declared.record.Record.{Record}
 use Rattle.records.specs.declared.record.Record.TheVariants.{Acknowledged}
 use Rattle.subscriptions.specs.State.{Subscription, Subscriptions}
-use Rattle.subscriptions.specs.Steps.{first_changed, first_standing, is_named, is_on, refusals_at, making_refusals, attach_refusals, attached_to, attached_at, made, granted_on, grants_too_many, is_past_on, acknowledged, acknowledgements, acked_on, acknowledged_through, acknowledgement_through, acked_through_on, first_removed, is_shared, unsubscribe_refusals, unsubscribed, removal, Admits, AdmitsAt, AdmitsOn, sent_on, left, left_on, freed, detached_on, is_asked_back, redelivered_on, settled}
+use Rattle.subscriptions.specs.Steps.{first_changed, first_standing, is_named, is_on, refuses_ranges, refusals_at, making_refusals, attach_refusals, attached_to, attached_at, made, granted_on, grants_too_many, is_past_on, acknowledged, acknowledgements, acked_on, acknowledged_through, acknowledgement_through, acked_through_on, first_removed, is_shared, unsubscribe_refusals, unsubscribed, removal, Admits, AdmitsAt, AdmitsOn, sent_on, left, left_on, freed, detached_on, is_asked_back, redelivered_on, settled, slotted}
 use Rattle.subscriptions.specs.Soundness.{IsSoundSubscription, HasLimits, IsSound, IsCommittedOn, IsCommitted}
 use Rattle.subscriptions.specs.Laws.{StaysSound, DeliveriesAreCommitted, PickedIsOpen, IsOpenFor}
-use Rattle.subscriptions.proofs.Sound.{length_changed, all_changed, all_pushed, sound_made, sound_attached, sound_granted, sound_acked, sound_acked_through, sound_sent, sound_left, get_freed, opens_of, sound_detached, sound_redelivered}
+use Rattle.subscriptions.proofs.Sound.{length_changed, all_changed, all_pushed, three_rows, sound_attached, sound_first, sound_granted, sound_acked, sound_acked_through, sound_sent, sound_left, get_freed, opens_of, sound_detached, sound_redelivered}
 use Rattle.subscriptions.proofs.Each.{none_changed}
 use Rattle.subscriptions.proofs.Kept.{names, turned}
 use Rattle.subscriptions.proofs.Durable.{opened_sound, opened_committed}
@@ -62,6 +63,9 @@ limits_left t who l = record {
 pub limits_settled : (t : Subscriptions) (count : ℕ) → HasLimits t → HasLimits (settled t count)
 limits_settled t count l = record { names = l.names; subscriptions = l.subscriptions; changes = omega (arith, length-drop count t.changes, l.changes) }
 
+pub limits_slotted : (t : Subscriptions) (slots : List ℕ) → HasLimits t → HasLimits (slotted t slots)
+limits_slotted t slots l = record { names = l.names; subscriptions = l.subscriptions; changes = l.changes }
+
 two_rows : (a b : Bool) (x y : Refusal) → cond a (Some x) (cond b (Some y) None) ≡ None → (a ≡ false) × (b ≡ false)
 two_rows true b x y h = absurd (cc)
 two_rows false true x y h = absurd (cc)
@@ -72,6 +76,10 @@ below_64 n h = grind (arith, nat_tests)
 
 below_65536 : (n : ℕ) → nat_le 65536 n ≡ false → n + 1 ≤ 65536
 below_65536 n h = grind (arith, nat_tests)
+
+making_rows : (t : Subscriptions) (mode : Mode) (seat : Seat) → first_standing (making_refusals mode seat.ranges t) ≡ None
+    → (nat_le 64 (length t.subs) ≡ false) × (refuses_ranges mode [] seat.ranges ≡ false) × (nat_le 65536 (length t.changes) ≡ false)
+making_rows t mode seat allowed = three_rows (nat_le 64 (length t.subs)) (refuses_ranges mode [] seat.ranges) (nat_le 65536 (length t.changes)) _ _ _ allowed
 
 no_such_name : (name : List ℕ) (subs : List Subscription) → find (is_named name) subs ≡ None → list_any (bytes_eq name) (names subs) ≡ false
 no_such_name name [] none = refl
@@ -84,13 +92,13 @@ names_pushed : (subs : List Subscription) (s : Subscription) → names (subs ++ 
 names_pushed [] s = refl
 names_pushed (x ∷ xs) s = ap (λ ns. x.name ∷ ns) (names_pushed xs s)
 
-pub limits_made : (t : Subscriptions) (name : List ℕ) (mode : Mode) (key : ConsumerKey) (start : ℕ) → find (is_named name) t.subs ≡ None → first_standing (making_refusals t) ≡ None
-    → HasLimits t → HasLimits (attached_at None t name mode key start)
-limits_made t name mode key start none allowed l =
-    let rows = two_rows (nat_le 64 (length t.subs)) (nat_le 65536 (length t.changes)) _ _ allowed in record {
-      names = subst (IsDistinct bytes_eq) (sym (names_pushed t.subs (attached_to mode key (made name mode start)))) (IsDistinct-push nat_list_eq_equiv (names t.subs) name l.names (no_such_name name t.subs none));
+pub limits_made : (t : Subscriptions) (name : List ℕ) (mode : Mode) (seat : Seat) (start : ℕ) → find (is_named name) t.subs ≡ None → first_standing (making_refusals mode seat.ranges t) ≡ None
+    → HasLimits t → HasLimits (attached_at None t name mode seat start)
+limits_made t name mode seat start none allowed l =
+    let rows = making_rows t mode seat allowed in record {
+      names = subst (IsDistinct bytes_eq) (sym (names_pushed t.subs (attached_to mode seat (made name mode start)))) (IsDistinct-push nat_list_eq_equiv (names t.subs) name l.names (no_such_name name t.subs none));
       subscriptions = rw length-append (below_64 (length t.subs) rows.0);
-      changes = rw length-append (below_65536 (length t.changes) rows.1);
+      changes = rw length-append (below_65536 (length t.changes) rows.2);
     }
 
 length_made : (name : List ℕ) (ps : List ℕ) → length (each (λ p. Acknowledged name p) ps) ≡ length ps
@@ -150,23 +158,30 @@ all_each : (f : Subscription → Subscription) → ((s : Subscription) → IsSou
 all_each f to [] all = tt
 all_each f to (x ∷ xs) all = (to x all.0, all_each f to xs all.1)
 
-sound_attach : (t : Subscriptions) (name : List ℕ) (mode : Mode) (key : ConsumerKey) (start : ℕ) (o : Option Subscription) → find (is_named name) t.subs ≡ o → first_standing (refusals_at o t mode) ≡ None → IsSound t → IsSound (attached_at o t name mode key start)
-sound_attach t name mode key start None none allowed sound = record {
-  limits = limits_made t name mode key start none allowed sound.limits;
-  each_one = all_pushed IsSoundSubscription t.subs (attached_to mode key (made name mode start)) sound.each_one
-      (sound_attached mode key (made name mode start) refl (sound_made name mode start));
+sound_attach : (t : Subscriptions) (name : List ℕ) (mode : Mode) (seat : Seat) (start : ℕ) (o : Option Subscription) → find (is_named name) t.subs ≡ o → first_standing (refusals_at o t mode seat.ranges) ≡ None → IsSound t → IsSound (attached_at o t name mode seat start)
+sound_attach t name mode seat start None none allowed sound = record {
+  limits = limits_made t name mode seat start none allowed sound.limits;
+  each_one = all_pushed IsSoundSubscription t.subs (attached_to mode seat (made name mode start)) sound.each_one
+      (sound_first name mode seat start (making_rows t mode seat allowed).1);
 }
-sound_attach t name mode key start (Some s) found allowed sound = record {
-  limits = limits_changed t (is_named name) (attached_to mode key) (λ _. refl) sound.limits;
-  each_one = all_changed (is_named name) (attached_to mode key) IsSoundSubscription t.subs
-      (λ x is ok. sound_attached mode key x (let same : x ≡ s = cc in ap (λ (y : Subscription). first_standing (attach_refusals mode y)) same ∙ allowed) ok) sound.each_one;
+sound_attach t name mode seat start (Some s) found allowed sound = record {
+  limits = limits_changed t (is_named name) (attached_to mode seat) (λ _. refl) sound.limits;
+  each_one = all_changed (is_named name) (attached_to mode seat) IsSoundSubscription t.subs
+      (λ x is ok. sound_attached mode seat x (let same : x ≡ s = cc in ap (λ (y : Subscription). first_standing (attach_refusals mode seat.ranges y)) same ∙ allowed) ok) sound.each_one;
 }
 
 granted_at : (key : ConsumerKey) (permits : ℕ) (t : Subscriptions) (x : Subscription) → find (is_on key) t.subs ≡ Some x → grants_too_many t key permits ≡ false → is_past_on key permits (Some x) ≡ false
 granted_at key permits t x is h = ap (is_past_on key permits) (sym is) ∙ h
 
-admitted_at : (key : ConsumerKey) (committed i : ℕ) (t : Subscriptions) (x : Subscription) → find (is_on key) t.subs ≡ Some x → Admits t key committed i → AdmitsOn x key committed i
-admitted_at key committed i t x is a = subst (λ (o : Option Subscription). AdmitsAt o key committed i) is a
+admitted_at : (key : ConsumerKey) (committed i : ℕ) (t : Subscriptions) (x : Subscription) → find (is_on key) t.subs ≡ Some x → Admits t key committed i → AdmitsOn x key t.slots committed i
+admitted_at key committed i t x is a = subst (λ (o : Option Subscription). AdmitsAt o key t.slots committed i) is a
+
+-- what a mode lets a consumer get is open
+open_for : (key : ConsumerKey) (slots : List ℕ) (committed i : ℕ) (s : Subscription) → AdmitsOn s key slots committed i → IsOpenAt committed s.acked s.deliveries i
+open_for key slots committed i s a = opens_of s.mode key s slots (IsOpenAt committed s.acked s.deliveries) i a.served
+
+sent_sound : (key : ConsumerKey) (slots : List ℕ) (committed i : ℕ) (s : Subscription) → AdmitsOn s key slots committed i → IsSoundSubscription s → IsSoundSubscription (sent_on key i s)
+sent_sound key slots committed i s a sound = sound_sent key committed i s a.permit (open_for key slots committed i s a) sound
 
 no_names : IsDistinct bytes_eq []
 unfolding IsDistinct
@@ -176,7 +191,7 @@ pub each_sound : StaysSound
 each_sound = record {
   opened = opened_sound;
   made = record { limits = record { names = no_names; subscriptions = omega arith; changes = omega arith }; each_one = tt };
-  attach = λ t name mode key start allowed sound. sound_attach t name mode key start (find (is_named name) t.subs) refl allowed sound;
+  attach = λ t name mode seat start allowed sound. sound_attach t name mode seat start (find (is_named name) t.subs) refl allowed sound;
   grant = λ t key permits within sound. record {
     limits = limits_changed t (is_on key) (granted_on key permits) (λ _. refl) sound.limits;
     each_one = all_changed (is_on key) (granted_on key permits) IsSoundSubscription t.subs (λ x is ok. sound_granted key permits x (granted_at key permits t x is within) ok) sound.each_one;
@@ -195,7 +210,7 @@ each_sound = record {
   };
   send = λ t key committed i a sound. record {
     limits = limits_changed t (is_on key) (sent_on key i) (λ _. refl) sound.limits;
-    each_one = all_changed (is_on key) (sent_on key i) IsSoundSubscription t.subs (λ x is ok. sound_sent key committed i x (admitted_at key committed i t x is a) ok) sound.each_one;
+    each_one = all_changed (is_on key) (sent_on key i) IsSoundSubscription t.subs (λ x is ok. sent_sound key t.slots committed i x (admitted_at key committed i t x is a) ok) sound.each_one;
   };
   leave = λ t who sound. record { limits = limits_left t who sound.limits; each_one = all_each (left_on who) (sound_left who) t.subs sound.each_one };
   detach = λ t key sound. record {
@@ -207,6 +222,7 @@ each_sound = record {
     each_one = all_changed (is_on key) (redelivered_on key asked) IsSoundSubscription t.subs (λ x is ok. sound_redelivered key asked x ok) sound.each_one;
   };
   settle = λ t count sound. record { limits = limits_settled t count sound.limits; each_one = sound.each_one };
+  slot = λ t slots sound. record { limits = limits_slotted t slots sound.limits; each_one = sound.each_one };
 }
 
 -- ---- deliveries are of committed positions
@@ -221,10 +237,10 @@ either_none false x h = h
 not_here : {X : Type 0} (b : Bool) (v x : Option X) → b ≡ false → x ≡ None → cond b v x ≡ None
 not_here b v x e none = ap (λ c. cond c v x) e ∙ none
 
-committed_sent : (committed i : ℕ) (key : ConsumerKey) (s : Subscription) → AdmitsOn s key committed i → IsCommittedOn committed s → IsCommittedOn committed (sent_on key i s)
-committed_sent committed i key s a c j h =
+committed_sent : (committed i : ℕ) (key : ConsumerKey) (slots : List ℕ) (s : Subscription) → AdmitsOn s key slots committed i → IsCommittedOn committed s → IsCommittedOn committed (sent_on key i s)
+committed_sent committed i key slots s a c j h =
     get_inserted s.deliveries i (sent_to key (map.get s.deliveries i)) j
-    ∙ not_here (nat_eq j i) (Some (sent_to key (map.get s.deliveries i))) (map.get s.deliveries j) (differs j i committed h (opens_of s.mode key s.consumers (IsOpenAt committed s.acked s.deliveries) i a.served).is_committed) (c j h)
+    ∙ not_here (nat_eq j i) (Some (sent_to key (map.get s.deliveries i))) (map.get s.deliveries j) (differs j i committed h (open_for key slots committed i s a).is_committed) (c j h)
 
 committed_acked : (committed : ℕ) (ps : List ℕ) (s : Subscription) → IsCommittedOn committed s → IsCommittedOn committed (acked_on ps s)
 committed_acked committed ps s c j h = get_forgotten s.deliveries ps j ∙ either_none (is_in j ps) (map.get s.deliveries j) (c j h)
@@ -239,35 +255,36 @@ each_left : (committed who : ℕ) (subs : List Subscription) → AllByRecursion 
 each_left committed who [] all = tt
 each_left committed who (x ∷ xs) all = (committed_left committed who x all.0, each_left committed who xs all.1)
 
-committed_attach : (committed : ℕ) (t : Subscriptions) (name : List ℕ) (mode : Mode) (key : ConsumerKey) (start : ℕ) (o : Option Subscription) → IsCommitted committed t → IsCommitted committed (attached_at o t name mode key start)
-committed_attach committed t name mode key start None all =
-    all_pushed (IsCommittedOn committed) t.subs (attached_to mode key (made name mode start)) all (λ i h. map.get-empty {X = Delivery} nat_cmp i)
-committed_attach committed t name mode key start (Some s) all =
-    all_changed (is_named name) (attached_to mode key) (IsCommittedOn committed) t.subs (λ x is c. c) all
+committed_attach : (committed : ℕ) (t : Subscriptions) (name : List ℕ) (mode : Mode) (seat : Seat) (start : ℕ) (o : Option Subscription) → IsCommitted committed t → IsCommitted committed (attached_at o t name mode seat start)
+committed_attach committed t name mode seat start None all =
+    all_pushed (IsCommittedOn committed) t.subs (attached_to mode seat (made name mode start)) all (λ i h. map.get-empty {X = Delivery} nat_cmp i)
+committed_attach committed t name mode seat start (Some s) all =
+    all_changed (is_named name) (attached_to mode seat) (IsCommittedOn committed) t.subs (λ x is c. c) all
 
 pub each_committed : DeliveriesAreCommitted
 each_committed = record {
   opened = opened_committed;
   made = λ committed. tt;
-  attach = λ committed t name mode key start all. committed_attach committed t name mode key start (find (is_named name) t.subs) all;
+  attach = λ committed t name mode seat start all. committed_attach committed t name mode seat start (find (is_named name) t.subs) all;
   grant = λ committed t key permits all. all_changed (is_on key) (granted_on key permits) (IsCommittedOn committed) t.subs (λ x is c. c) all;
   acknowledge = λ committed t key ps all. all_changed (is_on key) (acked_on ps) (IsCommittedOn committed) t.subs (λ x is c. committed_acked committed ps x c) all;
   acknowledge_through = λ committed t key p all. all_changed (is_on key) (acked_through_on p) (IsCommittedOn committed) t.subs (λ x is c. committed_through committed p x c) all;
   unsubscribe = λ committed t key all. all_removed (is_on key) (IsCommittedOn committed) t.subs all;
-  send = λ committed t key i a all. all_changed (is_on key) (sent_on key i) (IsCommittedOn committed) t.subs (λ x is c. committed_sent committed i key x (admitted_at key committed i t x is a) c) all;
+  send = λ committed t key i a all. all_changed (is_on key) (sent_on key i) (IsCommittedOn committed) t.subs (λ x is c. committed_sent committed i key t.slots x (admitted_at key committed i t x is a) c) all;
   leave = λ committed t who all. each_left committed who t.subs all;
   detach = λ committed t key all. all_changed (is_on key) (detached_on key) (IsCommittedOn committed) t.subs (λ x is c j h. none_changed (λ i d. given_back key d) x.deliveries j (c j h)) all;
   redeliver = λ committed t key asked all. all_changed (is_on key) (redelivered_on key asked) (IsCommittedOn committed) t.subs
       (λ x is c j h. none_changed (λ i d. cond (is_asked_back x.mode asked i) (given_back key d) d) x.deliveries j (c j h)) all;
   settle = λ committed t count all. all;
+  slot = λ committed t slots all. all;
 }
 
-picked_at : (o : Option Subscription) (key : ConsumerKey) (committed i : ℕ) → AdmitsAt o key committed i → IsOpenFor o committed i
-picked_at None key committed i a = a
-picked_at (Some s) key committed i a = opens_of s.mode key s.consumers (IsOpenAt committed s.acked s.deliveries) i a.served
+picked_at : (o : Option Subscription) (key : ConsumerKey) (slots : List ℕ) (committed i : ℕ) → AdmitsAt o key slots committed i → IsOpenFor o committed i
+picked_at None key slots committed i a = a
+picked_at (Some s) key slots committed i a = open_for key slots committed i s a
 
 pub picked : PickedIsOpen
-picked t key committed i a = picked_at (find (is_on key) t.subs) key committed i a
+picked t key committed i a = picked_at (find (is_on key) t.subs) key t.slots committed i a
 
-pub limits_none : (subs : List Subscription) (changes : List Record) → subs ≡ [] → changes ≡ [] → HasLimits (record { subs = subs; changes = changes })
-limits_none subs changes first second = rw (first, second) (record { names = no_names; subscriptions = omega arith; changes = omega arith })
+pub limits_none : (subs : List Subscription) (changes : List Record) (slots : List ℕ) → subs ≡ [] → changes ≡ [] → HasLimits (record { subs = subs; changes = changes; slots = slots })
+limits_none subs changes slots first second = rw (first, second) (record { names = no_names; subscriptions = omega arith; changes = omega arith })

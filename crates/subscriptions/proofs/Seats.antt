@@ -1,68 +1,43 @@
--- The keys of a subscription's consumers, as its dispatcher knows them.
-use Rattle.std.proofs.Common.{◌≡◌, ℕ, zero, suc, ◌+◌, ◌<◌, ◌≤◌, Bool, true, false, not, cond, nat_eq, ◌||◌, ◌&&◌, List, [], ◌∷◌, ◌++◌, length, filter, take, ◌∙◌, ap, sym, refl, arith, Option, Some, None, get_or}
+-- The seats of a subscription's consumers, as its dispatcher knows them.
+use Rattle.std.proofs.Common.{◌≡◌, ℕ, zero, suc, ◌+◌, ◌<◌, ◌≤◌, Bool, true, false, not, cond, nat_eq, ◌||◌, ◌&&◌, List, [], ◌∷◌, ◌++◌, length, filter, take, ◌∙◌, ap, sym, refl, arith, Option, Some, None, get_or, inl, inr}
 use Rattle.std.proofs.lemmas.Bool.{true≢false}
-use Rattle.std.proofs.lemmas.Bool.Decides.{nat_tests}
+use Rattle.std.proofs.lemmas.Bool.Decides.{nat_tests, leb_tells}
 use Rattle.std.proofs.lemmas.List.{take_more}
 use Rattle.std.specs.List.{list_any, find}
-use Rattle.std.specs.Option.{IfSome, IfNone, is_some}
+use Rattle.std.specs.Option.{IfSome, IfNone, IsSomeAnd, is_some}
 use Rattle.std.specs.Prelude.{map as each}
-use Rattle.holds.specs.Backlog.{IsFirst, attached}
+use Rattle.holds.specs.Backlog.{Backlog, IsFirst, IsLeast, IsOpenAt, IsOpenIn, attached}
 use Rattle.holds.specs.Deliveries.{same_key}
 use Rattle.holds.specs.declared.consumer.ConsumerKey.{ConsumerKey}
 use Rattle.holds.specs.declared.consumer.Consumer.{Consumer as Seat}
 use Rattle.subscriptions.specs.declared.consumer.Mode.{Mode}
-use Rattle.subscriptions.specs.declared.consumer.Mode.TheVariants.{Exclusive, Failover, Shared}
+use Rattle.subscriptions.specs.declared.consumer.Mode.TheVariants.{Exclusive, Failover, Shared, KeyShared}
 use Rattle.subscriptions.specs.declared.consumer.Consumer.{Consumer}
-use Rattle.subscriptions.specs.Steps.{first_changed, is_consumer, is_first, AdmitsBy}
-use Rattle.subscriptions.specs.Dispatching.{keys, is_among_keys, leads, Gives}
+use Rattle.subscriptions.specs.Steps.{is_consumer, is_first, AdmitsBy, IsLeastIn}
+use Rattle.subscriptions.specs.Dispatching.{keys, leads, Gives}
+use Rattle.key_shared.specs.Ranges.{IsOpenFrom}
+use Rattle.subscriptions.specs.Hints.{IsPassed}
+use Rattle.subscriptions.specs.State.{Subscription}
 use Rattle.subscriptions.specs.Freeing.{is_among}
 use Rattle.subscriptions.proofs.Sound.{among}
 use Rattle.subscriptions.proofs.Settled.{or_three}
 
 module _ {X : Type 0} (key_of : X → ConsumerKey) where
-  pub keys_pushed : (xs : List X) (x : X) → each key_of (xs ++ x ∷ []) ≡ each key_of xs ++ key_of x ∷ []
-  keys_pushed [] x = refl
-  keys_pushed (y ∷ xs) x = ap (λ ks. key_of y ∷ ks) (keys_pushed xs x)
-
-  pub keys_kept : (keep : ConsumerKey → Bool) (xs : List X) → each key_of (filter (λ x. keep (key_of x)) xs) ≡ filter keep (each key_of xs)
-  keys_kept keep [] = refl
-  keys_kept keep (x ∷ xs) = elim (keep (key_of x)) as (λ b. each key_of (cond b (x ∷ filter (λ x. keep (key_of x)) xs) (filter (λ x. keep (key_of x)) xs)) ≡ cond b (key_of x ∷ filter keep (each key_of xs)) (filter keep (each key_of xs))) [
-    | true ↦ ap (λ ks. key_of x ∷ ks) (keys_kept keep xs)
-    | false ↦ keys_kept keep xs
-  ]
-
-  pub keys_length : (xs : List X) → length (each key_of xs) ≡ length xs
-  keys_length [] = refl
-  keys_length (x ∷ xs) = omega (arith, keys_length xs)
-
   pub any_key : (test : ConsumerKey → Bool) (xs : List X) → list_any test (each key_of xs) ≡ list_any (λ x. test (key_of x)) xs
   any_key test [] = refl
   any_key test (x ∷ xs) = ap (λ b. test (key_of x) || b) (any_key test xs)
 
-  pub keys_changed : (test : X → Bool) (f : X → X) → ((x : X) → key_of (f x) ≡ key_of x) → (xs : List X) → each key_of (first_changed test f xs) ≡ each key_of xs
-  keys_changed test f same [] = refl
-  keys_changed test f same (x ∷ xs) = elim (test x) as (λ b. each key_of (cond b (f x ∷ xs) (x ∷ first_changed test f xs)) ≡ key_of x ∷ each key_of xs) [
-    | true ↦ ap (λ k. k ∷ each key_of xs) (same x)
-    | false ↦ ap (λ ks. key_of x ∷ ks) (keys_changed test f same xs)
-  ]
-
 -- ---- what the dispatchers give, and what the modes admit
 
-seat_key : Seat → ConsumerKey
-seat_key c = c.key
+abbrev seat_keys : List Seat → List ConsumerKey
+seat_keys seats = each (λ (seat : Seat). seat.key) seats
 
-pub among_seats : (key : ConsumerKey) (cs : List Seat) → is_among_keys key (each (λ (c : Seat). c.key) cs) ≡ list_any (λ (c : Seat). same_key c.key key) cs
-among_seats key cs = any_key (λ (c : Seat). c.key) (λ k. same_key k key) cs
-
-found_is_some : (test : Seat → Bool) (cs : List Seat) → is_some (find test cs) ≡ list_any test cs
+found_is_some : (test : Seat → Bool) (seats : List Seat) → is_some (find test seats) ≡ list_any test seats
 found_is_some test [] = refl
-found_is_some test (c ∷ cs) = elim (test c) as (λ b. is_some (cond b (Some c) (find test cs)) ≡ (b || list_any test cs)) [
+found_is_some test (seat ∷ seats) = elim (test seat) as (λ b. is_some (cond b (Some seat) (find test seats)) ≡ (b || list_any test seats)) [
   | true ↦ refl
-  | false ↦ found_is_some test cs
+  | false ↦ found_is_some test seats
 ]
-
-pub attached_seats : (key : ConsumerKey) (cs : List Seat) → is_some (attached key cs) ≡ is_among_keys key (each (λ (c : Seat). c.key) cs)
-attached_seats key cs = found_is_some (λ (c : Seat). same_key c.key key) cs ∙ sym (among_seats key cs)
 
 same_itself : (a b : ConsumerKey) → a ≡ b → same_key a b ≡ true
 same_itself a b h = ap (λ k. same_key k b) h ∙ grind (arith, nat_tests)
@@ -75,13 +50,13 @@ one_key a b h =
     let parts = same_numbers a b h in
     ap (λ s. let k : ConsumerKey = record { session = s; id = a.id } in k) parts.0 ∙ ap (λ i. let k : ConsumerKey = record { session = b.session; id = i } in k) parts.1
 
-pub leads_first : (key : ConsumerKey) (cs : List Seat) → IsFirst cs key → leads key (each (λ (c : Seat). c.key) cs) ≡ true
+pub leads_first : (key : ConsumerKey) (seats : List Seat) → IsFirst seats key → leads key seats ≡ true
 leads_first key [] f = cc
-leads_first key (c ∷ cs) f = let same : c ≡ f.0 = cc in same_itself c.key key (ap (λ (x : Seat). x.key) same ∙ f.2)
+leads_first key (seat ∷ seats) f = let same : seat ≡ f.0 = cc in same_itself seat.key key (ap (λ (x : Seat). x.key) same ∙ f.2)
 
-pub first_leads : (key : ConsumerKey) (cs : List Seat) → leads key (each (λ (c : Seat). c.key) cs) ≡ true → IsFirst cs key
+pub first_leads : (key : ConsumerKey) (seats : List Seat) → leads key seats ≡ true → IsFirst seats key
 first_leads key [] h = absurd (true≢false (sym h))
-first_leads key (c ∷ cs) h = (c, refl, one_key c.key key h)
+first_leads key (seat ∷ seats) h = (seat, refl, one_key seat.key key h)
 
 -- one answer for two ways to say what is given
 pub said_some : (r : Option ℕ) (P Q : ℕ → Type 0) → ((i : ℕ) → P i → Q i) → IfSome r P → IfSome r Q
@@ -92,23 +67,61 @@ pub said_none : (r : Option ℕ) (P Q : ℕ → Type 0) → ((i : ℕ) → Q i �
 said_none None P Q to h = λ i q. h i (to i q)
 said_none (Some i) P Q to h = tt
 
-leads_consumers : (key : ConsumerKey) (cs : List Consumer) → leads key (keys cs) ≡ is_first key cs
+-- no position below the place is left for the consumer: what a search from there finds is the least of all
+not_passed : (seat : Seat) (b : Backlog) (from i : ℕ) → IsPassed (Some seat) b.acked b.deliveries b.slots from → IsOpenIn b seat.ranges i → from ≤ i
+not_passed seat b from i passed here = elim (leb_tells from i) [
+  | inl high ↦ high.1
+  | inr low ↦ absurd (passed i low.1 here.0.is_unacked here.0.is_free here.1)
+]
+
+pub least_from : (o : Option Seat) (b : Backlog) (from i : ℕ) → IsPassed o b.acked b.deliveries b.slots from → IsSomeAnd o (λ seat. IsLeast (IsOpenFrom b seat.ranges from) i)
+    → IsSomeAnd o (λ seat. IsLeastIn seat.ranges b.slots (IsOpenAt b.committed b.acked b.deliveries) i)
+least_from None b from i passed h = h
+least_from (Some seat) b from i passed h = (h.0.1, λ j here. h.1 j (not_passed seat b from j passed here, here))
+
+pub from_least : (o : Option Seat) (b : Backlog) (from i : ℕ) → IsPassed o b.acked b.deliveries b.slots from → IsSomeAnd o (λ seat. IsLeastIn seat.ranges b.slots (IsOpenAt b.committed b.acked b.deliveries) i)
+    → IsSomeAnd o (λ seat. IsOpenFrom b seat.ranges from i)
+from_least None b from i passed h = h
+from_least (Some seat) b from i passed h = (not_passed seat b from i passed h.0, h.0)
+
+-- the seats and the consumers have the same keys
+
+abbrev leads_key : ConsumerKey → List ConsumerKey → Bool
+leads_key key [] = false
+leads_key key (k ∷ ks) = same_key k key
+
+leads_seats : (key : ConsumerKey) (seats : List Seat) → leads key seats ≡ leads_key key (seat_keys seats)
+leads_seats key [] = refl
+leads_seats key (seat ∷ seats) = refl
+
+leads_consumers : (key : ConsumerKey) (cs : List Consumer) → leads_key key (keys cs) ≡ is_first key cs
 leads_consumers key [] = refl
 leads_consumers key (c ∷ cs) = refl
 
-pub among_consumers : (key : ConsumerKey) (cs : List Consumer) → is_among_keys key (keys cs) ≡ list_any (is_consumer key) cs
-among_consumers key cs = any_key (λ (c : Consumer). c.key) (λ k. same_key k key) cs
+leads_seated : (key : ConsumerKey) (seats : List Seat) (cs : List Consumer) → seat_keys seats ≡ keys cs → leads key seats ≡ is_first key cs
+leads_seated key seats cs seated = leads_seats key seats ∙ ap (leads_key key) seated ∙ leads_consumers key cs
+
+any_seated : (key : ConsumerKey) (seats : List Seat) (cs : List Consumer) → seat_keys seats ≡ keys cs → list_any (λ (seat : Seat). same_key seat.key key) seats ≡ list_any (is_consumer key) cs
+any_seated key seats cs seated =
+    sym (any_key (λ (seat : Seat). seat.key) (λ k. same_key k key) seats) ∙ ap (list_any (λ k. same_key k key)) seated ∙ any_key (λ (c : Consumer). c.key) (λ k. same_key k key) cs
+
+attached_seated : (key : ConsumerKey) (seats : List Seat) (cs : List Consumer) → seat_keys seats ≡ keys cs → list_any (is_consumer key) cs ≡ true → is_some (attached key seats) ≡ true
+attached_seated key seats cs seated on = found_is_some (λ (seat : Seat). same_key seat.key key) seats ∙ any_seated key seats cs seated ∙ on
 
 -- what the dispatcher gives a consumer is what its mode lets it get
-pub admits_given : (mode : Mode) (key : ConsumerKey) (cs : List Consumer) (Opens : ℕ → Type 0) (i : ℕ) → Gives mode (keys cs) key Opens i → AdmitsBy mode key cs Opens i
-admits_given Exclusive key cs Opens i g = g.1
-admits_given Failover key cs Opens i g = (sym (leads_consumers key cs) ∙ g.0, g.1)
-admits_given Shared key cs Opens i g = g.1
+pub admits_given : (mode : Mode) (key : ConsumerKey) (s : Subscription) (slots : List ℕ) (Opens : ℕ → Type 0) (i : ℕ) → seat_keys s.seats ≡ keys s.consumers
+    → Gives mode s.seats key slots Opens i → AdmitsBy mode key s slots Opens i
+admits_given Exclusive key s slots Opens i seated g = g.1
+admits_given Failover key s slots Opens i seated g = (sym (leads_seated key s.seats s.consumers seated) ∙ g.0, g.1)
+admits_given Shared key s slots Opens i seated g = g.1
+admits_given KeyShared key s slots Opens i seated g = g
 
-pub gives_admitted : (mode : Mode) (key : ConsumerKey) (cs : List Consumer) (Opens : ℕ → Type 0) (i : ℕ) → list_any (is_consumer key) cs ≡ true → AdmitsBy mode key cs Opens i → Gives mode (keys cs) key Opens i
-gives_admitted Exclusive key cs Opens i on a = (among_consumers key cs ∙ on, a)
-gives_admitted Failover key cs Opens i on a = (leads_consumers key cs ∙ a.0, a.1)
-gives_admitted Shared key cs Opens i on a = (among_consumers key cs ∙ on, a)
+pub gives_admitted : (mode : Mode) (key : ConsumerKey) (s : Subscription) (slots : List ℕ) (Opens : ℕ → Type 0) (i : ℕ) → seat_keys s.seats ≡ keys s.consumers
+    → list_any (is_consumer key) s.consumers ≡ true → AdmitsBy mode key s slots Opens i → Gives mode s.seats key slots Opens i
+gives_admitted Exclusive key s slots Opens i seated on a = (attached_seated key s.seats s.consumers seated on, a)
+gives_admitted Failover key s slots Opens i seated on a = (leads_seated key s.seats s.consumers seated ∙ a.0, a.1)
+gives_admitted Shared key s slots Opens i seated on a = (attached_seated key s.seats s.consumers seated on, a)
+gives_admitted KeyShared key s slots Opens i seated on a = a
 
 -- ---- the session's consumers go from the dispatcher, one after another
 
@@ -131,12 +144,12 @@ filter_all : {X : Type 0} (xs : List X) → filter (λ x. true) xs ≡ xs
 filter_all [] = refl
 filter_all (x ∷ xs) = ap (λ ys. x ∷ ys) (filter_all xs)
 
--- the keys that stay once the first of the session's consumers are gone
-abbrev pub staying : ℕ → List Consumer → List ConsumerKey → List ConsumerKey
-staying who gone ks = filter (λ k. not (is_among who gone (Some k))) ks
+-- the seats that stay once the first of the session's consumers are gone
+abbrev pub staying : ℕ → List Consumer → List Seat → List Seat
+staying who gone seats = filter (λ (seat : Seat). not (is_among who gone (Some seat.key))) seats
 
-pub all_stay : (who : ℕ) (ks : List ConsumerKey) → staying who [] ks ≡ ks
-all_stay who ks = filter_all ks
+pub all_stay : (who : ℕ) (seats : List Seat) → staying who [] seats ≡ seats
+all_stay who seats = filter_all seats
 
 not_either : (a b : Bool) → (not a && not b) ≡ not (a || (b || false))
 not_either true b = refl
@@ -147,22 +160,18 @@ among_next : (who : ℕ) (cs : List Consumer) (c : Consumer) (k : ConsumerKey) �
 among_next who cs c k = any_append (λ (c : Consumer). nat_eq c.key.session who && same_key k c.key) cs (c ∷ [])
 
 -- one consumer more is looked at
-pub one_goes : (who : ℕ) (cs : List Consumer) (i : ℕ) (c d : Consumer) (ks before after : List ConsumerKey) → i < length cs → c ≡ get_or cs i d → before ≡ staying who (take i cs) ks
-    → after ≡ filter (λ k. not (nat_eq c.key.session who && same_key k c.key)) before → after ≡ staying who (take (i + 1) cs) ks
-one_goes who cs i c d ks before after within read so_far is =
-    is ∙ ap (filter (λ k. not (nat_eq c.key.session who && same_key k c.key))) so_far
-    ∙ filter_twice (λ k. not (nat_eq c.key.session who && same_key k c.key)) (λ k. not (is_among who (take i cs) (Some k))) ks
-    ∙ filter_alike _ _ (λ k. not_either (is_among who (take i cs) (Some k)) (nat_eq c.key.session who && same_key k c.key) ∙ ap not (sym (among_next who (take i cs) c k))) ks
-    ∙ ap (λ gone. staying who gone ks) (ap (λ x. take i cs ++ x ∷ []) read ∙ sym (take_more cs i d within))
+pub one_goes : (who : ℕ) (cs : List Consumer) (i : ℕ) (c d : Consumer) (seats before after : List Seat) → i < length cs → c ≡ get_or cs i d → before ≡ staying who (take i cs) seats
+    → after ≡ filter (λ (seat : Seat). not (nat_eq c.key.session who && same_key seat.key c.key)) before → after ≡ staying who (take (i + 1) cs) seats
+one_goes who cs i c d seats before after within read so_far is =
+    is ∙ ap (filter (λ (seat : Seat). not (nat_eq c.key.session who && same_key seat.key c.key))) so_far
+    ∙ filter_twice (λ (seat : Seat). not (nat_eq c.key.session who && same_key seat.key c.key)) (λ (seat : Seat). not (is_among who (take i cs) (Some seat.key))) seats
+    ∙ filter_alike _ _ (λ (seat : Seat). not_either (is_among who (take i cs) (Some seat.key)) (nat_eq c.key.session who && same_key seat.key c.key) ∙ ap not (sym (among_next who (take i cs) c seat.key))) seats
+    ∙ ap (λ gone. staying who gone seats) (ap (λ x. take i cs ++ x ∷ []) read ∙ sym (take_more cs i d within))
 
 -- where it is of another session, it stays
-pub stays_there : (w : Bool) (key : ConsumerKey) (ks : List ConsumerKey) → w ≡ false → ks ≡ filter (λ k. not (w && same_key k key)) ks
-stays_there true key ks h = absurd (true≢false h)
-stays_there false key ks h = sym (filter_all ks)
-
-pub goes_from : (w : Bool) (key : ConsumerKey) (ks : List ConsumerKey) → w ≡ true → filter (λ k. not (same_key k key)) ks ≡ filter (λ k. not (w && same_key k key)) ks
-goes_from true key ks h = refl
-goes_from false key ks h = absurd (true≢false (sym h))
+pub stays_there : (w : Bool) (key : ConsumerKey) (seats : List Seat) → w ≡ false → seats ≡ filter (λ (seat : Seat). not (w && same_key seat.key key)) seats
+stays_there true key seats h = absurd (true≢false h)
+stays_there false key seats h = sym (filter_all seats)
 
 all_taken : {X : Type 0} (xs : List X) (i : ℕ) → length xs ≤ i → take i xs ≡ xs
 all_taken [] zero h = refl
@@ -174,21 +183,16 @@ or_right : (a b : Bool) → b ≡ true → (a || b) ≡ true
 or_right true b h = refl
 or_right false b h = h
 
-itself : (k : ConsumerKey) → same_key k k ≡ true
-itself k = same_itself k k refl
-
-pub those_stay : (who : ℕ) (gone cs : List Consumer) → ((k : ConsumerKey) → list_any (is_consumer k) cs ≡ true → list_any (is_consumer k) gone ≡ true)
-    → staying who gone (keys cs) ≡ keys (filter (λ (c : Consumer). not (nat_eq c.key.session who)) cs)
+those_stay : (who : ℕ) (gone : List Consumer) (seats : List Seat) → ((k : ConsumerKey) → list_any (λ (seat : Seat). same_key seat.key k) seats ≡ true → list_any (is_consumer k) gone ≡ true)
+    → staying who gone seats ≡ filter (λ (seat : Seat). not (nat_eq seat.key.session who)) seats
 those_stay who gone [] to = refl
-those_stay who gone (c ∷ cs) to =
-    let here : is_among who gone (Some c.key) ≡ nat_eq c.key.session who = among who c.key gone ∙ ap (λ b. b && nat_eq c.key.session who) (to c.key (ap (λ b. b || list_any (is_consumer c.key) cs) (itself c.key))) in
-    ap (λ b. cond (not b) (c.key ∷ staying who gone (keys cs)) (staying who gone (keys cs))) here
-    ∙ ap (λ ks. cond (not (nat_eq c.key.session who)) (c.key ∷ ks) ks) (those_stay who gone cs (λ k h. to k (or_right (same_key c.key k) _ h)))
-    ∙ elim (nat_eq c.key.session who) as (λ b. cond (not b) (c.key ∷ keys (filter (λ (c : Consumer). not (nat_eq c.key.session who)) cs)) (keys (filter (λ (c : Consumer). not (nat_eq c.key.session who)) cs)) ≡ keys (cond (not b) (c ∷ filter (λ (c : Consumer). not (nat_eq c.key.session who)) cs) (filter (λ (c : Consumer). not (nat_eq c.key.session who)) cs))) [
-      | true ↦ refl
-      | false ↦ refl
-    ]
+those_stay who gone (seat ∷ seats) to =
+    let here : is_among who gone (Some seat.key) ≡ nat_eq seat.key.session who =
+    among who seat.key gone ∙ ap (λ b. b && nat_eq seat.key.session who) (to seat.key (ap (λ b. b || list_any (λ (other : Seat). same_key other.key seat.key) seats) (same_itself seat.key seat.key refl))) in
+    ap (λ b. cond (not b) (seat ∷ staying who gone seats) (staying who gone seats)) here
+    ∙ ap (λ rest. cond (not (nat_eq seat.key.session who)) (seat ∷ rest) rest) (those_stay who gone seats (λ k h. to k (or_right (same_key seat.key k) _ h)))
 
-pub session_gone : (who : ℕ) (cs : List Consumer) (i : ℕ) (ks after : List ConsumerKey) → length cs ≤ i → ks ≡ keys cs → after ≡ staying who (take i cs) ks → after ≡ keys (filter (λ (c : Consumer). not (nat_eq c.key.session who)) cs)
-session_gone who cs i ks after past same is =
-    is ∙ ap (λ gone. staying who gone ks) (all_taken cs i past) ∙ ap (staying who cs) same ∙ those_stay who cs cs (λ k h. h)
+pub session_gone : (who : ℕ) (cs : List Consumer) (i : ℕ) (seats after : List Seat) → length cs ≤ i → seat_keys seats ≡ keys cs → after ≡ staying who (take i cs) seats
+    → after ≡ filter (λ (seat : Seat). not (nat_eq seat.key.session who)) seats
+session_gone who cs i seats after past seated is =
+    is ∙ ap (λ gone. staying who gone seats) (all_taken cs i past) ∙ those_stay who cs seats (λ k h. sym (any_seated k seats cs seated) ∙ h)

@@ -1,27 +1,35 @@
 -- Each step keeps a subscription sound.
-use Rattle.std.proofs.Common.{◌≡◌, ℕ, ◌+◌, ◌≤◌, ◌^◌, Bool, false, true, not, nat_lt, nat_le, nat_eq, cond, ◌||◌, ◌&&◌, List, [], ◌∷◌, ◌++◌, length, filter, ◌∙◌, ap, sym, refl, arith, Some, None, Option, length-append}
+use Rattle.std.proofs.Common.{◌≡◌, ℕ, suc, ◌+◌, ◌≤◌, ◌^◌, Bool, false, true, not, nat_lt, nat_le, nat_eq, cond, ◌||◌, ◌&&◌, List, [], ◌∷◌, ◌++◌, length, filter, ◌∙◌, ap, sym, refl, arith, Some, None, Option, length-append}
 use Rattle.std.proofs.lemmas.Bool.{true≢false, ltb-false}
 use Rattle.std.proofs.lemmas.Bool.Decides.{nat_tests}
+use Rattle.std.proofs.lemmas.List.Kept.{AllPairs-filter}
 use Rattle.std.specs.List.{list_any, find, AllByRecursion}
-use Rattle.std.specs.Option.{option_map}
+use Rattle.std.specs.Option.{option_map, IsSomeAnd}
 use Rattle.std.specs.Ordering.{nat_cmp}
 use Rattle.std.specs.Cmp.{nat_cmp_total}
 use Rattle.std.specs.FinMap as map
 use Rattle.std.specs.Prelude.{map as each}
 use Rattle.cursor.specs.Positions.{Positions, below}
-use Rattle.holds.specs.Backlog.{IsOpenAt}
+use Rattle.holds.specs.Backlog.{IsOpenAt, attached}
 use Rattle.holds.specs.Deliveries.{Deliveries, holder_in, same_key, sent_to, is_held_by, given_back}
 use Rattle.holds.specs.declared.consumer.ConsumerKey.{ConsumerKey}
+use Rattle.holds.specs.declared.consumer.Consumer.{Consumer as Seat}
 use Rattle.holds.specs.declared.delivery.Delivery.{Delivery}
 use Rattle.holds.proofs.Kept.{get_inserted, get_mapped, same_entries}
+use Rattle.key_shared.specs.Ranges.{AreApart as AreRangesApart, AreDisjoint, are_refused, sticky_refusal}
+use Rattle.key_shared.proofs.Apart.{pushed}
 use Rattle.subscriptions.specs.declared.consumer.Mode.{Mode}
-use Rattle.subscriptions.specs.declared.consumer.Mode.TheVariants.{Exclusive, Failover, Shared}
+use Rattle.subscriptions.specs.declared.consumer.Mode.TheVariants.{Exclusive, Failover, Shared, KeyShared}
 use Rattle.subscriptions.specs.declared.consumer.Consumer.{Consumer}
 use Rattle.subscriptions.specs.declared.consumer.Refusal.{Refusal}
+use Rattle.subscriptions.specs.declared.consumer.Refusal.TheVariants.{ConsumerAssignError}
+use Rattle.holds.specs.declared.consumer.Refusal.TheVariants.{TooManyConsumers, ConsumerAssignError as RangesRefused}
 use Rattle.subscriptions.specs.State.{Subscription}
 use Rattle.subscriptions.specs.Freeing.{is_among, freed_among}
-use Rattle.subscriptions.specs.Steps.{first_changed, first_standing, is_consumer, is_on, has_some, is_exclusive, same_mode, attach_refusals, attached_to, made, opened_one, granted_to, granted_on, is_past, acked_on, acked_through_on, has_permit, AdmitsBy, AdmitsOn, sent_one, sent_on, is_of, freed, freed_by, left_on, detached_on, is_asked_back, redelivered_on}
+use Rattle.subscriptions.specs.Dispatching.{keys}
+use Rattle.subscriptions.specs.Steps.{first_changed, first_standing, is_consumer, is_on, has_some, is_exclusive, same_mode, refuses_ranges, attach_refusals, attached_to, made, opened_one, granted_to, granted_on, is_past, acked_on, acked_through_on, has_permit, IsLeastIn, AdmitsBy, sent_one, sent_on, is_of, freed, freed_by, left_on, detached_on, is_asked_back, redelivered_on}
 use Rattle.subscriptions.specs.Soundness.{IsWithinPermits, IsSoundSubscription}
+use Rattle.subscriptions.proofs.Lists.{keys_pushed, keys_kept, keys_changed, keys_length}
 use Rattle.subscriptions.proofs.Each.{get_each, apart_changed}
 use Rattle.subscriptions.proofs.Settled.{is_in, get_forgotten, get_forgotten_below, apart_acked, apart_through, apart_empty, apart_sent, given_back_apart}
 
@@ -94,6 +102,33 @@ module _ {X : Type 0} where
     | false ↦ λ h. any_found q xs x h
   ] h
 
+-- ---- the seats of a subscription
+
+abbrev pub seat_keys : List Seat → List ConsumerKey
+seat_keys seats = each (λ (seat : Seat). seat.key) seats
+
+none_apart : AreRangesApart []
+none_apart i j d low within = absurd (omega arith)
+
+pub as_many : (seats : List Seat) (cs : List Consumer) → seat_keys seats ≡ keys cs → length seats ≡ length cs
+as_many seats cs seated =
+    sym (keys_length (λ (seat : Seat). seat.key) seats) ∙ ap (λ (ks : List ConsumerKey). length ks) seated ∙ keys_length (λ (c : Consumer). c.key) cs
+
+pub seated_one_more : (seats : List Seat) (cs : List Consumer) (seat : Seat) (c : Consumer) → seat.key ≡ c.key → seat_keys seats ≡ keys cs → seat_keys (seats ++ seat ∷ []) ≡ keys (cs ++ c ∷ [])
+seated_one_more seats cs seat c same seated =
+    keys_pushed (λ (seat : Seat). seat.key) seats seat
+    ∙ ap (λ ks. ks ++ seat.key ∷ []) seated ∙ ap (λ k. keys cs ++ k ∷ []) same
+    ∙ sym (keys_pushed (λ (c : Consumer). c.key) cs c)
+
+pub seated_kept : (keep : ConsumerKey → Bool) (seats : List Seat) (cs : List Consumer) → seat_keys seats ≡ keys cs
+    → seat_keys (filter (λ seat. keep seat.key) seats) ≡ keys (filter (λ c. keep c.key) cs)
+seated_kept keep seats cs seated =
+    keys_kept (λ (seat : Seat). seat.key) keep seats ∙ ap (filter keep) seated ∙ sym (keys_kept (λ (c : Consumer). c.key) keep cs)
+
+pub seated_changed : (test : Consumer → Bool) (f : Consumer → Consumer) → ((c : Consumer) → (f c).key ≡ c.key) → (seats : List Seat) (cs : List Consumer) → seat_keys seats ≡ keys cs
+    → seat_keys seats ≡ keys (first_changed test f cs)
+seated_changed test f same seats cs seated = seated ∙ sym (keys_changed (λ (c : Consumer). c.key) test f same cs)
+
 -- ---- a subscription
 
 none_held : (key : ConsumerKey) → holder_in None ≡ Some key → ⊥
@@ -104,6 +139,8 @@ sound_made name mode start = record {
   few = omega arith;
   single = λ _. omega arith;
   permits = tt;
+  seated = refl;
+  ranges_apart = λ _. none_apart;
   unacknowledged = apart_empty (below start);
   held = λ i key h. absurd (none_held key (sym (ap holder_in (map.get-empty {X = Delivery} nat_cmp i)) ∙ h));
 }
@@ -113,6 +150,8 @@ sound_opened name acked = record {
   few = omega arith;
   single = λ _. omega arith;
   permits = tt;
+  seated = refl;
+  ranges_apart = λ _. none_apart;
   unacknowledged = apart_empty acked;
   held = λ i key h. absurd (none_held key (sym (ap holder_in (map.get-empty {X = Delivery} nat_cmp i)) ∙ h));
 }
@@ -124,6 +163,10 @@ three_rows false true c x y z h = absurd (cc)
 three_rows false false true x y z h = absurd (cc)
 three_rows false false false x y z h = (refl, refl, refl)
 
+pub four_rows : (a b c d : Bool) (w x y z : Refusal) → cond a (Some w) (cond b (Some x) (cond c (Some y) (cond d (Some z) None))) ≡ None → (a ≡ false) × (b ≡ false) × (c ≡ false) × (d ≡ false)
+four_rows true b c d w x y z h = absurd (cc)
+four_rows false b c d w x y z h = let rest = three_rows b c d x y z h in (refl, rest.0, rest.1, rest.2)
+
 no_more : (n : ℕ) → (nat_lt 0 n && true) ≡ false → n + 1 ≤ 1
 no_more n h = grind (arith, nat_tests)
 
@@ -133,15 +176,59 @@ alone mode xs h is = no_more (length xs) (sym (ap (λ m. nat_lt 0 (length xs) &&
 below_limit : (n : ℕ) → nat_le 64 n ≡ false → n + 1 ≤ 64
 below_limit n h = grind (arith, nat_tests)
 
-pub sound_attached : (mode : Mode) (key : ConsumerKey) (s : Subscription) → first_standing (attach_refusals mode s) ≡ None → IsSoundSubscription s → IsSoundSubscription (attached_to mode key s)
-sound_attached mode key s allowed sound =
-    let rows = three_rows (has_some s.consumers && not (same_mode s.mode mode)) (has_some s.consumers && is_exclusive mode) (nat_le 64 (length s.consumers)) _ _ _ allowed in record {
+has_room : (n m : ℕ) → m ≡ n → nat_le 64 n ≡ false → nat_lt m 64 ≡ true
+has_room n m same h = grind (arith, nat_tests)
+
+taken_in : (seats : List Seat) (seat : Seat) → nat_lt (length seats) 64 ≡ true → are_refused seats seat.ranges ≡ false → sticky_refusal seats seat ≡ None
+taken_in seats seat room fit =
+    ap (λ b. cond b (cond (are_refused seats seat.ranges) (Some RangesRefused) None) (Some TooManyConsumers)) room
+    ∙ ap (λ b. cond b (Some RangesRefused) None) fit
+
+key_shared_too : (mode : Mode) → same_mode mode KeyShared ≡ true → mode ≡ KeyShared
+key_shared_too Exclusive h = absurd (true≢false (sym h))
+key_shared_too Failover h = absurd (true≢false (sym h))
+key_shared_too Shared h = absurd (true≢false (sym h))
+key_shared_too KeyShared h = refl
+
+none_or_same : (b : Bool) → (true && not b) ≡ false → b ≡ true
+none_or_same true h = refl
+none_or_same false h = absurd (true≢false h)
+
+above_none : (n : ℕ) → nat_lt 0 (suc n) ≡ true
+above_none n = grind (arith, nat_tests)
+
+no_seats : (seats : List Seat) → length seats ≡ 0 → AreRangesApart seats
+no_seats [] none = none_apart
+no_seats (seat ∷ seats) none = absurd (omega (arith, none))
+
+-- where the further consumer is of Key_Shared, those that are attached are, too
+apart_before : (s : Subscription) (cs : List Consumer) → s.consumers ≡ cs → (has_some cs && not (same_mode s.mode KeyShared)) ≡ false → IsSoundSubscription s → AreRangesApart s.seats
+apart_before s [] is row sound = no_seats s.seats (as_many s.seats s.consumers sound.seated ∙ ap (λ (cs : List Consumer). length cs) is)
+apart_before s (c ∷ cs) is row sound = sound.ranges_apart (key_shared_too s.mode (none_or_same (same_mode s.mode KeyShared) (ap (λ b. b && not (same_mode s.mode KeyShared)) (sym (above_none (length cs))) ∙ row)))
+
+ranges_pushed : (mode : Mode) (seat : Seat) (s : Subscription) → (has_some s.consumers && not (same_mode s.mode mode)) ≡ false → nat_le 64 (length s.consumers) ≡ false → refuses_ranges mode s.seats seat.ranges ≡ false
+    → IsSoundSubscription s → mode ≡ KeyShared → AreRangesApart (s.seats ++ seat ∷ [])
+ranges_pushed mode seat s same few fit sound is =
+    pushed s.seats seat
+    (apart_before s s.consumers refl (sym (ap (λ m. has_some s.consumers && not (same_mode s.mode m)) is) ∙ same) sound)
+    (taken_in s.seats seat (has_room (length s.consumers) (length s.seats) (as_many s.seats s.consumers sound.seated) few) (sym (ap (λ m. refuses_ranges m s.seats seat.ranges) is) ∙ fit))
+
+pub sound_attached : (mode : Mode) (seat : Seat) (s : Subscription) → first_standing (attach_refusals mode seat.ranges s) ≡ None → IsSoundSubscription s → IsSoundSubscription (attached_to mode seat s)
+sound_attached mode seat s allowed sound =
+    let rows = four_rows (has_some s.consumers && not (same_mode s.mode mode)) (has_some s.consumers && is_exclusive mode) (nat_le 64 (length s.consumers)) (refuses_ranges mode s.seats seat.ranges) _ _ _ _ allowed in record {
       few = rw length-append (below_limit (length s.consumers) rows.2);
       single = λ is. rw length-append (alone mode s.consumers rows.1 is);
       permits = all_pushed IsWithinPermits s.consumers _ sound.permits (record { sent = omega arith; granted = omega arith });
+      seated = seated_one_more s.seats s.consumers seat _ refl sound.seated;
+      ranges_apart = ranges_pushed mode seat s rows.0 rows.2 rows.3 sound;
       unacknowledged = sound.unacknowledged;
       held = λ i k h. any_more (is_consumer k) s.consumers _ (sound.held i k h);
     }
+
+-- a new subscription with its first consumer
+pub sound_first : (name : List ℕ) (mode : Mode) (seat : Seat) (start : ℕ) → refuses_ranges mode [] seat.ranges ≡ false → IsSoundSubscription (attached_to mode seat (made name mode start))
+sound_first name mode seat start fit =
+    sound_attached mode seat (made name mode start) (ap (λ b. cond b (Some ConsumerAssignError) None) fit) (sound_made name mode start)
 
 pub sound_granted : (key : ConsumerKey) (n : ℕ) (s : Subscription) → is_past n (find (is_consumer key) s.consumers) ≡ false → IsSoundSubscription s → IsSoundSubscription (granted_on key n s)
 sound_granted key n s within sound = record {
@@ -150,6 +237,8 @@ sound_granted key n s within sound = record {
   permits = all_changed (is_consumer key) (granted_to n) IsWithinPermits s.consumers
       (λ c found p. record { sent = omega (arith, p.sent); granted = ltb-false (2 ^ 62) (c.granted + n) (ap (is_past n) (sym found) ∙ within) })
       sound.permits;
+  seated = seated_changed (is_consumer key) (granted_to n) (λ _. refl) s.seats s.consumers sound.seated;
+  ranges_apart = sound.ranges_apart;
   unacknowledged = sound.unacknowledged;
   held = λ i k h. any_changed (is_consumer key) (granted_to n) (is_consumer k) (λ _. refl) s.consumers ∙ sound.held i k h;
 }
@@ -163,6 +252,8 @@ sound_acked ps s sound = record {
   few = sound.few;
   single = sound.single;
   permits = sound.permits;
+  seated = sound.seated;
+  ranges_apart = sound.ranges_apart;
   unacknowledged = apart_acked s.acked s.deliveries ps sound.unacknowledged;
   held = λ i k h. sound.held i k (kept_holder (is_in i ps) (map.get s.deliveries i) k (ap holder_in (sym (get_forgotten s.deliveries ps i)) ∙ h));
 }
@@ -172,6 +263,8 @@ sound_acked_through position s sound = record {
   few = sound.few;
   single = sound.single;
   permits = sound.permits;
+  seated = sound.seated;
+  ranges_apart = sound.ranges_apart;
   unacknowledged = apart_through s.acked s.deliveries (position + 1) sound.unacknowledged;
   held = λ i k h. sound.held i k (kept_holder (nat_lt i (position + 1)) (map.get s.deliveries i) k (ap holder_in (sym (get_forgotten_below s.deliveries (position + 1) i)) ∙ h));
 }
@@ -193,21 +286,28 @@ sent_holder true key before x k s on to h = let same : key ≡ k = cc in ap (λ 
 sent_holder false key before x k s on to h = to h
 
 -- what a mode lets a consumer get is open
-pub opens_of : (mode : Mode) (key : ConsumerKey) (cs : List Consumer) (Opens : ℕ → Type 0) (i : ℕ) → AdmitsBy mode key cs Opens i → Opens i
-opens_of Exclusive key cs Opens i a = a.0
-opens_of Failover key cs Opens i a = a.1.0
-opens_of Shared key cs Opens i a = a
+pub opens_of : (mode : Mode) (key : ConsumerKey) (s : Subscription) (slots : List ℕ) (Opens : ℕ → Type 0) (i : ℕ) → AdmitsBy mode key s slots Opens i → Opens i
+opens_of Exclusive key s slots Opens i a = a.0
+opens_of Failover key s slots Opens i a = a.1.0
+opens_of Shared key s slots Opens i a = a
+opens_of KeyShared key s slots Opens i a = opens_in (attached key s.seats) a
+  where
+    opens_in : (o : Option Seat) → IsSomeAnd o (λ seat. IsLeastIn seat.ranges slots Opens i) → Opens i
+    opens_in None h = absurd h
+    opens_in (Some seat) h = h.0.0
 
-pub sound_sent : (key : ConsumerKey) (committed i : ℕ) (s : Subscription) → AdmitsOn s key committed i → IsSoundSubscription s → IsSoundSubscription (sent_on key i s)
-sound_sent key committed i s a sound = record {
+pub sound_sent : (key : ConsumerKey) (committed i : ℕ) (s : Subscription) → has_permit (find (is_consumer key) s.consumers) ≡ true → IsOpenAt committed s.acked s.deliveries i → IsSoundSubscription s → IsSoundSubscription (sent_on key i s)
+sound_sent key committed i s permit at sound = record {
   few = rw length_changed sound.few;
   single = λ is. rw length_changed (sound.single is);
   permits = all_changed (is_consumer key) (λ c. sent_one c) IsWithinPermits s.consumers
-      (λ c found p. record { sent = permit_of c (ap has_permit (sym found) ∙ a.permit); granted = p.granted })
+      (λ c found p. record { sent = permit_of c (ap has_permit (sym found) ∙ permit); granted = p.granted })
       sound.permits;
-  unacknowledged = apart_sent s.acked s.deliveries i (sent_to key (map.get s.deliveries i)) (opens_of s.mode key s.consumers (IsOpenAt committed s.acked s.deliveries) i a.served).is_unacked sound.unacknowledged;
+  seated = seated_changed (is_consumer key) (λ c. sent_one c) (λ _. refl) s.seats s.consumers sound.seated;
+  ranges_apart = sound.ranges_apart;
+  unacknowledged = apart_sent s.acked s.deliveries i (sent_to key (map.get s.deliveries i)) at.is_unacked sound.unacknowledged;
   held = λ j k h. any_changed (is_consumer key) (λ c. sent_one c) (is_consumer k) (λ _. refl) s.consumers
-      ∙ sent_holder (nat_eq j i) key (map.get s.deliveries i) (map.get s.deliveries j) k s (on_of key s a.permit) (sound.held j k)
+      ∙ sent_holder (nat_eq j i) key (map.get s.deliveries i) (map.get s.deliveries j) k s (on_of key s permit) (sound.held j k)
       (ap holder_in (sym (get_inserted s.deliveries i (sent_to key (map.get s.deliveries i)) j)) ∙ h);
 }
 
@@ -235,6 +335,8 @@ sound_left who s sound = record {
   few = omega (arith, sound.few, length_kept (λ (c : Consumer). not (nat_eq c.key.session who)) s.consumers);
   single = λ is. omega (arith, sound.single is, length_kept (λ (c : Consumer). not (nat_eq c.key.session who)) s.consumers);
   permits = all_kept IsWithinPermits (λ (c : Consumer). not (nat_eq c.key.session who)) s.consumers sound.permits;
+  seated = seated_kept (λ k. not (nat_eq k.session who)) s.seats s.consumers sound.seated;
+  ranges_apart = λ is. AllPairs-filter AreDisjoint (λ (seat : Seat). not (nat_eq seat.key.session who)) s.seats (sound.ranges_apart is);
   unacknowledged = given_back_apart s.acked s.deliveries (freed_by who s.deliveries) (freed who) sound.unacknowledged (get_freed who s.deliveries);
   held = λ i k h.
       let was = still_held who (map.get s.deliveries i) k (ap holder_in (sym (get_freed who s.deliveries i)) ∙ h) in
@@ -256,6 +358,8 @@ sound_detached key s sound = record {
   few = omega (arith, sound.few, length_kept (λ (c : Consumer). not (is_consumer key c)) s.consumers);
   single = λ is. omega (arith, sound.single is, length_kept (λ (c : Consumer). not (is_consumer key c)) s.consumers);
   permits = all_kept IsWithinPermits (λ (c : Consumer). not (is_consumer key c)) s.consumers sound.permits;
+  seated = seated_kept (λ k. not (same_key k key)) s.seats s.consumers sound.seated;
+  ranges_apart = λ is. AllPairs-filter AreDisjoint (λ (seat : Seat). not (same_key seat.key key)) s.seats (sound.ranges_apart is);
   unacknowledged = apart_changed (λ i d. given_back key d) s.acked s.deliveries sound.unacknowledged;
   held = λ i k h.
       let was = held_by_other key (map.get s.deliveries i) k (ap holder_in (sym (get_each (λ i d. given_back key d) s.deliveries i)) ∙ h) in
@@ -272,6 +376,8 @@ sound_redelivered key asked s sound = record {
   few = sound.few;
   single = sound.single;
   permits = sound.permits;
+  seated = sound.seated;
+  ranges_apart = sound.ranges_apart;
   unacknowledged = apart_changed (λ i d. cond (is_asked_back s.mode asked i) (given_back key d) d) s.acked s.deliveries sound.unacknowledged;
   held = λ i k h. sound.held i k (held_before (is_asked_back s.mode asked i) key (map.get s.deliveries i) k
       (ap holder_in (sym (get_each (λ j d. cond (is_asked_back s.mode asked j) (given_back key d) d) s.deliveries i)) ∙ h));

@@ -6,12 +6,13 @@ use Rattle.std.specs.FinMap as map
 use Rattle.cursor.specs.Positions.{Positions}
 use Rattle.holds.specs.Backlog.{IsOpenAt}
 use Rattle.holds.specs.declared.consumer.ConsumerKey.{ConsumerKey}
+use Rattle.holds.specs.declared.consumer.Consumer.{Consumer as Seat}
 use Rattle.subscriptions.specs.declared.consumer.Mode.{Mode}
 use Rattle.records.specs.Names.{is_subscription_name}
 use Rattle.records.specs.Maps.{Kept}
 use Rattle.records.specs.Records.{IsThere, AreFormed, after_all}
 use Rattle.subscriptions.specs.State.{Subscription, Subscriptions}
-use Rattle.subscriptions.specs.Steps.{none_yet, opened, first_standing, subscribe_refusals, attached, granted, grants_too_many, acknowledged, acknowledged_through, unsubscribe_refusals, unsubscribed, sent, left, detached, redelivered, settled, Admits, is_named, is_on}
+use Rattle.subscriptions.specs.Steps.{none_yet, opened, first_standing, subscribe_refusals, attached, granted, grants_too_many, acknowledged, acknowledged_through, unsubscribe_refusals, unsubscribed, sent, left, detached, redelivered, settled, slotted, Admits, is_named, is_on}
 use Rattle.subscriptions.specs.Soundness.{IsSound, HasLimits, IsCommitted}
 
 -- durable subscriptions that a topic may have: 64 at most, each name of its form
@@ -34,7 +35,7 @@ pub record IsKept (entries : ℕ) (kept : Kept) (t : Subscriptions) : Type 0 whe
 pub record StaysSound : Type 0 where
   pub made : IsSound none_yet
   pub opened : (kept : Kept) → AreDurable kept → IsSound (opened kept)
-  pub attach : (t : Subscriptions) (name : List ℕ) (mode : Mode) (key : ConsumerKey) (start : ℕ) → first_standing (subscribe_refusals t name mode) ≡ None → IsSound t → IsSound (attached t name mode key start)
+  pub attach : (t : Subscriptions) (name : List ℕ) (mode : Mode) (seat : Seat) (start : ℕ) → first_standing (subscribe_refusals t name mode seat.ranges) ≡ None → IsSound t → IsSound (attached t name mode seat start)
   pub grant : (t : Subscriptions) (key : ConsumerKey) (permits : ℕ) → grants_too_many t key permits ≡ false → IsSound t → IsSound (granted t key permits)
   pub acknowledge : (t : Subscriptions) (key : ConsumerKey) (positions : List ℕ) → length t.changes + length positions ≤ 65536 → IsSound t → IsSound (acknowledged t key positions)
   pub acknowledge_through : (t : Subscriptions) (key : ConsumerKey) (position : ℕ) → length t.changes + 1 ≤ 65536 → IsSound t → IsSound (acknowledged_through t key position)
@@ -44,13 +45,14 @@ pub record StaysSound : Type 0 where
   pub detach : (t : Subscriptions) (key : ConsumerKey) → IsSound t → IsSound (detached t key)
   pub redeliver : (t : Subscriptions) (key : ConsumerKey) (asked : Option (List ℕ)) → IsSound t → IsSound (redelivered t key asked)
   pub settle : (t : Subscriptions) (count : ℕ) → IsSound t → IsSound (settled t count)
+  pub slot : (t : Subscriptions) (slots : List ℕ) → IsSound t → IsSound (slotted t slots)
 
 -- The subscriptions stay what the changes make of the durable ones; a change that is settled belongs to these from then on.
 -- A longer ledger changes nothing.
 pub record AreKept : Type 0 where
   pub opened : (entries : ℕ) (kept : Kept) → AreDurable kept → IsKept entries kept (opened kept)
-  pub attach : (entries : ℕ) (kept : Kept) (t : Subscriptions) (name : List ℕ) (mode : Mode) (key : ConsumerKey) (start : ℕ)
-      → first_standing (subscribe_refusals t name mode) ≡ None → is_subscription_name name ≡ true → start ≤ entries → IsKept entries kept t → IsKept entries kept (attached t name mode key start)
+  pub attach : (entries : ℕ) (kept : Kept) (t : Subscriptions) (name : List ℕ) (mode : Mode) (seat : Seat) (start : ℕ)
+      → first_standing (subscribe_refusals t name mode seat.ranges) ≡ None → is_subscription_name name ≡ true → start ≤ entries → IsKept entries kept t → IsKept entries kept (attached t name mode seat start)
   pub grant : (entries : ℕ) (kept : Kept) (t : Subscriptions) (key : ConsumerKey) (permits : ℕ) → IsKept entries kept t → IsKept entries kept (granted t key permits)
   pub acknowledge : (entries : ℕ) (kept : Kept) (t : Subscriptions) (key : ConsumerKey) (positions : List ℕ)
       → HasLimits t → AllByRecursion (λ p. p < entries) positions → IsKept entries kept t → IsKept entries kept (acknowledged t key positions)
@@ -63,13 +65,14 @@ pub record AreKept : Type 0 where
   pub detach : (entries : ℕ) (kept : Kept) (t : Subscriptions) (key : ConsumerKey) → IsKept entries kept t → IsKept entries kept (detached t key)
   pub redeliver : (entries : ℕ) (kept : Kept) (t : Subscriptions) (key : ConsumerKey) (asked : Option (List ℕ)) → IsKept entries kept t → IsKept entries kept (redelivered t key asked)
   pub settle : (entries : ℕ) (kept : Kept) (t : Subscriptions) (count : ℕ) → IsKept entries kept t → IsKept entries (after_all (take count t.changes) kept) (settled t count)
+  pub slot : (entries : ℕ) (kept : Kept) (t : Subscriptions) (slots : List ℕ) → IsKept entries kept t → IsKept entries kept (slotted t slots)
   pub longer : (entries more : ℕ) (kept : Kept) (t : Subscriptions) → entries ≤ more → IsKept entries kept t → IsKept more kept t
 
 -- where all deliveries are of committed positions, they stay so
 pub record DeliveriesAreCommitted : Type 0 where
   pub made : (committed : ℕ) → IsCommitted committed none_yet
   pub opened : (committed : ℕ) (kept : Kept) → IsCommitted committed (opened kept)
-  pub attach : (committed : ℕ) (t : Subscriptions) (name : List ℕ) (mode : Mode) (key : ConsumerKey) (start : ℕ) → IsCommitted committed t → IsCommitted committed (attached t name mode key start)
+  pub attach : (committed : ℕ) (t : Subscriptions) (name : List ℕ) (mode : Mode) (seat : Seat) (start : ℕ) → IsCommitted committed t → IsCommitted committed (attached t name mode seat start)
   pub grant : (committed : ℕ) (t : Subscriptions) (key : ConsumerKey) (permits : ℕ) → IsCommitted committed t → IsCommitted committed (granted t key permits)
   pub acknowledge : (committed : ℕ) (t : Subscriptions) (key : ConsumerKey) (positions : List ℕ) → IsCommitted committed t → IsCommitted committed (acknowledged t key positions)
   pub acknowledge_through : (committed : ℕ) (t : Subscriptions) (key : ConsumerKey) (position : ℕ) → IsCommitted committed t → IsCommitted committed (acknowledged_through t key position)
@@ -79,6 +82,7 @@ pub record DeliveriesAreCommitted : Type 0 where
   pub detach : (committed : ℕ) (t : Subscriptions) (key : ConsumerKey) → IsCommitted committed t → IsCommitted committed (detached t key)
   pub redeliver : (committed : ℕ) (t : Subscriptions) (key : ConsumerKey) (asked : Option (List ℕ)) → IsCommitted committed t → IsCommitted committed (redelivered t key asked)
   pub settle : (committed : ℕ) (t : Subscriptions) (count : ℕ) → IsCommitted committed t → IsCommitted committed (settled t count)
+  pub slot : (committed : ℕ) (t : Subscriptions) (slots : List ℕ) → IsCommitted committed t → IsCommitted committed (slotted t slots)
 
 -- what is picked is open on the consumer's subscription: committed, unacknowledged and held by nobody
 abbrev pub IsOpenFor : Option Subscription → ℕ → ℕ → Type 0

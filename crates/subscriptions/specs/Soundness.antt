@@ -5,7 +5,9 @@ use Rattle.std.specs.Str.{bytes_eq}
 use Rattle.std.specs.FinMap as map
 use Rattle.holds.specs.Deliveries.{holder}
 use Rattle.holds.specs.declared.consumer.ConsumerKey.{ConsumerKey}
-use Rattle.subscriptions.specs.declared.consumer.Mode.TheVariants.{Exclusive}
+use Rattle.holds.specs.declared.consumer.Consumer.{Consumer as Seat}
+use Rattle.key_shared.specs.Ranges.{AreApart as AreRangesApart}
+use Rattle.subscriptions.specs.declared.consumer.Mode.TheVariants.{Exclusive, KeyShared}
 use Rattle.subscriptions.specs.declared.consumer.Consumer.{Consumer}
 use Rattle.subscriptions.specs.State.{Subscription, Subscriptions}
 use Rattle.subscriptions.specs.Progress.{AreApart}
@@ -20,6 +22,10 @@ pub record IsSoundSubscription (s : Subscription) : Type 0 where
   pub few : length s.consumers ≤ 64
   pub single : s.mode ≡ Exclusive → length s.consumers ≤ 1
   pub permits : AllByRecursion IsWithinPermits s.consumers
+  -- who has permits has a seat, in the same order
+  pub seated : each (λ (seat : Seat). seat.key) s.seats ≡ each (λ (c : Consumer). c.key) s.consumers
+  -- no slot lies in the ranges of two consumers
+  pub ranges_apart : s.mode ≡ KeyShared → AreRangesApart s.seats
   -- a held position is unacknowledged, and its holder is attached
   pub unacknowledged : AreApart s.acked s.deliveries
   pub held : (i : ℕ) (key : ConsumerKey) → holder s.deliveries i ≡ Some key → is_on key s ≡ true

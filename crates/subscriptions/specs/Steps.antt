@@ -1,19 +1,22 @@
 -- What each call does to the subscriptions of a topic.
-use Rattle.std.specs.Prelude.{◌≡◌, ℕ, ◌+◌, ◌^◌, Bool, true, false, cond, not, ◌&&◌, ◌||◌, nat_eq, nat_lt, nat_le, Option, Some, None, List, [], ◌∷◌, ◌++◌, length, filter, drop, map as each}
+use Rattle.std.specs.Prelude.{◌≡◌, ℕ, ◌+◌, ◌^◌, Bool, true, false, cond, not, ◌&&◌, ◌||◌, nat_eq, nat_lt, nat_le, Option, Some, None, List, [], ◌∷◌, ◌++◌, length, filter, drop, slice_index, IsTrue, IsSomeAnd, map as each}
 use Rattle.std.specs.List.{list_any, find}
 use Rattle.std.specs.Str.{bytes_eq}
 use Rattle.std.specs.FinSet as set
 use Rattle.std.specs.FinMap as map
 use Rattle.cursor.specs.Positions.{Positions, below}
 use Rattle.holds.specs.Deliveries.{Deliveries, same_key, sent_to, given_back, times}
-use Rattle.holds.specs.Backlog.{IsOpenAt, IsLeast}
+use Rattle.holds.specs.Backlog.{IsOpenAt, IsLeast, in_ranges, without, attached as seat_of}
 use Rattle.holds.specs.declared.consumer.ConsumerKey.{ConsumerKey}
+use Rattle.holds.specs.declared.consumer.Consumer.{Consumer as Seat}
+use Rattle.holds.specs.declared.consumer.SlotRange.{SlotRange}
+use Rattle.key_shared.specs.Ranges.{are_refused}
 use Rattle.holds.specs.declared.delivery.Delivery.{Delivery}
 use Rattle.subscriptions.specs.declared.consumer.Mode.{Mode}
-use Rattle.subscriptions.specs.declared.consumer.Mode.TheVariants.{Exclusive, Failover, Shared}
+use Rattle.subscriptions.specs.declared.consumer.Mode.TheVariants.{Exclusive, Failover, Shared, KeyShared}
 use Rattle.subscriptions.specs.declared.consumer.Consumer.{Consumer}
 use Rattle.subscriptions.specs.declared.consumer.Refusal.{Refusal}
-use Rattle.subscriptions.specs.declared.consumer.Refusal.TheVariants.{ConsumerBusy, TooManyRequests}
+use Rattle.subscriptions.specs.declared.consumer.Refusal.TheVariants.{ConsumerBusy, TooManyRequests, ConsumerAssignError}
 use Rattle.subscriptions.specs.declared.initial_position.InitialPosition.{InitialPosition}
 use Rattle.subscriptions.specs.declared.initial_position.InitialPosition.TheVariants.{Latest, Earliest}
 use Rattle.records.specs.declared.record.Record.{Record}
@@ -24,18 +27,22 @@ use Rattle.subscriptions.specs.Progress.{joined, listed}
 
 -- no subscription, and no change
 abbrev pub none_yet : Subscriptions
-none_yet = record { subs = []; changes = [] }
+none_yet = record { subs = []; changes = []; slots = [] }
 
 -- a durable subscription, without consumers and deliveries
 abbrev pub opened_one : List ℕ × Positions → Subscription
-opened_one e = record { name = e.0; mode = Exclusive; consumers = []; acked = e.1; deliveries = map.empty }
+opened_one e = record { name = e.0; mode = Exclusive; consumers = []; seats = []; acked = e.1; deliveries = map.empty }
 
 abbrev pub opened_all : List (List ℕ × Positions) → Subscriptions
-opened_all entries = record { subs = each opened_one entries; changes = [] }
+opened_all entries = record { subs = each opened_one entries; changes = []; slots = [] }
 
--- the subscriptions of a topic that was opened: the durable ones, in the order of the names' bytes, and no change
+-- the subscriptions of a topic that was opened: the durable ones, in the order of the names' bytes, no change, and no slot so far
 abbrev pub opened : Kept → Subscriptions
 opened kept = opened_all (map.entries kept)
+
+-- further entries have these slots
+abbrev pub slotted : Subscriptions → List ℕ → Subscriptions
+slotted t slots = record t { slots = t.slots ++ slots }
 
 -- the first that passes a test is changed
 abbrev pub first_changed : {X : Type 0} → (X → Bool) → (X → X) → List X → List X
@@ -64,52 +71,76 @@ abbrev pub is_exclusive : Mode → Bool
 is_exclusive Exclusive = true
 is_exclusive Failover = false
 is_exclusive Shared = false
+is_exclusive KeyShared = false
 
 abbrev pub is_failover : Mode → Bool
 is_failover Exclusive = false
 is_failover Failover = true
 is_failover Shared = false
+is_failover KeyShared = false
+
+-- each consumer gets the entries whose slots lie in its ranges
+abbrev pub is_key_shared : Mode → Bool
+is_key_shared Exclusive = false
+is_key_shared Failover = false
+is_key_shared Shared = false
+is_key_shared KeyShared = true
 
 -- more than one consumer is served
 abbrev pub serves_many : Mode → Bool
 serves_many Exclusive = false
 serves_many Failover = false
 serves_many Shared = true
+serves_many KeyShared = true
+
+-- each consumer gets any
+abbrev pub is_shared_mode : Mode → Bool
+is_shared_mode Exclusive = false
+is_shared_mode Failover = false
+is_shared_mode Shared = true
+is_shared_mode KeyShared = false
 
 abbrev pub same_mode : Mode → Mode → Bool
 same_mode Exclusive mode = is_exclusive mode
 same_mode Failover mode = is_failover mode
-same_mode Shared mode = serves_many mode
+same_mode Shared mode = is_shared_mode mode
+same_mode KeyShared mode = is_key_shared mode
 
 abbrev pub has_some : {X : Type 0} → List X → Bool
 has_some xs = nat_lt 0 (length xs)
 
+-- On Key_Shared the ranges are refused that are none, backward, or meet one another or those of an attached consumer.
+abbrev pub refuses_ranges : Mode → List Seat → List SlotRange → Bool
+refuses_ranges mode seats ranges = is_key_shared mode && are_refused seats ranges
+
 -- SUBSCRIBE: what is refused of one more consumer, in order; the mode is that of the attached ones
-abbrev pub attach_refusals : Mode → Subscription → List (Bool × Refusal)
-attach_refusals mode s =
+abbrev pub attach_refusals : Mode → List SlotRange → Subscription → List (Bool × Refusal)
+attach_refusals mode ranges s =
     (has_some s.consumers && not (same_mode s.mode mode), ConsumerBusy)
     ∷ (has_some s.consumers && is_exclusive mode, ConsumerBusy)
     ∷ (nat_le 64 (length s.consumers), TooManyRequests)
+    ∷ (refuses_ranges mode s.seats ranges, ConsumerAssignError)
     ∷ []
 
 -- SUBSCRIBE: what is refused of a new name, in order
-abbrev pub making_refusals : Subscriptions → List (Bool × Refusal)
-making_refusals t =
+abbrev pub making_refusals : Mode → List SlotRange → Subscriptions → List (Bool × Refusal)
+making_refusals mode ranges t =
     (nat_le 64 (length t.subs), TooManyRequests)
+    ∷ (refuses_ranges mode [] ranges, ConsumerAssignError)
     ∷ (nat_le 65536 (length t.changes), TooManyRequests)
     ∷ []
 
 -- by whether there is such a subscription
-abbrev pub refusals_at : Option Subscription → Subscriptions → Mode → List (Bool × Refusal)
-refusals_at None t mode = making_refusals t
-refusals_at (Some s) t mode = attach_refusals mode s
+abbrev pub refusals_at : Option Subscription → Subscriptions → Mode → List SlotRange → List (Bool × Refusal)
+refusals_at None t mode ranges = making_refusals mode ranges t
+refusals_at (Some s) t mode ranges = attach_refusals mode ranges s
 
-abbrev pub subscribe_refusals : Subscriptions → List ℕ → Mode → List (Bool × Refusal)
-subscribe_refusals t name mode = refusals_at (find (is_named name) t.subs) t mode
+abbrev pub subscribe_refusals : Subscriptions → List ℕ → Mode → List SlotRange → List (Bool × Refusal)
+subscribe_refusals t name mode ranges = refusals_at (find (is_named name) t.subs) t mode ranges
 
 -- one more consumer, without permits, and attached last
-abbrev pub attached_to : Mode → ConsumerKey → Subscription → Subscription
-attached_to mode key s = record s { mode = mode; consumers = s.consumers ++ record { key = key; granted = 0; sent = 0 } ∷ [] }
+abbrev pub attached_to : Mode → Seat → Subscription → Subscription
+attached_to mode seat s = record s { mode = mode; consumers = s.consumers ++ record { key = seat.key; granted = 0; sent = 0 } ∷ []; seats = s.seats ++ seat ∷ [] }
 
 -- the position below which all is acknowledged on a new subscription
 abbrev pub start_of : InitialPosition → ℕ → ℕ
@@ -117,15 +148,15 @@ start_of Latest committed = committed
 start_of Earliest committed = 0
 
 abbrev pub made : List ℕ → Mode → ℕ → Subscription
-made name mode start = record { name = name; mode = mode; consumers = []; acked = below start; deliveries = map.empty }
+made name mode start = record { name = name; mode = mode; consumers = []; seats = []; acked = below start; deliveries = map.empty }
 
 -- SUBSCRIBE: a name that is there gains a consumer, and another name is made with it
-abbrev pub attached_at : Option Subscription → Subscriptions → List ℕ → Mode → ConsumerKey → ℕ → Subscriptions
-attached_at None t name mode key start = record { subs = t.subs ++ attached_to mode key (made name mode start) ∷ []; changes = t.changes ++ Made name start ∷ [] }
-attached_at (Some s) t name mode key start = record t { subs = first_changed (is_named name) (attached_to mode key) t.subs }
+abbrev pub attached_at : Option Subscription → Subscriptions → List ℕ → Mode → Seat → ℕ → Subscriptions
+attached_at None t name mode seat start = record t { subs = t.subs ++ attached_to mode seat (made name mode start) ∷ []; changes = t.changes ++ Made name start ∷ [] }
+attached_at (Some s) t name mode seat start = record t { subs = first_changed (is_named name) (attached_to mode seat) t.subs }
 
-abbrev pub attached : Subscriptions → List ℕ → Mode → ConsumerKey → ℕ → Subscriptions
-attached t name mode key start = attached_at (find (is_named name) t.subs) t name mode key start
+abbrev pub attached : Subscriptions → List ℕ → Mode → Seat → ℕ → Subscriptions
+attached t name mode seat start = attached_at (find (is_named name) t.subs) t name mode seat start
 
 -- FLOW: the consumer has so many permits more
 abbrev pub granted_to : ℕ → Consumer → Consumer
@@ -162,7 +193,7 @@ acknowledgements None positions = []
 acknowledgements (Some s) positions = each (λ p. Acknowledged s.name p) positions
 
 abbrev pub acknowledged : Subscriptions → ConsumerKey → List ℕ → Subscriptions
-acknowledged t key positions = record {
+acknowledged t key positions = record t {
   subs = first_changed (is_on key) (acked_on positions) t.subs;
   changes = t.changes ++ acknowledgements (find (is_on key) t.subs) positions;
 }
@@ -180,7 +211,7 @@ acknowledgement_through None position = []
 acknowledgement_through (Some s) position = AcknowledgedThrough s.name position ∷ []
 
 abbrev pub acknowledged_through : Subscriptions → ConsumerKey → ℕ → Subscriptions
-acknowledged_through t key position = record {
+acknowledged_through t key position = record t {
   subs = first_changed (is_on key) (acked_through_on position) t.subs;
   changes = t.changes ++ acknowledgement_through (find (is_on key) t.subs) position;
 }
@@ -208,7 +239,7 @@ removal (Some s) = Removed s.name ∷ []
 
 -- UNSUBSCRIBE: the consumer's subscription goes, with the consumer; one change
 abbrev pub unsubscribed : Subscriptions → ConsumerKey → Subscriptions
-unsubscribed t key = record {
+unsubscribed t key = record t {
   subs = first_removed (is_on key) t.subs;
   changes = t.changes ++ removal (find (is_on key) t.subs);
 }
@@ -223,24 +254,29 @@ abbrev pub is_first : ConsumerKey → List Consumer → Bool
 is_first key [] = false
 is_first key (c ∷ cs) = is_consumer key c
 
+-- i is the least of the positions whose slot lies in the ranges
+abbrev pub IsLeastIn : List SlotRange → List ℕ → (ℕ → Type 0) → ℕ → Type 0
+IsLeastIn ranges slots Opens i = IsLeast (λ j. Opens j × IsTrue (in_ranges ranges (slice_index slots j))) i
+
 -- Which of the open positions a mode lets a consumer get: on Exclusive the only consumer gets the least one, on Failover the one
--- that was attached first does, and on Shared each gets any.
-abbrev pub AdmitsBy : Mode → ConsumerKey → List Consumer → (ℕ → Type 0) → ℕ → Type 0
-AdmitsBy Exclusive key consumers Opens i = IsLeast Opens i
-AdmitsBy Failover key consumers Opens i = (is_first key consumers ≡ true) × IsLeast Opens i
-AdmitsBy Shared key consumers Opens i = Opens i
+-- that was attached first does, on Shared each gets any, and on Key_Shared each gets the least one whose slot lies in its ranges.
+abbrev pub AdmitsBy : Mode → ConsumerKey → Subscription → List ℕ → (ℕ → Type 0) → ℕ → Type 0
+AdmitsBy Exclusive key s slots Opens i = IsLeast Opens i
+AdmitsBy Failover key s slots Opens i = (is_first key s.consumers ≡ true) × IsLeast Opens i
+AdmitsBy Shared key s slots Opens i = Opens i
+AdmitsBy KeyShared key s slots Opens i = IsSomeAnd (seat_of key s.seats) (λ seat. IsLeastIn seat.ranges slots Opens i)
 
 -- a consumer may get position i of so many committed ones: it is attached and has a permit, and its mode lets it
-pub record AdmitsOn (s : Subscription) (key : ConsumerKey) (committed i : ℕ) : Type 0 where
+pub record AdmitsOn (s : Subscription) (key : ConsumerKey) (slots : List ℕ) (committed i : ℕ) : Type 0 where
   pub permit : has_permit (find (is_consumer key) s.consumers) ≡ true
-  pub served : AdmitsBy s.mode key s.consumers (IsOpenAt committed s.acked s.deliveries) i
+  pub served : AdmitsBy s.mode key s slots (IsOpenAt committed s.acked s.deliveries) i
 
-abbrev pub AdmitsAt : Option Subscription → ConsumerKey → ℕ → ℕ → Type 0
-AdmitsAt None key committed i = ⊥
-AdmitsAt (Some s) key committed i = AdmitsOn s key committed i
+abbrev pub AdmitsAt : Option Subscription → ConsumerKey → List ℕ → ℕ → ℕ → Type 0
+AdmitsAt None key slots committed i = ⊥
+AdmitsAt (Some s) key slots committed i = AdmitsOn s key slots committed i
 
 abbrev pub Admits : Subscriptions → ConsumerKey → ℕ → ℕ → Type 0
-Admits t key committed i = AdmitsAt (find (is_on key) t.subs) key committed i
+Admits t key committed i = AdmitsAt (find (is_on key) t.subs) key t.slots committed i
 
 -- MESSAGE: the consumer holds the position, which was sent once more, and has one permit less
 abbrev pub sent_one : Consumer → Consumer
@@ -281,6 +317,7 @@ freed_by who deliveries = each_delivery (λ i d. freed who d) deliveries
 abbrev pub left_on : ℕ → Subscription → Subscription
 left_on who s = record s {
   consumers = filter (λ c. not (nat_eq c.key.session who)) s.consumers;
+  seats = filter (λ c. not (nat_eq c.key.session who)) s.seats;
   deliveries = freed_by who s.deliveries;
 }
 
@@ -291,6 +328,7 @@ left t who = record t { subs = each (λ s. left_on who s) t.subs }
 abbrev pub detached_on : ConsumerKey → Subscription → Subscription
 detached_on key s = record s {
   consumers = filter (λ c. not (is_consumer key c)) s.consumers;
+  seats = without key s.seats;
   deliveries = each_delivery (λ i d. given_back key d) s.deliveries;
 }
 

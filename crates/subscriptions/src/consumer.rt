@@ -10,6 +10,8 @@ pub enum Mode {
     Failover,
     /// Each consumer gets some of the messages.
     Shared,
+    /// Each consumer gets the messages whose hash slots lie in its ranges.
+    KeyShared,
 }
 
 /// An attached consumer.
@@ -27,6 +29,8 @@ pub struct Consumer {
 pub enum Refusal {
     ConsumerBusy,
     TooManyRequests,
+    /// The hash ranges are none or backward, or meet one another or those of an attached consumer.
+    ConsumerAssignError,
 }
 
 /// More than 2^62 permits would have been granted in all.

@@ -7,6 +7,8 @@
 mod backlog;
 mod consumer;
 mod dispatch;
+mod hint;
+mod hints;
 mod initial_position;
 mod laws;
 mod progress;

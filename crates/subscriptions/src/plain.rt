@@ -1,29 +1,33 @@
 // The definition of a dispatch as a plain slow program: one subscription, of which the consumers
 // and the positions are looked at one by one.
 use crate::Mode;
-use holds::ConsumerKey;
+use holds::{ConsumerKey, SlotRange};
 use std::alloc::{AllocError, Global};
 
 #[derive(Clone, Copy, Debug)]
-struct PlainConsumer {
+struct PlainConsumer<'a> {
     key: ConsumerKey,
+    ranges: &'a [SlotRange],
     granted: u64,
     sent: u64,
 }
 
 #[derive(Drop)]
-pub(crate) struct PlainSubscription {
+pub(crate) struct PlainSubscription<'a> {
     mode: Mode,
-    consumers: Vec<PlainConsumer>,
+    slots: &'a [u16],
+    consumers: Vec<PlainConsumer<'a>>,
     acked: Vec<u64>,
     held: Vec<(u64, ConsumerKey)>,
     sends: Vec<u64>,
 }
 
-impl PlainSubscription {
-    pub(crate) fn new(alloc: Global, mode: Mode) -> Self {
+impl<'a> PlainSubscription<'a> {
+    /// The entries of its topic have these slots.
+    pub(crate) fn new(alloc: Global, mode: Mode, slots: &'a [u16]) -> Self {
         Self {
             mode,
+            slots,
             consumers: Vec::new(alloc),
             acked: Vec::new(alloc),
             held: Vec::new(alloc),
@@ -31,18 +35,45 @@ impl PlainSubscription {
         }
     }
 
-    /// Attaches a consumer, where the mode has room for it, and it isn't there yet.
-    pub(crate) fn attach(&mut self, key: ConsumerKey) -> Result<(), AllocError> {
-        let is_taken = matches!(self.mode, Mode::Exclusive) && !self.consumers.is_empty();
-        if is_taken || self.consumers.iter().any(|c| c.key == key) {
-            return Ok(());
+    /// Attaches a consumer that isn't there yet, and answers whether the mode has room for it.
+    pub(crate) fn attach(
+        &mut self,
+        key: ConsumerKey,
+        ranges: &'a [SlotRange],
+    ) -> Result<bool, AllocError> {
+        if !self.has_room(ranges) {
+            return Ok(false);
         }
         self.consumers.push(PlainConsumer {
             key,
+            ranges,
             granted: 0,
             sent: 0,
         })?;
-        Ok(())
+        Ok(true)
+    }
+
+    // Whether the mode takes one more consumer, with these ranges.
+    fn has_room(&self, ranges: &[SlotRange]) -> bool {
+        match self.mode {
+            Mode::Exclusive => self.consumers.is_empty(),
+            Mode::Failover | Mode::Shared => true,
+            Mode::KeyShared => {
+                !ranges.is_empty()
+                    && ranges.iter().all(|range| range.start <= range.end)
+                    && !ranges.iter().any(|range| self.is_crowded_in(ranges, range))
+            }
+        }
+    }
+
+    // Whether a slot of the range would be in two, if these ranges came to those of the consumers.
+    fn is_crowded_in(&self, ranges: &[SlotRange], range: &SlotRange) -> bool {
+        (range.start..=range.end).any(|slot| self.is_crowded(ranges, slot))
+    }
+
+    fn is_crowded(&self, ranges: &[SlotRange], slot: u16) -> bool {
+        let of_others = self.consumers.iter().any(|c| covers(c.ranges, slot) > 0);
+        of_others || covers(ranges, slot) > 1
     }
 
     pub(crate) fn grant(&mut self, key: ConsumerKey, permits: u32) {
@@ -79,7 +110,7 @@ impl PlainSubscription {
 
     pub(crate) fn redeliver(&mut self, key: ConsumerKey, asked: Option<&[u64]>) {
         if let Some(positions) = asked
-            && matches!(self.mode, Mode::Shared)
+            && matches!(self.mode, Mode::Shared | Mode::KeyShared)
         {
             self.held
                 .retain(|(p, holder)| *holder != key || !positions.contains(p));
@@ -96,9 +127,8 @@ impl PlainSubscription {
         if !self.is_served(key) {
             return Ok(None);
         }
-        for position in 0..committed {
-            let is_held = self.held.iter().any(|(p, _)| *p == position);
-            if !self.acked.contains(&position) && !is_held {
+        for (position, slot) in (0..committed).zip(self.slots) {
+            if self.is_open(position) && self.is_for(key, *slot) {
                 let before = times(self.sends.as_slice(), position);
                 self.held.push((position, key))?;
                 self.sends.push(position)?;
@@ -107,6 +137,20 @@ impl PlainSubscription {
             }
         }
         Ok(None)
+    }
+
+    fn is_open(&self, position: u64) -> bool {
+        let is_held = self.held.iter().any(|(p, _)| *p == position);
+        !self.acked.contains(&position) && !is_held
+    }
+
+    // Whether the mode gives the consumer entries of this slot.
+    fn is_for(&self, key: ConsumerKey, slot: u16) -> bool {
+        let is_in_ranges = self
+            .consumers
+            .iter()
+            .any(|c| c.key == key && covers(c.ranges, slot) > 0);
+        is_in_ranges || !matches!(self.mode, Mode::KeyShared)
     }
 
     // Whether the consumer has a permit, and its mode serves it.
@@ -121,6 +165,14 @@ impl PlainSubscription {
         };
         has_permit && (is_first || !matches!(self.mode, Mode::Failover))
     }
+}
+
+// How many of the ranges have the slot.
+fn covers(ranges: &[SlotRange], slot: u16) -> usize {
+    ranges
+        .iter()
+        .filter(|range| range.start <= slot && slot <= range.end)
+        .count()
 }
 
 fn count_sent(consumers: &mut Vec<PlainConsumer>, key: ConsumerKey) {

@@ -1,6 +1,6 @@
 use crate::plain_status::PlainSet;
 use crate::{InitialPosition, Mode, Subscriptions};
-use holds::ConsumerKey;
+use holds::{Consumer as Seat, ConsumerKey, SlotRanges};
 use std::alloc::{AllocError, Global};
 use std::process::Abort;
 use std::test::Fail;
@@ -22,9 +22,13 @@ fn make(
     name: &'static str,
     session: u64,
 ) -> Result<PlainSet, AllocError> {
-    if subs.refusal(name, Mode::Exclusive).is_none() {
+    if subs.refusal(name, Mode::Exclusive, &[]).is_none() {
         let initial = InitialPosition::Earliest;
-        subs.attach(name, Mode::Exclusive, key_of(session), initial, 0)?;
+        let seat = Seat {
+            key: key_of(session),
+            ranges: SlotRanges::new(Vec::new(alloc)),
+        };
+        subs.attach(name, Mode::Exclusive, seat, initial, 0)?;
     }
     Ok(PlainSet::new(alloc, name))
 }

@@ -1,10 +1,13 @@
-ghost use Rattle.std.specs.Prelude.{◌≡◌, ◌+◌, ◌^◌, ◌<◌, ◌≤◌, ◌++◌, ◌∷◌, [], ℕ, All, IfOk, IfNone, IfSome, MatchResult, OnOk, OnErr, Some, None, true, false, ◌&&◌, filter, length, nat_eq, not, nat_lt, position, cond};
+ghost use Rattle.std.specs.Prelude.{◌≡◌, ◌+◌, ◌^◌, ◌<◌, ◌≤◌, ◌++◌, ◌∷◌, [], ℕ, All, IfOk, IfNone, IfSome, MatchResult, OnOk, OnErr, Some, None, true, false, ◌&&◌, filter, length, nat_eq, not, nat_lt, position, cond, map as each};
 ghost use Rattle.std.specs.Option.{option_map, option_copied};
 ghost use Rattle.std.specs.List.{find, list_any};
 ghost use Rattle.std.specs.FinMap as map;
+ghost use Rattle.holds.specs.Backlog.{IsOpenAt, attached};
 ghost use Rattle.holds.specs.Deliveries.{times, given_back, same_key};
-ghost use Rattle.subscriptions.specs.Steps.{is_consumer, is_on, first_changed, first_standing, same_mode, is_exclusive, is_failover, serves_many, attach_refusals, attached_to, made, opened_one, granted_to, granted_on, is_past, acked_on, acked_through_on, has_permit, AdmitsOn, sent_one, sent_on, left_on, detached_on, is_asked_back, redelivered_on};
-ghost use Rattle.subscriptions.specs.Dispatching.{mode_of, keys_of, keys};
+ghost use Rattle.holds.specs.declared.consumer.Consumer.{Consumer as TheSeat};
+ghost use Rattle.subscriptions.specs.Steps.{is_consumer, is_on, first_changed, first_standing, same_mode, is_exclusive, is_failover, serves_many, is_shared_mode, is_key_shared, attach_refusals, refuses_ranges, attached_to, made, opened_one, granted_to, granted_on, is_past, acked_on, acked_through_on, has_permit, AdmitsBy, sent_one, sent_on, left_on, detached_on, is_asked_back, redelivered_on};
+ghost use Rattle.subscriptions.specs.Dispatching.{mode_of, seats_of, keys};
+ghost use Rattle.subscriptions.specs.Hints.{IsPassed};
 ghost use Rattle.subscriptions.specs.Freeing.{freed_among};
 ghost use Rattle.subscriptions.specs.Statuses.{IsStatus};
 
@@ -14,7 +17,7 @@ use crate::dispatch::Dispatch;
 use crate::progress::Progress;
 use crate::status::SubscriptionStatus;
 use cursor::Cursor;
-use holds::ConsumerKey;
+use holds::{Consumer as Seat, ConsumerKey, SlotRange};
 use records::Name;
 use std::alloc::{AllocError, Global};
 use std::marker::Model;
@@ -43,11 +46,12 @@ impl Model for Subscription {
 
     ghost coded = { Prim.hlevel (codes, positions_code, deliveries_code) };
 
-    ghost use Rattle.subscriptions.specs.Held.{subscription_of, IsHeld};
+    ghost use Rattle.subscriptions.specs.Held.{subscription_of};
+    ghost use Rattle.subscriptions.specs.Soundness.{IsSoundSubscription};
 
     ghost view = { subscription_of };
 
-    ghost invariant = { λ s. IsHeld s };
+    ghost invariant = { λ s. IsSoundSubscription (subscription_of s) };
 }
 
 impl Subscription {
@@ -98,8 +102,8 @@ impl Subscription {
     }
 
     /// Why one more consumer is refused.
-    pub(crate) fn refusal(&self, mode: Mode) -> Option<Refusal>
-        ensures { result ≡ first_standing (attach_refusals mode self.now) }
+    pub(crate) fn refusal(&self, mode: Mode, ranges: &[SlotRange]) -> Option<Refusal>
+        ensures { result ≡ first_standing (attach_refusals mode ranges.now self.now) }
     {
         if !self.consumers.is_empty() && !same_mode(self.dispatch.mode(), mode) {
             return Some(Refusal::ConsumerBusy);
@@ -110,29 +114,28 @@ impl Subscription {
         if self.consumers.len() >= MOST_CONSUMERS {
             return Some(Refusal::TooManyRequests);
         }
+        if is_key_shared(mode) && self.dispatch.refuses_ranges(ranges) {
+            return Some(Refusal::ConsumerAssignError);
+        }
         None
     }
 
     /// Attaches a consumer behind the others. The first one sets the mode. A refusal changes
     /// nothing.
-    pub(crate) fn attach(
-        &mut self,
-        alloc: Global,
-        mode: Mode,
-        key: ConsumerKey,
-    ) -> Result<(), AllocError>
-        requires { first_standing (attach_refusals mode self.old) ≡ None }
-        ensures ok { OnOk result (self.new ≡ attached_to mode key self.old) }
+    pub(crate) fn attach(&mut self, alloc: Global, mode: Mode, seat: Seat) -> Result<(), AllocError>
+        requires { first_standing (attach_refusals mode seat.ranges self.old) ≡ None }
+        ensures ok { OnOk result (self.new ≡ attached_to mode seat self.old) }
         ensures err { OnErr result (self.new ≡ self.old) }
     {
         self.consumers.reserve(1)?;
+        let newcomer = newcomer(seat.key);
         if self.consumers.is_empty() {
-            self.dispatch = first_one(alloc, mode, key)?;
-            self.consumers.push(newcomer(key)).unwrap();
+            self.dispatch = first_one(alloc, mode, seat)?;
+            self.consumers.push(newcomer).unwrap();
             return Ok(());
         }
-        self.dispatch.attach(alloc, key)?;
-        self.consumers.push(newcomer(key)).unwrap();
+        self.dispatch.attach(seat)?;
+        self.consumers.push(newcomer).unwrap();
         Ok(())
     }
 
@@ -170,20 +173,42 @@ impl Subscription {
         self.consumers.len() > 1
     }
 
-    /// The position that the consumer may get.
-    pub(crate) fn pick(&self, key: ConsumerKey, committed: u64) -> Option<u64>
-        requires { committed ≤ 2 ^ 62 }
-        ensures some { IfSome result (AdmitsOn self.now key committed) }
-        ensures none { IfNone result ((i : ℕ) → AdmitsOn self.now key committed i → ⊥) }
+    /// Whether the consumer is attached and has a permit left.
+    pub(crate) fn has_permit(&self, key: ConsumerKey) -> bool
+        ensures { result ≡ has_permit (find (is_consumer key) self.now.consumers) }
     {
-        if !has_permit(self.consumers.as_slice(), key) {
-            return None;
-        }
+        has_permit(self.consumers.as_slice(), key)
+    }
+
+    /// The position that the consumer may get, its permits aside. On Key_Shared the search begins at `from`, below which
+    /// nothing is left for it.
+    pub(crate) fn pick(
+        &self,
+        key: ConsumerKey,
+        slots: &[u16],
+        committed: u64,
+        from: u64,
+    ) -> Option<u64>
+        requires fits { committed ≤ 2 ^ 62 }
+        requires known { committed ≤ length slots.now }
+        requires there { is_on key self.now ≡ true }
+        requires passed { IsPassed (attached key self.now.seats) self.now.acked self.now.deliveries slots.now from }
+        ensures some { IfSome result (AdmitsBy self.now.mode key self.now slots.now (IsOpenAt committed self.now.acked self.now.deliveries)) }
+        ensures none { IfNone result ((i : ℕ) → AdmitsBy self.now.mode key self.now slots.now (IsOpenAt committed self.now.acked self.now.deliveries) i → ⊥) }
+    {
         let backlog = Backlog {
             progress: &self.progress,
+            slots,
             committed,
         };
-        self.dispatch.pick(&backlog, key)
+        self.dispatch.pick(&backlog, key, from)
+    }
+
+    /// Whether each consumer gets the entries of its ranges.
+    pub(crate) fn is_key_shared(&self) -> bool
+        ensures { result ≡ is_key_shared self.now.mode }
+    {
+        is_key_shared(self.dispatch.mode())
     }
 
     /// The consumer gets a position that it may get, and the answer is how often that was sent
@@ -195,7 +220,8 @@ impl Subscription {
         committed: u64,
     ) -> Result<u32, AllocError>
         requires fits { committed ≤ 2 ^ 62 }
-        requires admitted { AdmitsOn self.old key committed position }
+        requires permit { has_permit (find (is_consumer key) self.old.consumers) ≡ true }
+        requires is_open { IsOpenAt committed self.old.acked self.old.deliveries position }
         ensures ok { OnOk result (self.new ≡ sent_on key position self.old) }
         ensures before { IfOk result (λ before. before ≡ times self.old.deliveries position) }
         ensures err { OnErr result (self.new ≡ self.old) }
@@ -247,7 +273,8 @@ fn same_mode(a: Mode, b: Mode) -> bool
     match a {
         Mode::Exclusive => is_exclusive(b),
         Mode::Failover => is_failover(b),
-        Mode::Shared => serves_many(b),
+        Mode::Shared => is_shared_mode(b),
+        Mode::KeyShared => is_key_shared(b),
     }
 }
 
@@ -263,20 +290,33 @@ fn is_failover(mode: Mode) -> bool
     matches!(mode, Mode::Failover)
 }
 
-/// Whether more than one consumer is served.
-fn serves_many(mode: Mode) -> bool
-    ensures { result ≡ serves_many mode }
+fn is_shared_mode(mode: Mode) -> bool
+    ensures { result ≡ is_shared_mode mode }
 {
     matches!(mode, Mode::Shared)
 }
 
+pub(crate) fn is_key_shared(mode: Mode) -> bool
+    ensures { result ≡ is_key_shared mode }
+{
+    matches!(mode, Mode::KeyShared)
+}
+
+/// Whether more than one consumer is served.
+fn serves_many(mode: Mode) -> bool
+    ensures { result ≡ serves_many mode }
+{
+    matches!(mode, Mode::Shared | Mode::KeyShared)
+}
+
 /// A dispatcher with its first consumer.
-fn first_one(alloc: Global, mode: Mode, key: ConsumerKey) -> Result<Dispatch, AllocError>
+fn first_one(alloc: Global, mode: Mode, seat: Seat) -> Result<Dispatch, AllocError>
+    requires { refuses_ranges mode [] seat.ranges ≡ false }
     ensures mode { IfOk result (λ d. mode_of d ≡ mode) }
-    ensures keys { IfOk result (λ d. keys_of d ≡ key ∷ []) }
+    ensures seats { IfOk result (λ d. seats_of d ≡ seat ∷ []) }
 {
     let mut dispatch = Dispatch::new(alloc, mode);
-    dispatch.attach(alloc, key)?;
+    dispatch.attach(seat)?;
     Ok(dispatch)
 }
 
@@ -401,9 +441,9 @@ fn forget_consumer(consumers: &mut Vec<Consumer>, key: ConsumerKey)
 
 /// The dispatcher lets the session's consumers go.
 fn detach_all(dispatch: &mut Dispatch, consumers: &[Consumer], who: u64)
-    requires { keys_of dispatch.old ≡ keys consumers.now }
+    requires { each (λ (seat : TheSeat). seat.key) (seats_of dispatch.old) ≡ keys consumers.now }
     ensures mode { mode_of dispatch.new ≡ mode_of dispatch.old }
-    ensures keys { keys_of dispatch.new ≡ keys (filter (λ c. not (nat_eq c.key.session who)) consumers.now) }
+    ensures seats { seats_of dispatch.new ≡ filter (λ c. not (nat_eq c.key.session who)) (seats_of dispatch.old) }
 {
     for consumer in consumers {
         detach_of(dispatch, consumer.key, who);
@@ -413,7 +453,7 @@ fn detach_all(dispatch: &mut Dispatch, consumers: &[Consumer], who: u64)
 /// The dispatcher lets a consumer go, if it is of the session.
 fn detach_of(dispatch: &mut Dispatch, key: ConsumerKey, who: u64)
     ensures mode { mode_of dispatch.new ≡ mode_of dispatch.old }
-    ensures keys { keys_of dispatch.new ≡ filter (λ k. not (nat_eq key.session who && same_key k key)) (keys_of dispatch.old) }
+    ensures seats { seats_of dispatch.new ≡ filter (λ c. not (nat_eq key.session who && same_key c.key key)) (seats_of dispatch.old) }
 {
     if key.session != who {
         return;

@@ -3,16 +3,19 @@ ghost use Rattle.std.specs.List.{IsDistinct, find, list_any};
 ghost use Rattle.std.specs.Str.{bytes_eq};
 ghost use Rattle.records.specs.declared.kept_cursor.KeptCursor.{KeptCursor};
 ghost use Rattle.records.specs.declared.record.Record.TheVariants.{Acknowledged as acknowledged_change};
-ghost use Rattle.subscriptions.specs.Steps.{none_yet, opened_one, opened_all, first_changed, is_on, is_named, has_consumer, first_standing, making_refusals, subscribe_refusals, attach_refusals, attached_to, attached, attached_at, start_of, made, granted, granted_on, is_past_on, grants_too_many, acknowledged, acked_on, acknowledged_through, acked_through_on, is_shared, unsubscribe_refusals, unsubscribed, Admits, AdmitsAt, AdmitsOn, sent, sent_on, sent_before, times_at, left, left_on, detached, detached_on, redelivered, redelivered_on, shares, is_among_many, settled};
+ghost use Rattle.subscriptions.specs.Steps.{none_yet, opened_one, opened_all, first_changed, is_on, is_named, has_consumer, first_standing, making_refusals, subscribe_refusals, attach_refusals, refuses_ranges, attached_to, attached, attached_at, start_of, made, granted, granted_on, is_past_on, grants_too_many, acknowledged, acked_on, acknowledged_through, acked_through_on, is_shared, unsubscribe_refusals, unsubscribed, Admits, AdmitsAt, AdmitsOn, sent, sent_on, sent_before, times_at, left, left_on, detached, detached_on, redelivered, redelivered_on, shares, is_among_many, settled, slotted};
 ghost use Rattle.std.specs.Option.{option_copied};
 ghost use Rattle.subscriptions.specs.Statuses.{AreStatuses};
 
 use crate::consumer::{Mode, Refusal, TooManyPermits};
+use crate::hint::Hint;
+use crate::hints::{hinted, note};
 use crate::initial_position::InitialPosition;
 use crate::status::SubscriptionStatus;
 use crate::statuses::{sort_by_name, statuses_of};
-use crate::subscription::Subscription;
-use holds::ConsumerKey;
+use crate::subscription::{Subscription, is_key_shared};
+use holds::{Consumer, ConsumerKey, SlotRange};
+use key_shared::are_refused;
 use records::{KeptCursor, Name, Record};
 use std::alloc::{AllocError, Global};
 use std::marker::Model;
@@ -29,6 +32,8 @@ pub struct Subscriptions {
     alloc: Global,
     subs: Vec<Subscription>,
     changes: Vec<Record>,
+    slots: Vec<u16>,
+    hints: Vec<Hint>,
 }
 
 impl Model for Subscriptions {
@@ -42,9 +47,11 @@ impl Model for Subscriptions {
 
     ghost coded = { Prim.hlevel (codes, positions_code, deliveries_code) };
 
-    ghost view = { λ t. record { subs = t.subs.items; changes = t.changes.items } };
+    ghost use Rattle.subscriptions.specs.Hints.{AreHints};
 
-    ghost invariant = { λ t. HasLimits (record { subs = t.subs.items; changes = t.changes.items }) };
+    ghost view = { λ t. record { subs = t.subs.items; changes = t.changes.items; slots = t.slots.items } };
+
+    ghost invariant = { λ t. HasLimits (record { subs = t.subs.items; changes = t.changes.items; slots = t.slots.items }) × AreHints (record { subs = t.subs.items; changes = t.changes.items; slots = t.slots.items }) t.hints.items };
 }
 
 impl Subscriptions {
@@ -56,6 +63,8 @@ impl Subscriptions {
             alloc,
             subs: Vec::new(alloc),
             changes: Vec::new(alloc),
+            slots: Vec::new(alloc),
+            hints: Vec::new(alloc),
         }
     }
 
@@ -69,6 +78,8 @@ impl Subscriptions {
             alloc,
             subs: open_all(alloc, kept)?,
             changes: Vec::new(alloc),
+            slots: Vec::new(alloc),
+            hints: Vec::new(alloc),
         })
     }
 
@@ -103,22 +114,25 @@ impl Subscriptions {
     }
 
     /// Why a SUBSCRIBE to this name is refused.
-    pub fn refusal(&self, name: &str, mode: Mode) -> Option<Refusal>
-        ensures { result ≡ first_standing (subscribe_refusals self.now name.now mode) }
+    pub fn refusal(&self, name: &str, mode: Mode, ranges: &[SlotRange]) -> Option<Refusal>
+        ensures { result ≡ first_standing (subscribe_refusals self.now name.now mode ranges.now) }
     {
         let Some(place) = place_named(self.subs.as_slice(), name) else {
-            return self.making_refusal();
+            return self.making_refusal(mode, ranges);
         };
         let sub = &self.subs[place];
-        sub.refusal(mode)
+        sub.refusal(mode, ranges)
     }
 
     /// Why a new name is refused.
-    fn making_refusal(&self) -> Option<Refusal>
-        ensures { result ≡ first_standing (making_refusals self.now) }
+    fn making_refusal(&self, mode: Mode, ranges: &[SlotRange]) -> Option<Refusal>
+        ensures { result ≡ first_standing (making_refusals mode ranges.now self.now) }
     {
         if self.subs.len() >= MOST_SUBSCRIPTIONS {
             return Some(Refusal::TooManyRequests);
+        }
+        if is_key_shared(mode) && are_refused(&[], ranges) {
+            return Some(Refusal::ConsumerAssignError);
         }
         if self.changes.len() >= MOST_CHANGES {
             return Some(Refusal::TooManyRequests);
@@ -132,18 +146,18 @@ impl Subscriptions {
         &mut self,
         name: &str,
         mode: Mode,
-        key: ConsumerKey,
+        seat: Consumer,
         initial: InitialPosition,
         committed: u64,
     ) -> Result<(), AllocError>
         requires fits { committed ≤ 2 ^ 62 }
-        requires allowed { first_standing (subscribe_refusals self.old name.now mode) ≡ None }
-        ensures ok { OnOk result (self.new ≡ attached self.old name.now mode key (start_of initial committed)) }
+        requires allowed { first_standing (subscribe_refusals self.old name.now mode seat.ranges) ≡ None }
+        ensures ok { OnOk result (self.new ≡ attached self.old name.now mode seat (start_of initial committed)) }
         ensures err { OnErr result (self.new ≡ self.old) }
     {
         let Some(place) = place_named(self.subs.as_slice(), name) else {
             let start = start_of(initial, committed);
-            let sub = new_subscription(self.alloc, name, mode, key, start)?;
+            let sub = new_subscription(self.alloc, name, mode, seat, start)?;
             let change = Record::Made {
                 name: Name::new(self.alloc, name)?,
                 start,
@@ -151,10 +165,12 @@ impl Subscriptions {
             self.subs.reserve(1)?;
             self.changes.push(change)?;
             self.subs.push(sub).unwrap();
+            self.hints.clear();
             return Ok(());
         };
         let sub = &mut self.subs[place];
-        sub.attach(self.alloc, mode, key)?;
+        sub.attach(self.alloc, mode, seat)?;
+        self.hints.clear();
         Ok(())
     }
 
@@ -239,20 +255,33 @@ impl Subscriptions {
         let name = Name::new(self.alloc, sub.name())?;
         self.changes.push(Record::Removed { name })?;
         let _ = self.subs.remove(place);
+        self.hints.clear();
         Ok(())
     }
 
-    /// The position that the consumer may get: one exactly where one is admitted.
-    pub fn pick(&self, key: ConsumerKey, committed: u64) -> Option<u64>
-        requires { committed ≤ 2 ^ 62 }
-        ensures some { IfSome result (Admits self.now key committed) }
-        ensures none { IfNone result ((i : ℕ) → Admits self.now key committed i → ⊥) }
+    /// The position that the consumer may get: one exactly where one is admitted. What is passed over on Key_Shared is
+    /// remembered, as far as memory goes.
+    pub fn pick(&mut self, key: ConsumerKey, committed: u64) -> Option<u64>
+        requires fits { committed ≤ 2 ^ 62 }
+        requires known { committed ≤ length self.old.slots }
+        ensures same { self.new ≡ self.old }
+        ensures some { IfSome result (Admits self.old key committed) }
+        ensures none { IfNone result ((i : ℕ) → Admits self.old key committed i → ⊥) }
     {
         let Some(place) = place_of(self.subs.as_slice(), key) else {
             return None;
         };
         let sub = &self.subs[place];
-        sub.pick(key, committed)
+        if !sub.has_permit(key) {
+            return None;
+        }
+        let from = hinted(self.hints.as_slice(), key);
+        let picked = sub.pick(key, self.slots.as_slice(), committed, from);
+        if sub.is_key_shared() {
+            let below = picked.unwrap_or(committed);
+            note(&mut self.hints, Hint { key, below });
+        }
+        picked
     }
 
     /// MESSAGE: the consumer holds a position that it may get, and has one permit less. The answer
@@ -282,6 +311,7 @@ impl Subscriptions {
         ensures { self.new ≡ left self.old who }
     {
         leave_all(&mut self.subs, who);
+        self.hints.clear();
     }
 
     /// CLOSE_CONSUMER: the consumer goes, and what it holds is free. An unknown consumer changes
@@ -294,6 +324,7 @@ impl Subscriptions {
         };
         let sub = &mut self.subs[place];
         sub.detach(key);
+        self.hints.clear();
     }
 
     /// REDELIVER: the consumer gives back what it holds: the positions that are asked for, where
@@ -307,6 +338,7 @@ impl Subscriptions {
         };
         let sub = &mut self.subs[place];
         sub.redeliver(key, asked);
+        self.hints.clear();
     }
 
     /// Whether the consumer is attached to a subscription of which the mode serves many.
@@ -314,6 +346,15 @@ impl Subscriptions {
         ensures { result ≡ shares self.now key }
     {
         is_among_many(self.subs.as_slice(), key)
+    }
+
+    /// The slot of a further entry. A refusal changes nothing.
+    pub fn add_slot(&mut self, slot: u16) -> Result<(), AllocError>
+        ensures ok { OnOk result (self.new ≡ slotted self.old (slot ∷ [])) }
+        ensures err { OnErr result (self.new ≡ self.old) }
+    {
+        self.slots.push(slot)?;
+        Ok(())
     }
 
     /// The first changes are durable, and go.
@@ -342,14 +383,15 @@ fn new_subscription(
     alloc: Global,
     name: &str,
     mode: Mode,
-    key: ConsumerKey,
+    seat: Consumer,
     start: u64,
 ) -> Result<Subscription, AllocError>
-    requires { start ≤ 2 ^ 62 }
-    ensures { IfOk result (λ s. s ≡ attached_to mode key (made name.now mode start)) }
+    requires fits { start ≤ 2 ^ 62 }
+    requires allowed { refuses_ranges mode [] seat.ranges ≡ false }
+    ensures { IfOk result (λ s. s ≡ attached_to mode seat (made name.now mode start)) }
 {
     let mut sub = Subscription::new(alloc, Name::new(alloc, name)?, mode, start);
-    sub.attach(alloc, mode, key)?;
+    sub.attach(alloc, mode, seat)?;
     Ok(sub)
 }
 

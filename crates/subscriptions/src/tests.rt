@@ -1,32 +1,74 @@
-ghost use Rattle.std.specs.Prelude.{◌^◌, ◌≤◌};
+ghost use Rattle.std.specs.Prelude.{◌^◌, ◌≤◌, OnOk, length};
 
 use crate::{InitialPosition, Mode, Refusal, Subscriptions, TooManyPermits};
-use holds::ConsumerKey;
+use holds::{Consumer as Seat, ConsumerKey, SlotRange, SlotRanges};
 use records::Record;
-use std::alloc::AllocError;
+use std::alloc::{AllocError, Global};
 use std::test::Fail;
 
+mod keyed;
+mod limits;
 mod scripts;
 
 const FIRST: ConsumerKey = ConsumerKey { session: 0, id: 2 };
 
 const SECOND: ConsumerKey = ConsumerKey { session: 1, id: 2 };
 
+/// A consumer without ranges.
+fn seat(alloc: Global, key: ConsumerKey) -> Seat {
+    Seat {
+        key,
+        ranges: SlotRanges::new(Vec::new(alloc)),
+    }
+}
+
+/// A consumer with these ranges.
+fn keyed_seat(alloc: Global, key: ConsumerKey, ranges: &[SlotRange]) -> Result<Seat, AllocError> {
+    let mut copies = Vec::new(alloc);
+    for range in ranges {
+        copies.push(*range)?;
+    }
+    Ok(Seat {
+        key,
+        ranges: SlotRanges::new(copies),
+    })
+}
+
 /// Attaches a consumer where nothing is against it.
 fn subscribe(
     subs: &mut Subscriptions,
     name: &str,
     mode: Mode,
-    key: ConsumerKey,
+    seat: Seat,
     initial: InitialPosition,
     committed: u32,
 ) -> Result<Option<Refusal>, AllocError> {
-    let refusal = subs.refusal(name, mode);
+    let refusal = subs.refusal(name, mode, seat.ranges.as_slice());
     if refusal.is_some() {
         return Ok(refusal);
     }
-    subs.attach(name, mode, key, initial, u64::from(committed))?;
+    subs.attach(name, mode, seat, initial, u64::from(committed))?;
     Ok(None)
+}
+
+/// Adds so many entries that nobody gets, for they stand behind those that are committed.
+fn add_entries(subs: &mut Subscriptions, count: u32) -> Result<(), AllocError>
+    ensures { OnOk result (count ≤ length subs.new.slots) }
+{
+    for i in 0..count {
+        subs.add_slot(0)?;
+    }
+    Ok(())
+}
+
+/// The position that a consumer may get of so many committed ones.
+fn pick(
+    subs: &mut Subscriptions,
+    key: ConsumerKey,
+    committed: u32,
+) -> Result<Option<u64>, AllocError> {
+    add_entries(subs, committed)?;
+    Ok(subs.pick(key, u64::from(committed)))
 }
 
 /// What a consumer gets of so many committed positions: one of them, and how often it was sent
@@ -36,6 +78,7 @@ fn dispatch(
     key: ConsumerKey,
     committed: u32,
 ) -> Result<Option<(u64, u32)>, AllocError> {
+    add_entries(subs, committed)?;
     let Some(position) = subs.pick(key, u64::from(committed)) else {
         return Ok(None);
     };
@@ -96,7 +139,7 @@ fn one_consumer_gets_each_message_once(rt: HostRuntime) -> Result<(), Fail> {
             &mut subs,
             "s",
             Mode::Exclusive,
-            FIRST,
+            seat(rt.alloc(), FIRST),
             InitialPosition::Earliest,
             1
         )?,
@@ -116,7 +159,7 @@ fn one_consumer_gets_each_message_once(rt: HostRuntime) -> Result<(), Fail> {
             &mut subs,
             "s",
             Mode::Exclusive,
-            SECOND,
+            seat(rt.alloc(), SECOND),
             InitialPosition::Latest,
             2
         )?,
@@ -135,15 +178,15 @@ fn changes_wait_until_they_are_settled(rt: HostRuntime) -> Result<(), Fail> {
         &mut subs,
         "late",
         Mode::Exclusive,
-        FIRST,
+        seat(rt.alloc(), FIRST),
         InitialPosition::Latest,
         3,
     )?;
     acknowledge(&mut subs, FIRST, 3)?;
     acknowledge(&mut subs, FIRST, 3)?;
     assert_eq!(rt; subs.grant(FIRST, 1), Ok(()));
-    assert_eq!(rt; subs.pick(FIRST, 4), None);
-    assert_eq!(rt; subs.pick(FIRST, 5), Some(4));
+    assert_eq!(rt; pick(&mut subs, FIRST, 4)?, None);
+    assert_eq!(rt; pick(&mut subs, FIRST, 5)?, Some(4));
     let found = subs.changes();
     assert_eq!(rt; found.len(), 3);
     assert_eq!(rt; name_of(&found[0]), ("late", true, 3));
@@ -161,7 +204,7 @@ fn cumulative_acknowledgements(rt: HostRuntime) -> Result<(), Fail> {
         &mut subs,
         "s",
         Mode::Exclusive,
-        FIRST,
+        seat(rt.alloc(), FIRST),
         InitialPosition::Earliest,
         0,
     )?;
@@ -191,7 +234,7 @@ fn unsubscribing(rt: HostRuntime) -> Result<(), Fail> {
             &mut subs,
             "f",
             Mode::Failover,
-            key,
+            seat(rt.alloc(), key),
             InitialPosition::Earliest,
             0,
         )?;
@@ -210,12 +253,12 @@ fn unsubscribing(rt: HostRuntime) -> Result<(), Fail> {
         &mut subs,
         "f",
         Mode::Exclusive,
-        SECOND,
+        seat(rt.alloc(), SECOND),
         InitialPosition::Earliest,
         1,
     )?;
     assert_eq!(rt; subs.grant(SECOND, 1), Ok(()));
-    assert_eq!(rt; subs.pick(SECOND, 1), Some(0));
+    assert_eq!(rt; pick(&mut subs, SECOND, 1)?, Some(0));
     Ok(())
 }
 
@@ -226,23 +269,23 @@ fn second_consumers(rt: HostRuntime) -> Result<(), Fail> {
         &mut subs,
         "s",
         Mode::Exclusive,
-        FIRST,
+        seat(rt.alloc(), FIRST),
         InitialPosition::Earliest,
         0,
     )?;
     assert_eq!(rt;
-        subs.refusal("s", Mode::Exclusive),
+        subs.refusal("s", Mode::Exclusive, &[]),
         Some(Refusal::ConsumerBusy)
     );
     assert_eq!(rt;
-        subs.refusal("s", Mode::Failover),
+        subs.refusal("s", Mode::Failover, &[]),
         Some(Refusal::ConsumerBusy)
     );
     subscribe(
         &mut subs,
         "f",
         Mode::Failover,
-        FIRST,
+        seat(rt.alloc(), FIRST),
         InitialPosition::Earliest,
         0,
     )?;
@@ -251,16 +294,16 @@ fn second_consumers(rt: HostRuntime) -> Result<(), Fail> {
             &mut subs,
             "f",
             Mode::Failover,
-            SECOND,
+            seat(rt.alloc(), SECOND),
             InitialPosition::Earliest,
             0
         )?,
         None
     );
     assert_eq!(rt; subs.grant(SECOND, 1), Ok(()));
-    assert_eq!(rt; subs.pick(SECOND, 1), None);
+    assert_eq!(rt; pick(&mut subs, SECOND, 1)?, None);
     subs.leave(0);
-    assert_eq!(rt; subs.pick(SECOND, 1), Some(0));
+    assert_eq!(rt; pick(&mut subs, SECOND, 1)?, Some(0));
     Ok(())
 }
 
@@ -271,7 +314,7 @@ fn most_permits(rt: HostRuntime) -> Result<(), Fail> {
         &mut subs,
         "s",
         Mode::Exclusive,
-        FIRST,
+        seat(rt.alloc(), FIRST),
         InitialPosition::Earliest,
         0,
     )?;
@@ -290,14 +333,14 @@ fn shared_consumers(rt: HostRuntime) -> Result<(), Fail> {
             &mut subs,
             "s",
             Mode::Shared,
-            key,
+            seat(rt.alloc(), key),
             InitialPosition::Earliest,
             0,
         )?;
         assert_eq!(rt; subs.grant(key, 1), Ok(()));
     }
     assert_eq!(rt;
-        subs.refusal("s", Mode::Failover),
+        subs.refusal("s", Mode::Failover, &[]),
         Some(Refusal::ConsumerBusy)
     );
     assert!(rt; subs.shares(FIRST));
@@ -325,7 +368,7 @@ fn failover_gives_back_all(rt: HostRuntime) -> Result<(), Fail> {
             &mut subs,
             "f",
             Mode::Failover,
-            key,
+            seat(rt.alloc(), key),
             InitialPosition::Earliest,
             0,
         )?;

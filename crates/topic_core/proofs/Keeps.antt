@@ -1,6 +1,6 @@
 -- Each step keeps a topic sound; what a flush commits.
 use Rattle.std.proofs.lemmas.List.{take_all, drop_all, length-take, take-append-le}
-use Rattle.std.proofs.Common.{◌≡◌, ⊎_elim, ℕ, ◌+◌, ◌≤◌, ◌^◌, Bool, true, false, cond, not, ◌&&◌, Option, Some, None, is_some, Result, Ok, Err, List, [], ◌∷◌, ◌++◌, length, map, take, refl, subst, sym, ap, ◌∙◌, arith, length-append}
+use Rattle.std.proofs.Common.{◌≡◌, ⊎_elim, ℕ, ◌+◌, ◌≤◌, ◌^◌, Bool, true, false, cond, not, ◌&&◌, Option, Some, None, is_some, Result, Ok, Err, List, [], ◌∷◌, ◌++◌, length, map, take, refl, subst, sym, ap, ◌∙◌, arith, length-append, append_assoc, append-nil}
 use Rattle.commands.specs.declared.reply.Reply.{Reply}
 use Rattle.commands.specs.declared.reply.Reply.TheVariants.{ProducerSuccess, SendError, Success, Error}
 use Rattle.topic_core.specs.declared.producer.Producer.{Producer}
@@ -15,6 +15,7 @@ use Rattle.topic_core.specs.declared.command.TopicCommand.TheVariants as command
 use Rattle.topic_core.specs.declared.command.Answer.{Answer}
 use Rattle.topic_core.specs.declared.command.Answer.TheVariants.{Now, Later, Nothing, NoMemory}
 use Rattle.holds.specs.declared.consumer.ConsumerKey.{ConsumerKey}
+use Rattle.holds.specs.declared.consumer.Consumer.{Consumer as Seat}
 use Rattle.records.specs.Maps.{Kept}
 use Rattle.records.specs.Records.{after_all}
 use Rattle.subscriptions.specs.Laws.{IsKept}
@@ -27,9 +28,11 @@ use Rattle.subscriptions.proofs.Limits.{each_sound, each_committed, picked}
 use Rattle.subscriptions.proofs.Durable.{are_kept}
 use Rattle.topic_core.specs.declared.dispatch.Outgoing.{Outgoing}
 use Rattle.reply_queues.specs.Replies.{SessionReplies, is_for, due_to, pending_to, make_all_due}
+use Rattle.topic_core.proofs.Maps.{length-map, map-append}
+use Rattle.topic_core.specs.Slots.{slot_of_entry}
 use Rattle.topic_core.specs.Core.{Core, Topic, Doubt, opened, entries_of, changes_of, entries_in_doubt, changes_in_doubt}
 use Rattle.topic_core.specs.Soundness.{IsSound, AreReceipts, IsSoundTopic}
-use Rattle.topic_core.specs.Steps.{CoreStep, TopicStep, Collects, GrantStep, outcome_of, refused_or, first_standing, producer_refusals, send_refusals, with_producer, accepted, bytes_of, subscribe_refusal, subscribed, close_refusals, closing, unsubscribe_refusal, unsubscribed, ack_refusals, ack_refused, ack_accepted, detach_refusals, detached, asked_back, key_of, start_of, granted, grants_too_many, left}
+use Rattle.topic_core.specs.Steps.{CoreStep, TopicStep, Collects, GrantStep, outcome_of, refused_or, first_standing, producer_refusals, send_refusals, with_producer, accepted, bytes_of, subscribe_refusal, subscribed, close_refusals, closing, unsubscribe_refusal, unsubscribed, ack_refusals, ack_refused, ack_accepted, detach_refusals, detached, asked_back, key_of, seat_of, start_of, granted, grants_too_many, left}
 use Rattle.topic_core.specs.Dispatch.{Admits, Dispatches, DispatchStep, sent}
 use Rattle.topic_core.specs.Flush.{handed_on, flushed_topic, failed_topic, FlushStep, FlushIn, FlushEnds}
 use Rattle.topic_core.specs.Crashes.{IsLeft, TopicCrash, ReopenStep, ReopenEnds, ReopenIn, reopened, longer, changed}
@@ -37,7 +40,7 @@ use Rattle.topic_core.proofs.Openings.{sound-opened, receipts-opened, sound-reop
 use Rattle.topic_core.specs.Laws.{IsFlushed, IsAdmitted}
 use Rattle.topic_core.proofs.Sends.{takes_entry, sound-accepted, receipts-accepted}
 use Rattle.topic_core.proofs.Collects.{sound-collected, receipts-collected, sound-left, receipts-left}
-use Rattle.topic_core.proofs.Subscribing.{sound-subs, receipts-subs, sound-subscribed, receipts-subscribed, kept-subscribed, accepts, sound-acked, receipts-acked, kept-acked, committed-acked, first-acked}
+use Rattle.topic_core.proofs.Subscribing.{sound-subs, receipts-subs, sound-subscribed, receipts-subscribed, kept-subscribed, accepts, sound-acked, receipts-acked, kept-acked, committed-acked, first-acked, slots-attached, slots-acked}
 use Rattle.topic_core.proofs.Producers.{AreKeptBack, all_opened}
 use Rattle.topic_core.proofs.Closings.{sound-producers, receipts-producers, close-works, sound-closing, receipts-closing, sound-unsubscribed, receipts-unsubscribed, kept-unsubscribed, changes-unsubscribed}
 use Rattle.topic_core.proofs.Flushes.{sound-handed_on, receipts-handed_on, sound-finished, receipts-finished, sound-failed, receipts-failed}
@@ -54,12 +57,14 @@ pub record Stays (old new : Core) : Type 0 where
   pub entries : entries_in_doubt new ≡ entries_in_doubt old
   pub changes : changes_in_doubt new ≡ changes_in_doubt old
   pub per_ledger : new.per_ledger ≡ old.per_ledger
+  -- where each entry had its slot, each has
+  pub slots : (ledger : List (List ℕ)) → old.subs.slots ≡ map slot_of_entry (ledger ++ old.waiting) → new.subs.slots ≡ map slot_of_entry (ledger ++ new.waiting)
 
 abbrev pub Keeps : Core → Core → Type 0
 Keeps old new = IsSound old → AreReceipts old → Stays old new
 
 still : (t : Core) → Keeps t t
-still t sound receipts = record { sound = sound; receipts = receipts; committed = refl; kept = λ kept is. is; failed = refl; per_ledger = refl; entries = refl; changes = refl }
+still t sound receipts = record { sound = sound; receipts = receipts; committed = refl; kept = λ kept is. is; failed = refl; per_ledger = refl; entries = refl; changes = refl; slots = λ ledger are. are }
 
 with-producers : (t : Core) (ps : List Producer) → (AreKeptBack t.producers → AreKeptBack ps) → Keeps t (record t { producers = ps })
 with-producers t ps to sound are = record {
@@ -71,12 +76,13 @@ with-producers t ps to sound are = record {
   per_ledger = refl;
   entries = refl;
   changes = refl;
+  slots = λ ledger is. is;
 }
 
-doubt-attached : (t : Core) (name : List ℕ) (mode : Mode) (key : ConsumerKey) (start : ℕ) → changes_of t.doubt ≤ length t.subs.changes
-    → take (changes_of t.doubt) (subscriptions.attached t.subs name mode key start).changes ≡ take (changes_of t.doubt) t.subs.changes
-doubt-attached t name mode key start low =
-    elim (find (subscriptions.is_named name) t.subs.subs) as (λ o. take (changes_of t.doubt) (subscriptions.attached_at o t.subs name mode key start).changes ≡ take (changes_of t.doubt) t.subs.changes) [
+doubt-attached : (t : Core) (name : List ℕ) (mode : Mode) (seat : Seat) (start : ℕ) → changes_of t.doubt ≤ length t.subs.changes
+    → take (changes_of t.doubt) (subscriptions.attached t.subs name mode seat start).changes ≡ take (changes_of t.doubt) t.subs.changes
+doubt-attached t name mode seat start low =
+    elim (find (subscriptions.is_named name) t.subs.subs) as (λ o. take (changes_of t.doubt) (subscriptions.attached_at o t.subs name mode seat start).changes ≡ take (changes_of t.doubt) t.subs.changes) [
       | None ↦ take-append-le (changes_of t.doubt) t.subs.changes (Made name start ∷ []) low
       | Some s ↦ refl
     ]
@@ -97,10 +103,23 @@ changes-acked : (t : Core) (who : ℕ) (ack : Ack) → changes_of t.doubt ≤ le
 changes-acked t who ack low None = first-acked (changes_of t.doubt) ack.ack_type t.subs _ _ low
 changes-acked t who ack low (Some request) = first-acked (changes_of t.doubt) ack.ack_type t.subs _ _ low
 
+slots-answered : (t : Core) (who : ℕ) (ack : Ack) (ledger : List (List ℕ)) → t.subs.slots ≡ map slot_of_entry (ledger ++ t.waiting)
+    → (request : Option ℕ) → (ack_accepted t who ack request).core.subs.slots ≡ map slot_of_entry (ledger ++ (ack_accepted t who ack request).core.waiting)
+slots-answered t who ack ledger is None = slots-acked ack.ack_type t.subs _ _ ∙ is
+slots-answered t who ack ledger is (Some request) = slots-acked ack.ack_type t.subs _ _ ∙ is
+
+-- the slot of an accepted entry comes last
+slots-accepted : (t : Core) (ledger : List (List ℕ)) (entry : List ℕ) → t.subs.slots ≡ map slot_of_entry (ledger ++ t.waiting)
+    → t.subs.slots ++ slot_of_entry entry ∷ [] ≡ map slot_of_entry (ledger ++ (t.waiting ++ entry ∷ []))
+slots-accepted t ledger entry is =
+    ap (λ (slots : List ℕ). slots ++ slot_of_entry entry ∷ []) is
+    ∙ sym (map-append slot_of_entry (ledger ++ t.waiting) (entry ∷ []))
+    ∙ ap (λ (entries : List (List ℕ)). map slot_of_entry entries) (append_assoc ledger t.waiting (entry ∷ []))
+
 -- the subscriptions alone change, and add no change
 pub detached-keeps : (t : Core) (key : ConsumerKey) → Keeps t (record t { subs = subscriptions.detached t.subs key })
 detached-keeps t key sound are = record {
-  sound = sound-subs t (subscriptions.detached t.subs key) sound (each_sound.detach t.subs key sound.subs) (each_committed.detach t.committed t.subs key sound.sent) (omega arith);
+  sound = sound-subs t (subscriptions.detached t.subs key) sound (each_sound.detach t.subs key sound.subs) (each_committed.detach t.committed t.subs key sound.sent) (omega arith) refl;
   receipts = receipts-subs t (subscriptions.detached t.subs key) are;
   committed = refl;
   kept = λ kept is. are_kept.detach t.committed kept t.subs key is;
@@ -108,11 +127,12 @@ detached-keeps t key sound are = record {
   per_ledger = refl;
   entries = refl;
   changes = refl;
+  slots = λ ledger is. is;
 }
 
 pub redelivered-keeps : (t : Core) (key : ConsumerKey) (asked : Option (List ℕ)) → Keeps t (record t { subs = subscriptions.redelivered t.subs key asked })
 redelivered-keeps t key asked sound are = record {
-  sound = sound-subs t (subscriptions.redelivered t.subs key asked) sound (each_sound.redeliver t.subs key asked sound.subs) (each_committed.redeliver t.committed t.subs key asked sound.sent) (omega arith);
+  sound = sound-subs t (subscriptions.redelivered t.subs key asked) sound (each_sound.redeliver t.subs key asked sound.subs) (each_committed.redeliver t.committed t.subs key asked sound.sent) (omega arith) refl;
   receipts = receipts-subs t (subscriptions.redelivered t.subs key asked) are;
   committed = refl;
   kept = λ kept is. are_kept.redeliver t.committed kept t.subs key asked is;
@@ -120,6 +140,7 @@ redelivered-keeps t key asked sound are = record {
   per_ledger = refl;
   entries = refl;
   changes = refl;
+  slots = λ ledger is. is;
 }
 
 outcome-keeps : (t : Core) (who : ℕ) (c : TopicCommand) → Keeps t (outcome_of t who c).core
@@ -135,11 +156,12 @@ outcome-keeps t who (command.Send send) =
         sound = sound-accepted t who send.producer_id send.sequence_id (bytes_of send.entry) sound fits.0 fits.1 fits.2 fits.3;
         receipts = receipts-accepted t who send.producer_id send.sequence_id (bytes_of send.entry) sound are;
         committed = refl;
-        kept = λ kept is. is;
+        kept = λ kept is. are_kept.slot t.committed kept t.subs (slot_of_entry (bytes_of send.entry) ∷ []) is;
         failed = refl;
         per_ledger = refl;
         entries = take-append-le (entries_of t.doubt) t.waiting (bytes_of send.entry ∷ []) (omega (arith, sound.promises));
         changes = refl;
+        slots = λ ledger is. slots-accepted t ledger (bytes_of send.entry) is;
       }
       | Some error ↦ λ _. still t
     ] refl
@@ -154,7 +176,8 @@ outcome-keeps t who (command.Subscribe s) =
         failed = refl;
         per_ledger = refl;
         entries = refl;
-        changes = doubt-attached t s.subscription s.mode (key_of who s.consumer_id) (subscriptions.start_of (start_of s.initial) t.committed) sound.changes;
+        changes = doubt-attached t s.subscription s.mode (seat_of who s) (subscriptions.start_of (start_of s.initial) t.committed) sound.changes;
+        slots = λ ledger is. slots-attached t.subs s.subscription s.mode (seat_of who s) (subscriptions.start_of (start_of s.initial) t.committed) ∙ is;
       }
       | Some error ↦ λ _. still t
     ] refl
@@ -170,6 +193,7 @@ outcome-keeps t who (command.Ack ack) =
         per_ledger = per_ledger-acked t who ack ack.request_id;
         entries = entries-acked t who ack ack.request_id;
         changes = changes-acked t who ack sound.changes ack.request_id;
+        slots = λ ledger is. slots-answered t who ack ledger is ack.request_id;
       }
       | Some error ↦ λ _. still t
     ] refl
@@ -185,6 +209,7 @@ outcome-keeps t who (command.CloseProducer close) =
         per_ledger = refl;
         entries = refl;
         changes = refl;
+        slots = λ ledger is. is;
       }
       | Some error ↦ λ _. still t
     ] refl
@@ -200,6 +225,7 @@ outcome-keeps t who (command.Unsubscribe u) =
         per_ledger = refl;
         entries = refl;
         changes = changes-unsubscribed t who u none sound;
+        slots = λ ledger is. is;
       }
       | Some error ↦ λ _. still t
     ] refl
@@ -231,6 +257,7 @@ topic-sound old new stays sound = record {
   receipts = stays.receipts;
   counted = sound.counted ∙ sym stays.committed;
   kept = subst (λ c. IsKept c old.kept new.subs) (sym stays.committed) (stays.kept old.kept sound.kept);
+  slots = stays.slots old.ledger sound.slots;
 }
 
 pub command-sound : (old : Topic) (who : ℕ) (c : TopicCommand) (answer : Answer) (new : Topic) → TopicStep old who c answer new → IsSoundTopic old → IsSoundTopic new
@@ -241,12 +268,13 @@ command-sound old who c answer new step sound =
       receipts = stays.receipts;
       counted = ap (λ (l : List (List ℕ)). length l) step.ledger ∙ sound.counted ∙ sym stays.committed;
       kept = let P : Kept → Type 0 = λ k. IsKept new.core.committed k new.core.subs in subst P (sym step.kept) (subst (λ c. IsKept c old.kept new.core.subs) (sym stays.committed) (stays.kept old.kept sound.kept));
+      slots = stays.slots old.ledger sound.slots ∙ ap (λ (l : List (List ℕ)). map slot_of_entry (l ++ new.core.waiting)) (sym step.ledger);
     }
 
 -- a FLOW
 with-subs : (t : Core) (permits : ℕ) (key : ConsumerKey) → subscriptions.grants_too_many t.subs key permits ≡ false → Keeps t (record t { subs = subscriptions.granted t.subs key permits })
 with-subs t permits key few sound are = record {
-  sound = sound-subs t (subscriptions.granted t.subs key permits) sound (each_sound.grant t.subs key permits few sound.subs) (each_committed.grant t.committed t.subs key permits sound.sent) (omega arith);
+  sound = sound-subs t (subscriptions.granted t.subs key permits) sound (each_sound.grant t.subs key permits few sound.subs) (each_committed.grant t.committed t.subs key permits sound.sent) (omega arith) refl;
   receipts = receipts-subs t (subscriptions.granted t.subs key permits) are;
   committed = refl;
   kept = λ kept is. are_kept.grant t.committed kept t.subs key permits is;
@@ -254,6 +282,7 @@ with-subs t permits key few sound are = record {
   per_ledger = refl;
   entries = refl;
   changes = refl;
+  slots = λ ledger is. is;
 }
 
 granted-keeps : (t : Core) (who id permits : ℕ) → grants_too_many t who id permits ≡ false → Keeps t (granted t who id permits)
@@ -274,7 +303,7 @@ grant-sound old who id permits result new h sound = topic-sound old new (grant-k
 -- a dispatch
 pub sent-keeps : (t : Core) (key : ConsumerKey) (i : ℕ) → Admits t key i → Keeps t (sent t key i)
 sent-keeps t key i a sound are = record {
-  sound = sound-subs t (subscriptions.sent t.subs key i) sound (each_sound.send t.subs key t.committed i a.admitted sound.subs) (each_committed.send t.committed t.subs key i a.admitted sound.sent) (omega arith);
+  sound = sound-subs t (subscriptions.sent t.subs key i) sound (each_sound.send t.subs key t.committed i a.admitted sound.subs) (each_committed.send t.committed t.subs key i a.admitted sound.sent) (omega arith) refl;
   receipts = receipts-subs t (subscriptions.sent t.subs key i) are;
   committed = refl;
   kept = λ kept is. are_kept.send t.committed kept t.subs key i is;
@@ -282,6 +311,7 @@ sent-keeps t key i a sound are = record {
   per_ledger = refl;
   entries = refl;
   changes = refl;
+  slots = λ ledger is. is;
 }
 
 pub dispatch-keeps : (t : Core) (ledger : List (List ℕ)) (key : ConsumerKey) (result : Result (Option Outgoing) Refusal) (new : Core) → Dispatches t ledger key result new → Keeps t new
@@ -302,6 +332,7 @@ dispatch-sound old who id result new step sound =
       receipts = stays.receipts;
       counted = ap (λ (l : List (List ℕ)). length l) step.ledger ∙ sound.counted ∙ sym stays.committed;
       kept = let P : Kept → Type 0 = λ k. IsKept new.core.committed k new.core.subs in subst P (sym step.kept) (subst (λ c. IsKept c old.kept new.core.subs) (sym stays.committed) (stays.kept old.kept sound.kept));
+      slots = stays.slots old.ledger sound.slots ∙ ap (λ (l : List (List ℕ)). map slot_of_entry (l ++ new.core.waiting)) (sym step.ledger);
     }
 
 pub dispatch-admits : (old : Topic) (who id : ℕ) (outgoing : Outgoing) (new : Topic) → DispatchStep old who id (Ok (Some outgoing)) new → (i : ℕ) × IsAdmitted old who id outgoing i
@@ -332,6 +363,7 @@ flushed-sound old sound = record {
   receipts = subst (λ (t : Core). AreReceipts t) (finished-handed_on old.core) (receipts-finished (handed_on old.core) (sound-handed_on old.core sound.core) (receipts-handed_on old.core sound.core sound.receipts));
   counted = omega (arith, length-append old.ledger old.core.waiting, sound.counted);
   kept = flushed-kept old.core old.kept sound.kept;
+  slots = sound.slots ∙ ap (λ (entries : List (List ℕ)). map slot_of_entry entries) (sym (append-nil (old.ledger ++ old.core.waiting)));
 }
 
 failed-sound : (old : Topic) → IsSoundTopic old → IsSoundTopic (failed_topic old)
@@ -340,6 +372,7 @@ failed-sound old sound = record {
   receipts = receipts-failed (handed_on old.core) (sound-handed_on old.core sound.core) (receipts-handed_on old.core sound.core sound.receipts);
   counted = sound.counted;
   kept = sound.kept;
+  slots = sound.slots;
 }
 
 along : (a b : Topic) → a ≡ b → IsSoundTopic b → IsSoundTopic a
@@ -392,21 +425,23 @@ core-is ledger kept a b e h = subst (λ (c : Core). IsSoundTopic (record { core 
 pub crash-sound : (old new : Topic) → TopicCrash old new → IsSoundTopic old → IsSoundTopic new
 crash-sound old new crash sound =
     let fits = left-fits old new.ledger new.kept sound crash.left in
-    core-is new.ledger new.kept new.core (opened old.core.per_ledger (length new.ledger) new.kept) crash.core (record {
-      core = sound-opened old.core.per_ledger (length new.ledger) new.kept sound.core.numbered fits.1 fits.2;
-      receipts = receipts-opened old.core.per_ledger (length new.ledger) new.kept;
+    core-is new.ledger new.kept new.core (opened old.core.per_ledger (length new.ledger) (map slot_of_entry new.ledger) new.kept) crash.core (record {
+      core = sound-opened old.core.per_ledger (length new.ledger) (map slot_of_entry new.ledger) new.kept sound.core.numbered fits.1 (length-map slot_of_entry new.ledger) fits.2;
+      receipts = receipts-opened old.core.per_ledger (length new.ledger) (map slot_of_entry new.ledger) new.kept;
       counted = refl;
-      kept = are_kept.opened (length new.ledger) new.kept fits.2;
+      kept = are_kept.slot (length new.ledger) new.kept (subscriptions.opened new.kept) (map slot_of_entry new.ledger) (are_kept.opened (length new.ledger) new.kept fits.2);
+      slots = ap (λ (entries : List (List ℕ)). map slot_of_entry entries) (sym (append-nil new.ledger));
     })
 
 reopen-ends-sound : (old : Topic) (result : Result (Unit {0}) Refusal) (new : Topic) → old.core.failed ≡ true → ReopenEnds old result new → IsSoundTopic old → IsSoundTopic new
 reopen-ends-sound old (Ok done) new was h sound =
     let fits = left-fits old new.ledger new.kept sound h.0 in
-    core-is new.ledger new.kept new.core (reopened old.core (length new.ledger) new.kept) h.1 (record {
-      core = sound-reopened old.core (length new.ledger) new.kept sound.core was fits.0 fits.1 fits.2;
-      receipts = receipts-reopened old.core (length new.ledger) new.kept sound.core sound.receipts was fits.0;
+    core-is new.ledger new.kept new.core (reopened old.core (length new.ledger) (map slot_of_entry new.ledger) new.kept) h.1 (record {
+      core = sound-reopened old.core (length new.ledger) (map slot_of_entry new.ledger) new.kept sound.core was fits.0 fits.1 (length-map slot_of_entry new.ledger) fits.2;
+      receipts = receipts-reopened old.core (length new.ledger) (map slot_of_entry new.ledger) new.kept sound.core sound.receipts was fits.0;
       counted = refl;
-      kept = are_kept.opened (length new.ledger) new.kept fits.2;
+      kept = are_kept.slot (length new.ledger) new.kept (subscriptions.opened new.kept) (map slot_of_entry new.ledger) (are_kept.opened (length new.ledger) new.kept fits.2);
+      slots = ap (λ (entries : List (List ℕ)). map slot_of_entry entries) (sym (append-nil new.ledger));
     })
 reopen-ends-sound old (Err refusal.NoMemory) new was h sound = along new old h sound
 reopen-ends-sound old (Err refusal.Device) new was h sound = along new old h sound
@@ -430,15 +465,15 @@ collect-sound old who (Some reply) new h sound are = both new _ h.1 (sound-colle
 
 pub collect-keeps : (t : Core) (who : ℕ) (reply : Option Reply) (new : Core) → Collects t who reply new → Keeps t new
 collect-keeps t who None new h = to t new t h.1 (still t)
-collect-keeps t who (Some reply) new h = to t new _ h.1 (λ s r. record { sound = sound-collected t who s reply _ h.0; receipts = receipts-collected t who s reply r; committed = refl; kept = λ kept is. is; failed = refl; per_ledger = refl; entries = refl; changes = refl })
+collect-keeps t who (Some reply) new h = to t new _ h.1 (λ s r. record { sound = sound-collected t who s reply _ h.0; receipts = receipts-collected t who s reply r; committed = refl; kept = λ kept is. is; failed = refl; per_ledger = refl; entries = refl; changes = refl; slots = λ ledger is. is })
 
 pub leave-keeps : (t : Core) (who : ℕ) → Keeps t (left t who)
-leave-keeps t who s r = record { sound = sound-left t who s; receipts = receipts-left t who s r; committed = refl; kept = λ kept is. are_kept.leave t.committed kept t.subs who is; failed = refl; per_ledger = refl; entries = refl; changes = refl }
+leave-keeps t who s r = record { sound = sound-left t who s; receipts = receipts-left t who s r; committed = refl; kept = λ kept is. are_kept.leave t.committed kept t.subs who is; failed = refl; per_ledger = refl; entries = refl; changes = refl; slots = λ ledger is. is }
 
 pub collected-sound : (old : Topic) (who : ℕ) (reply : Option Reply) (new : Core) → Collects old.core who reply new → IsSoundTopic old → IsSoundTopic (record old { core = new })
 collected-sound old who None new h sound = topic-sound old new (to old.core new old.core h.1 (still old.core) sound.core sound.receipts) sound
 collected-sound old who (Some reply) new h sound =
-    topic-sound old new (to old.core new _ h.1 (λ s r. record { sound = sound-collected old.core who s reply _ h.0; receipts = receipts-collected old.core who s reply r; committed = refl; kept = λ kept is. is; failed = refl; per_ledger = refl; entries = refl; changes = refl }) sound.core sound.receipts) sound
+    topic-sound old new (to old.core new _ h.1 (λ s r. record { sound = sound-collected old.core who s reply _ h.0; receipts = receipts-collected old.core who s reply r; committed = refl; kept = λ kept is. is; failed = refl; per_ledger = refl; entries = refl; changes = refl; slots = λ ledger is. is }) sound.core sound.receipts) sound
 
 pub leave-sound : (old : Topic) (who : ℕ) → IsSoundTopic old → IsSoundTopic (record old { core = left old.core who })
 leave-sound old who sound = topic-sound old (left old.core who) (record {
@@ -450,6 +485,7 @@ leave-sound old who sound = topic-sound old (left old.core who) (record {
   per_ledger = refl;
   entries = refl;
   changes = refl;
+  slots = λ ledger is. is;
 }) sound
 
 -- the replies of a session, when all are made due

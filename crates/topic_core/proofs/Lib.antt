@@ -1,4 +1,5 @@
 pub mod Ids
+pub mod Maps
 pub mod Queues
 pub mod Receipts
 pub mod Producers
@@ -9,6 +10,7 @@ pub mod Subscribing
 pub mod GivenBack
 pub mod Closings
 pub mod Openings
+pub mod Filling
 pub mod Flushing
 pub mod Steps
 pub mod Sizes
@@ -16,3 +18,4 @@ pub mod Cursors
 pub mod Writing
 pub mod Standings
 pub mod Keeps
+pub mod Ranges

@@ -4,6 +4,7 @@ use Rattle.std.specs.List.{AllByRecursion, IsDistinct}
 use Rattle.commands.specs.declared.reply.Reply.{Reply}
 use Rattle.records.specs.Maps.{Kept}
 use Rattle.reply_queues.specs.Replies.{SessionReplies, receipts_in}
+use Rattle.subscriptions.specs.Steps as subscriptions
 use Rattle.subscriptions.specs.Laws.{AreDurable}
 use Rattle.subscriptions.proofs.Limits.{each_sound, each_committed}
 use Rattle.topic_core.specs.Core.{Core, opened, entries_of}
@@ -16,8 +17,8 @@ no_sessions : IsDistinct nat_eq []
 unfolding IsDistinct
 no_sessions = tt
 
-pub sound-opened : (n committed : ℕ) (kept : Kept) → 0 < n → committed ≤ 2 ^ 62 → AreDurable kept → IsSound (opened n committed kept)
-sound-opened n committed kept some few durable = record {
+pub sound-opened : (n committed : ℕ) (slots : List ℕ) (kept : Kept) → 0 < n → committed ≤ 2 ^ 62 → length slots ≡ committed → AreDurable kept → IsSound (opened n committed slots kept)
+sound-opened n committed slots kept some few each_one durable = record {
   numbered = some;
   few = omega arith;
   small = omega arith;
@@ -34,12 +35,13 @@ sound-opened n committed kept some few durable = record {
   sure = λ none. tt;
   closing = λ none. tt;
   told = λ failed. tt;
-  subs = each_sound.opened kept durable;
-  sent = each_committed.opened committed kept;
+  subs = each_sound.slot (subscriptions.opened kept) slots (each_sound.opened kept durable);
+  slotted = omega (arith, each_one);
+  sent = each_committed.slot committed (subscriptions.opened kept) slots (each_committed.opened committed kept);
 }
 
-pub receipts-opened : (n committed : ℕ) (kept : Kept) → AreReceipts (opened n committed kept)
-receipts-opened n committed kept = record { each = tt; single = λ k. omega arith }
+pub receipts-opened : (n committed : ℕ) (slots : List ℕ) (kept : Kept) → AreReceipts (opened n committed slots kept)
+receipts-opened n committed slots kept = record { each = tt; single = λ k. omega arith }
 
 none-handed : (q : SessionReplies) → (q.pending ≡ []) × (q.handed_on ≤ length q.pending) → q.handed_on ≡ 0
 none-handed q x = omega (arith, x.1, ap (λ (rs : List Reply). length rs) x.0)
@@ -50,13 +52,13 @@ none-first q x = ap (λ n. take n q.pending) (none-handed q x)
 none-left : (q : SessionReplies) → (q.pending ≡ []) × (q.handed_on ≤ length q.pending) → drop q.handed_on q.pending ≡ []
 none-left q x = ap (λ n. drop n q.pending) (none-handed q x) ∙ x.0
 
-module _ (t : Core) (committed : ℕ) (kept : Kept) (sound : IsSound t) where
+module _ (t : Core) (committed : ℕ) (slots : List ℕ) (kept : Kept) (sound : IsSound t) where
   -- nothing of a failed topic awaits a flush
   quiet : t.failed ≡ true → AllByRecursion (λ q. (q.pending ≡ []) × (q.handed_on ≤ length q.pending)) t.queues
   quiet was = all-both (λ q. q.pending ≡ []) (λ q. q.handed_on ≤ length q.pending) t.queues (sound.told was) sound.within
 
-  pub sound-reopened : t.failed ≡ true → t.committed ≤ committed → committed ≤ 2 ^ 62 → AreDurable kept → IsSound (reopened t committed kept)
-  sound-reopened was more few durable =
+  pub sound-reopened : t.failed ≡ true → t.committed ≤ committed → committed ≤ 2 ^ 62 → length slots ≡ committed → AreDurable kept → IsSound (reopened t committed slots kept)
+  sound-reopened was more few each_one durable =
       let on = sum_by-none (λ (q : SessionReplies). receipts_in (take q.handed_on q.pending)) t.queues (all-each _ _ t.queues (λ q x. ap (λ rs. receipts_in rs) (none-first q x)) (quiet was)) in
       let left = sum_by-none (λ (q : SessionReplies). receipts_in (drop q.handed_on q.pending)) t.queues (all-each _ _ t.queues (λ q x. ap (λ rs. receipts_in rs) (none-left q x)) (quiet was)) in
       record {
@@ -76,11 +78,12 @@ module _ (t : Core) (committed : ℕ) (kept : Kept) (sound : IsSound t) where
         sure = λ none. all-each _ _ t.queues (λ q x. none-handed q x) (quiet was);
         closing = λ none. tt;
         told = λ failed. all-each _ _ t.queues (λ q x. x.0) (quiet was);
-        subs = each_sound.opened kept durable;
-        sent = each_committed.opened committed kept;
+        subs = each_sound.slot (subscriptions.opened kept) slots (each_sound.opened kept durable);
+        slotted = omega (arith, each_one);
+        sent = each_committed.slot committed (subscriptions.opened kept) slots (each_committed.opened committed kept);
       }
 
-  pub receipts-reopened : AreReceipts t → t.failed ≡ true → t.committed ≤ committed → AreReceipts (reopened t committed kept)
+  pub receipts-reopened : AreReceipts t → t.failed ≡ true → t.committed ≤ committed → AreReceipts (reopened t committed slots kept)
   receipts-reopened are was more =
       let n = t.per_ledger in
       let h = entries_of t.doubt in

@@ -1,7 +1,7 @@
 -- A flush as a whole, and how a topic stands on its device after it.
-use Rattle.std.proofs.Common.{◌≡◌, inl, inr, ⊎_elim, ℕ, ◌≤◌, Bool, true, false, ◌||◌, Some, None, is_some, Result, Ok, Err, List, [], ◌++◌, length, take, refl, sym, ap, subst, ◌∙◌, arith, append-nil, length-append}
+use Rattle.std.proofs.Common.{◌≡◌, inl, inr, ⊎_elim, ℕ, ◌≤◌, Bool, true, false, ◌||◌, Some, None, is_some, Result, Ok, Err, List, [], ◌++◌, length, take, map, refl, sym, ap, subst, ◌∙◌, arith, append-nil, append_assoc, length-append}
 use Rattle.std.proofs.lemmas.Bool.{true≢false}
-use Rattle.std.proofs.lemmas.List.{take_all, length-take-le}
+use Rattle.std.proofs.lemmas.List.{take_all, take-append-drop, length-take-le}
 use Rattle.disk.specs.Disk.{Disk, Image}
 use Rattle.gated_log.specs.declared.refusal.Refusal.{Refusal}
 use Rattle.gated_log.specs.declared.refusal.Refusal.TheVariants as refusal
@@ -9,6 +9,7 @@ use Rattle.managed_ledger.specs.Entries.{Entries}
 use Rattle.records.specs.declared.record.Record.{Record}
 use Rattle.records.specs.Maps.{Kept}
 use Rattle.records.specs.Records.{after_all}
+use Rattle.topic_core.specs.Slots.{slot_of_entry}
 use Rattle.topic_core.specs.Core.{Core, Topic, entries_of, changes_of, entries_in_doubt, changes_in_doubt}
 use Rattle.holds.specs.declared.consumer.ConsumerKey.{ConsumerKey}
 use Rattle.topic_core.specs.Soundness.{IsSound, AreReceipts}
@@ -54,8 +55,8 @@ pub record AreLawful (v : Views) : Type 0 where
   pub subscriptions : (n : ℕ) (c : Image) (k : Kept) → v.subscriptions.holds n c k → v.subscriptions.stands n c k
 
 -- settled stores hold a topic
-pub standing_settled : (t : Core) (v : Views) (d : Disk) → AreLawful v → AreSettled t v d → Standing t v d
-standing_settled t v d laws x =
+pub standing_settled : (t : Core) (v : Views) (d : Disk) → AreLawful v → AreSettled t v d → t.subs.slots ≡ map slot_of_entry (v.entries.content d.seen ++ t.waiting) → Standing t v d
+standing_settled t v d laws x slots =
     let l = v.entries.content d.seen in
     let all : take t.committed l ≡ l = take_all t.committed l (omega (arith, x.counted)) in
     record {
@@ -70,6 +71,7 @@ standing_settled t v d laws x =
         subscriptions = laws.subscriptions (length l) c v.subscriptions.kept (subst (λ n. v.subscriptions.holds n c v.subscriptions.kept) (sym x.counted) (x.subscriptions.left c may));
       };
       settled = λ works. x;
+      slots = slots ∙ ap (λ (z : Entries). map slot_of_entry (z ++ t.waiting)) (sym all);
     }
 
 -- ---- the end of a flush
@@ -80,8 +82,8 @@ left_like a b el ek ee ec l k (inl x) = inl (x.0 ∙ el, x.1 ∙ ek)
 left_like a b el ek ee ec l k (inr (inl x)) = inr (inl (x.0 ∙ ap (λ (z : Entries). z ++ entries_in_doubt a.core) el ∙ ap (λ (z : Entries). b.ledger ++ z) ee, x.1 ∙ ek))
 left_like a b el ek ee ec l k (inr (inr x)) = inr (inr (x.0 ∙ ap (λ (z : Entries). z ++ entries_in_doubt a.core) el ∙ ap (λ (z : Entries). b.ledger ++ z) ee, x.1 ∙ ap (λ (z : List Record). after_all z a.kept) ec ∙ ap (λ z. after_all (changes_in_doubt b.core) z) ek))
 
-pub standing_failed : (t : Core) (v w : Views) (was is : Disk) → length (v.entries.content was.seen) ≡ t.committed → IsInDoubt t v w was is → Standing (failed t) w is
-standing_failed t v w was is counted x =
+pub standing_failed : (t : Core) (v w : Views) (was is : Disk) → length (v.entries.content was.seen) ≡ t.committed → IsInDoubt t v w was is → t.subs.slots ≡ map slot_of_entry (take t.committed (v.entries.content was.seen) ++ t.waiting) → Standing (failed t) w is
+standing_failed t v w was is counted x slots =
     let l = v.entries.content was.seen in
     let all : take t.committed l ≡ l = take_all t.committed l (omega (arith, counted)) in
     record {
@@ -96,7 +98,12 @@ standing_failed t v w was is counted x =
         subscriptions = s.subscriptions;
       };
       settled = λ works. absurd (true≢false works);
+      slots = slots ∙ ap (λ (z : Entries). map slot_of_entry (z ++ t.waiting)) (all ∙ sym x.now);
     }
+
+-- what was handed on goes from the waiting entries to the ledger
+moved : (t : Core) (ledger : Entries) → ledger ++ t.waiting ≡ (ledger ++ entries_in_doubt t) ++ (finished t).waiting
+moved t ledger = ap (λ (z : Entries). ledger ++ z) (sym (take-append-drop (entries_of t.doubt) t.waiting)) ∙ sym (append_assoc ledger (entries_in_doubt t) (finished t).waiting)
 
 module _ (t : Core) (sound : IsSound t) (works : t.failed ≡ false) (none : t.doubt ≡ None) (v w : Views) (was is : Disk) where
   abbrev on : Core
@@ -112,14 +119,26 @@ module _ (t : Core) (sound : IsSound t) (works : t.failed ≡ false) (none : t.d
   ends_match (Err refusal.Version) result t2 e f = absurd e
   ends_match (Err refusal.TooLarge) result t2 e f = absurd e
 
-  pub ends_standing : AreLawful w → AreSettled t v was → (written : Result (Unit {0}) Refusal) (result : Result ℕ Refusal) (t2 : Core) → WriteEnds on v written w was is → FinishStep on written result t2 → Standing t2 w is
-  ends_standing laws x (Ok done) result t2 e f = subst (λ (k : Core). Standing k w is) (sym f.1) (standing_settled (finished on) w is laws (e.1 (settled_handed_on t v was x)).settled)
-  ends_standing laws x (Err refusal.NoMemory) result t2 e f = subst (λ (k : Core). Standing k w is) (sym (f.1 ∙ taken_back-handed_on t sound none)) (standing_settled t w is laws (settled_taken_back t w is (e.1 (settled_handed_on t v was x)).settled))
-  ends_standing laws x (Err refusal.Device) result t2 e f = subst (λ (k : Core). Standing k w is) (sym f.1) (standing_failed on v w was is x.counted (e.1 (settled_handed_on t v was x)))
-  ends_standing laws x (Err (refusal.Damaged file offset)) result t2 e f = absurd e
-  ends_standing laws x (Err refusal.NotInitialised) result t2 e f = absurd e
-  ends_standing laws x (Err refusal.Version) result t2 e f = absurd e
-  ends_standing laws x (Err refusal.TooLarge) result t2 e f = absurd e
+  pub ends_standing : AreLawful w → AreSettled t v was → t.subs.slots ≡ map slot_of_entry (take t.committed (v.entries.content was.seen) ++ t.waiting) → (written : Result (Unit {0}) Refusal) (result : Result ℕ Refusal) (t2 : Core) → WriteEnds on v written w was is → FinishStep on written result t2 → Standing t2 w is
+  ends_standing laws x slots (Ok done) result t2 e f = subst (λ (k : Core). Standing k w is) (sym f.1) (
+      let y = e.1 (settled_handed_on t v was x) in
+      let l = v.entries.content was.seen in
+      let all : take t.committed l ≡ l = take_all t.committed l (omega (arith, x.counted)) in
+      standing_settled (finished on) w is laws y.settled
+      (slots ∙ ap (λ (z : Entries). map slot_of_entry (z ++ t.waiting)) all ∙ ap (λ (z : Entries). map slot_of_entry z) (moved on l)
+      ∙ ap (λ (z : Entries). map slot_of_entry (z ++ (finished on).waiting)) (sym y.ledger))
+      )
+  ends_standing laws x slots (Err refusal.NoMemory) result t2 e f = subst (λ (k : Core). Standing k w is) (sym (f.1 ∙ taken_back-handed_on t sound none)) (
+      let y = e.1 (settled_handed_on t v was x) in
+      let l = v.entries.content was.seen in
+      let all : take t.committed l ≡ l = take_all t.committed l (omega (arith, x.counted)) in
+      standing_settled t w is laws (settled_taken_back t w is y.settled) (slots ∙ ap (λ (z : Entries). map slot_of_entry (z ++ t.waiting)) (all ∙ sym y.ledger))
+      )
+  ends_standing laws x slots (Err refusal.Device) result t2 e f = subst (λ (k : Core). Standing k w is) (sym f.1) (standing_failed on v w was is x.counted (e.1 (settled_handed_on t v was x)) slots)
+  ends_standing laws x slots (Err (refusal.Damaged file offset)) result t2 e f = absurd e
+  ends_standing laws x slots (Err refusal.NotInitialised) result t2 e f = absurd e
+  ends_standing laws x slots (Err refusal.Version) result t2 e f = absurd e
+  ends_standing laws x slots (Err refusal.TooLarge) result t2 e f = absurd e
 
   abbrev before : Topic
   before = topic_in t v was.seen
@@ -209,19 +228,24 @@ left_longer t v files l k counted is =
     ⊎_elim (λ x. omega (arith, ap (λ (z : Entries). length z) x.0, size))
     (λ xs. ⊎_elim (λ x. omega (arith, ap (λ (z : Entries). length z) x.0, size, more)) (λ x. omega (arith, ap (λ (z : Entries). length z) x.0, size, more)) xs) is
 
-module _ (t : Core) (v w : Views) (files : Image) (is : Disk) (l : Entries) (k : Kept) (t2 : Core)
-    (content : w.entries.content is.seen ≡ l) (kept : w.subscriptions.kept ≡ k) (total : w.entries.total ≡ length l) (core : t2 ≡ reopened t w.entries.total w.subscriptions.kept) where
+module _ (t : Core) (v w : Views) (files : Image) (is : Disk) (l : Entries) (k : Kept) (slots : List ℕ) (t2 : Core)
+    (content : w.entries.content is.seen ≡ l) (kept : w.subscriptions.kept ≡ k) (total : w.entries.total ≡ length l) (core : t2 ≡ reopened t w.entries.total slots w.subscriptions.kept) (slotted : t2.subs.slots ≡ map slot_of_entry l) where
   size : t2.committed ≡ length l
   size = ap (λ (x : Core). x.committed) core ∙ total
 
   ledger : take t2.committed (w.entries.content is.seen) ≡ l
   ledger = ap (λ (z : Entries). take t2.committed z) content ∙ take_all t2.committed l (omega (arith, size))
 
+  slots_are : slots ≡ map slot_of_entry l
+  slots_are = sym (ap (λ (x : Core). x.subs.slots) core) ∙ slotted
+
   pub reopened_step : t.failed ≡ true → IsLeft (topic_in t v files) l k → ReopenStep (topic_in t v files) (Ok tt) (topic_in t2 w is.seen)
   reopened_step was left =
       let new = topic_in t2 w is.seen in
       let here : IsLeft (topic_in t v files) new.ledger new.kept = subst (λ (z : Entries). IsLeft (topic_in t v files) z new.kept) (sym ledger) (subst (λ z. IsLeft (topic_in t v files) l z) (sym kept) left) in
-      let is_core : new.core ≡ reopened t (length new.ledger) new.kept = core ∙ ap (λ n. reopened t n w.subscriptions.kept) (total ∙ ap (λ (z : Entries). length z) (sym ledger)) in
+      let is_core : new.core ≡ reopened t (length new.ledger) (map slot_of_entry new.ledger) new.kept =
+      core ∙ ap (λ n. reopened t n slots w.subscriptions.kept) (total ∙ ap (λ (z : Entries). length z) (sym ledger))
+      ∙ ap (λ (z : List ℕ). reopened t (length new.ledger) z w.subscriptions.kept) (slots_are ∙ ap (λ (z : Entries). map slot_of_entry z) (sym ledger)) in
       subst (λ b. ReopenIn b (topic_in t v files) (Ok tt) new) (sym was) (here, is_core)
 
   pub reopened_standing : AreLawful w → entries.Settled w.entries.holds is l → subscriptions.Settled (w.subscriptions.holds (length l)) w.subscriptions.written is k → Standing t2 w is
@@ -229,7 +253,7 @@ module _ (t : Core) (v w : Views) (files : Image) (is : Disk) (l : Entries) (k :
     counted = ap (λ (z : Entries). length z) content ∙ sym size;
     entries = subst (λ (z : Entries). entries.Settled w.entries.holds is z) (sym content) e;
     subscriptions = subst (λ z. subscriptions.Settled (w.subscriptions.holds t2.committed) w.subscriptions.written is z) (sym kept) (subst (λ n. subscriptions.Settled (w.subscriptions.holds n) w.subscriptions.written is k) (sym size) s);
-  })
+  }) (slotted ∙ ap (λ (z : Entries). map slot_of_entry z) (sym (ap (λ (z : Entries). z ++ t2.waiting) content ∙ ap (λ (x : Core). l ++ x.waiting) core ∙ append-nil l)))
 
 -- ---- other calls
 
@@ -260,6 +284,7 @@ standing_goes_on old new v d go h = record {
     entries = x.entries;
     subscriptions = subst (λ n. subscriptions.Settled (v.subscriptions.holds n) v.subscriptions.written d v.subscriptions.kept) (sym go.committed) x.subscriptions;
   };
+  slots = go.slots (take new.committed (v.entries.content d.seen)) (h.slots ∙ ap (λ n. map slot_of_entry (take n (v.entries.content d.seen) ++ old.waiting)) (sym go.committed));
 }
 
 goes_on : (old new : Core) → Stays old new → GoesOn old new
@@ -270,10 +295,11 @@ goes_on old new stays = record {
   changes = stays.changes;
   per_ledger = stays.per_ledger;
   kept = λ kept is. subst (λ n. IsKept n kept new.subs) (sym stays.committed) (stays.kept kept is);
+  slots = stays.slots;
 }
 
 pub same-goes_on : (t : Core) → GoesOn t t
-same-goes_on t = record { committed = refl; failed = refl; per_ledger = refl; entries = refl; changes = refl; kept = λ kept is. is }
+same-goes_on t = record { committed = refl; failed = refl; per_ledger = refl; entries = refl; changes = refl; kept = λ kept is. is; slots = λ ledger is. is }
 
 pub sent-goes_on : (t : Core) (key : ConsumerKey) (i : ℕ) → Admits t key i → IsSound t → AreReceipts t → GoesOn t (sent t key i)
 sent-goes_on t key i admits sound are = goes_on t (sent t key i) (sent-keeps t key i admits sound are)

@@ -29,16 +29,16 @@ pub record Topic : Type 0 where
   pub ledger : List (List ℕ)  -- the committed entries
   pub kept : Kept  -- the durable subscriptions: each name's acknowledged positions
 
--- a core that was opened over so many committed entries and these durable subscriptions, and that nothing happened to since
-abbrev pub opened : ℕ → ℕ → Kept → Core
-opened per_ledger committed kept = record {
+-- a core that was opened over so many committed entries, with these slots, and these durable subscriptions, and that nothing happened to since
+abbrev pub opened : ℕ → ℕ → List ℕ → Kept → Core
+opened per_ledger committed slots kept = record {
   per_ledger = per_ledger;
   committed = committed;
   waiting = [];
   accepted = 0;
   handed = 0;
   producers = [];
-  subs = subscriptions.opened kept;
+  subs = subscriptions.slotted (subscriptions.opened kept) slots;
   queues = [];
   doubt = None;
   failed = false;

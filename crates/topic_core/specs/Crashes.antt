@@ -1,9 +1,10 @@
 -- What a crash leaves of a topic, and what an opening makes of a failed one.
-use Rattle.std.specs.Prelude.{◌≡◌, ◌⊎◌, ℕ, Bool, true, false, Result, Ok, Err, List, ◌++◌, length}
+use Rattle.std.specs.Prelude.{◌≡◌, ◌⊎◌, ℕ, Bool, true, false, Result, Ok, Err, List, ◌++◌, length, map}
 use Rattle.gated_log.specs.declared.refusal.Refusal.{Refusal}
 use Rattle.gated_log.specs.declared.refusal.Refusal.TheVariants as refusal
 use Rattle.records.specs.Maps.{Kept}
 use Rattle.records.specs.Records.{after_all}
+use Rattle.topic_core.specs.Slots.{slot_of_entry}
 use Rattle.topic_core.specs.Core.{Core, Topic, opened, entries_in_doubt, changes_in_doubt}
 
 -- the ledger with all entries in doubt, and the durable subscriptions with all changes in doubt
@@ -24,15 +25,15 @@ IsLeft old ledger kept =
 -- what a crash leaves of a topic: its ledger and its durable subscriptions, just opened
 pub record TopicCrash (old new : Topic) : Type 0 where
   pub left : IsLeft old new.ledger new.kept
-  pub core : new.core ≡ opened old.core.per_ledger (length new.ledger) new.kept
+  pub core : new.core ≡ opened old.core.per_ledger (length new.ledger) (map slot_of_entry new.ledger) new.kept
 
 -- a failed topic that was opened again: what it owes and what it counted stay
-abbrev pub reopened : Core → ℕ → Kept → Core
-reopened t committed kept = record (opened t.per_ledger committed kept) { accepted = t.accepted; handed = t.handed; queues = t.queues }
+abbrev pub reopened : Core → ℕ → List ℕ → Kept → Core
+reopened t committed slots kept = record (opened t.per_ledger committed slots kept) { accepted = t.accepted; handed = t.handed; queues = t.queues }
 
 -- the opening of a failed topic: a crash's outcome, or it is refused and the topic stays as it was
 abbrev pub ReopenEnds : Topic → Result (Unit {0}) Refusal → Topic → Type 0
-ReopenEnds old (Ok done) new = IsLeft old new.ledger new.kept × (new.core ≡ reopened old.core (length new.ledger) new.kept)
+ReopenEnds old (Ok done) new = IsLeft old new.ledger new.kept × (new.core ≡ reopened old.core (length new.ledger) (map slot_of_entry new.ledger) new.kept)
 ReopenEnds old (Err refusal.NoMemory) new = new ≡ old
 ReopenEnds old (Err refusal.Device) new = new ≡ old
 ReopenEnds old (Err (refusal.Damaged file offset)) new = ⊥

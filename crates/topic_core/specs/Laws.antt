@@ -1,8 +1,11 @@
 -- What holds of every step of a topic.
-use Rattle.std.specs.Prelude.{◌≡◌, ℕ, ◌+◌, ◌<◌, ◌≤◌, ◌^◌, ◌↔◌, true, false, Option, None, Some, Result, Ok, List, [], ◌∷◌, ◌++◌, length, filter, slice_get}
+use Rattle.std.specs.Prelude.{◌≡◌, ℕ, ◌+◌, ◌<◌, ◌≤◌, ◌^◌, ◌↔◌, true, false, Option, None, Some, Result, Ok, List, [], ◌∷◌, ◌++◌, length, filter, slice_get, IsTrue, IsSomeAnd}
 use Rattle.std.specs.List.{find}
 use Rattle.ids.specs.Ids.{message_id_at, Names}
 use Rattle.ids.specs.declared.message_id.MessageIdData.{MessageIdData}
+use Rattle.holds.specs.Backlog.{in_ranges, attached}
+use Rattle.subscriptions.specs.State.{Subscription}
+use Rattle.subscriptions.specs.declared.consumer.Mode.TheVariants.{KeyShared}
 use Rattle.subscriptions.specs.Steps.{is_on, sent_before}
 use Rattle.subscriptions.specs.Laws.{IsOpenFor}
 use Rattle.records.specs.Records.{after_all}
@@ -16,6 +19,7 @@ use Rattle.topic_core.specs.declared.command.Answer.{Answer}
 use Rattle.topic_core.specs.declared.command.Answer.TheVariants.{Now, Later, Nothing, NoMemory}
 use Rattle.reply_queues.specs.Replies.{is_receipt, due_to, pending_to}
 use Rattle.topic_core.specs.declared.dispatch.Outgoing.{Outgoing}
+use Rattle.topic_core.specs.Slots.{slot_of_entry}
 use Rattle.topic_core.specs.Core.{Core, Topic, receipts_due}
 use Rattle.records.specs.Maps.{Kept}
 use Rattle.topic_core.specs.Soundness.{IsSound, AreReceipts, IsSoundTopic}
@@ -75,6 +79,12 @@ pub record IsAdmitted (old : Topic) (who id : ℕ) (outgoing : Outgoing) (i : �
 
 abbrev pub MessagesAreAdmitted : Type 0
 MessagesAreAdmitted = (old : Topic) (who id : ℕ) (outgoing : Outgoing) (new : Topic) → DispatchStep old who id (Ok (Some outgoing)) new → (i : ℕ) × IsAdmitted old who id outgoing i
+
+-- a message on a Key_Shared subscription is an entry whose slot lies in the ranges of its consumer's seat
+abbrev pub MessagesGoToTheirRanges : Type 0
+MessagesGoToTheirRanges = (old : Topic) (who id : ℕ) (outgoing : Outgoing) (new : Topic) → IsSoundTopic old → DispatchStep old who id (Ok (Some outgoing)) new
+    → (s : Subscription) → find (is_on (key_of who id)) old.core.subs.subs ≡ Some s → s.mode ≡ KeyShared
+    → IsSomeAnd (attached (key_of who id) s.seats) (λ seat. IsTrue (in_ranges seat.ranges (slot_of_entry outgoing.entry)))
 
 -- an id of an ACK is that of a committed entry exactly where it names a committed position, and that is the one acknowledged
 abbrev pub IdsArePositions : Type 0

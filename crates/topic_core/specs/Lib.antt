@@ -1,3 +1,4 @@
+pub mod Slots
 pub mod Core
 pub mod Soundness
 pub mod Held

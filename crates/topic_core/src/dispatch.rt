@@ -69,7 +69,7 @@ impl TopicCore {
 
 /// Reads the entry of a position, with one read of the device. One that isn't there, or is longer than any that is accepted,
 /// is damage of the first segment.
-fn read_entry<E: EntryStore, S: Shelf>(
+pub(crate) fn read_entry<E: EntryStore, S: Shelf>(
     store: &E,
     shelf: &mut S,
     position: u64,

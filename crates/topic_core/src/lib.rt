@@ -17,6 +17,7 @@ mod laws;
 mod opening;
 mod producer;
 mod redelivering;
+mod slots;
 mod stores;
 mod topic;
 mod unsubscribing;
@@ -28,7 +29,8 @@ pub use command::{
 pub use dispatch::Outgoing;
 pub use laws::{
     answers_are_no_receipts, answers_fit, cores_go_on, entries_are_published, flushes_commit,
-    flushes_keep, ids_are_positions, messages_are_admitted, receipts_are_covered, stays_sound,
+    flushes_keep, ids_are_positions, messages_are_admitted, messages_go_to_their_ranges,
+    receipts_are_covered, stays_sound,
 };
 pub use producer::{Producer, ProducerState};
 pub use stores::{Stores, TopicStores};

@@ -1,23 +1,28 @@
 // The opening of a topic's stores, of a topic over them, and of a topic that failed.
-ghost use Rattle.std.specs.Prelude.{◌≡◌, ◌⊎◌, ◌<◌, ◌≤◌, ◌^◌, [], true, length, IfOk, IfErr, OnOk, OnErr, IsErr, IsErrOf};
+ghost use Rattle.std.specs.Prelude.{◌≡◌, ◌⊎◌, ◌<◌, ◌≤◌, ◌^◌, ℕ, List, [], true, false, length, map, IfOk, IfErr, OnOk, OnErr, IsErr, IsErrOf};
 ghost use Rattle.std.specs.FinMap as map;
 ghost use Rattle.disk.specs.Disk.{Same, Leaves, Kept as Counted, Failed};
 ghost use Rattle.disk.specs.Areas.{Agree, OfTopic, Within};
 ghost use Rattle.gated_log.specs.declared.refusal.Refusal.TheVariants.{Device, NoMemory};
 ghost use Rattle.managed_ledger.specs.Entries.{Entries};
+ghost use Rattle.managed_ledger.specs.Shape.{total};
+ghost use Rattle.subscriptions.specs.Steps.{slotted};
+ghost use Rattle.topic_core.specs.Slots.{slot_of_entry};
 ghost use Rattle.records.specs.Maps.{Kept};
 ghost use Rattle.topic_core.specs.Core.{opened};
 ghost use Rattle.topic_core.specs.Crashes.{ReopenStep, reopened};
 ghost use Rattle.topic_core.specs.Openings.{AreOpened, Hold};
 ghost use Rattle.topic_core.specs.Standing.{Match, AreSettled, Standing, StandsFor, topic_in};
 
+use crate::dispatch::read_entry;
+use crate::slots::slot_of_entry;
 use crate::stores::{Stores, TopicStores};
 use crate::topic::TopicCore;
 use cursor_store::SubStore;
 use disk::{DeviceError, FileId, Shelf};
 use gated_log::Refusal;
 use managed_ledger::EntryStore;
-use std::alloc::{AllocError, Global};
+use std::alloc::Global;
 use subscriptions::Subscriptions;
 
 impl<E: EntryStore, C: SubStore> TopicStores<E, C> {
@@ -76,20 +81,32 @@ impl<E: EntryStore, C: SubStore> TopicStores<E, C> {
 }
 
 impl TopicCore {
-    /// A topic over stores that were just opened, where a ledger id has so many entry ids.
-    pub fn open<E: EntryStore, C: SubStore>(
+    /// A topic over stores that were just opened, where a ledger id has so many entry ids. Each entry is read once, for its
+    /// slot. Over a device that isn't honest an entry that isn't there, or is longer than any that is accepted, is damage of
+    /// the first segment.
+    pub fn open<E: EntryStore, C: SubStore, S: Shelf>(
         alloc: Global,
         per_ledger: u32,
         stores: &TopicStores<E, C>,
-    ) -> Result<TopicCore, AllocError>
+        shelf: &mut S,
+    ) -> Result<TopicCore, Refusal>
         requires numbered { 0 < per_ledger }
         requires opened { AreOpened (⟦<TopicStores<E, C> as Stores>⟧.views stores.now) }
-        ensures opened { IfOk result (λ core. core ≡ opened per_ledger (⟦<TopicStores<E, C> as Stores>⟧.views stores.now).entries.total (⟦<TopicStores<E, C> as Stores>⟧.views stores.now).subscriptions.kept) }
+        ensures opened { IfOk result (λ core. (slots : List ℕ) × (length slots ≡ (⟦<TopicStores<E, C> as Stores>⟧.views stores.now).entries.total)
+            × (core ≡ opened per_ledger (⟦<TopicStores<E, C> as Stores>⟧.views stores.now).entries.total slots (⟦<TopicStores<E, C> as Stores>⟧.views stores.now).subscriptions.kept)) }
+        ensures slots { (ledger : Entries) → (S.disk shelf.old).honest → E.holds stores.now.entries (S.disk shelf.old).seen ledger → IfOk result (λ core. core.subs.slots ≡ map slot_of_entry ledger) }
         ensures matched { IfOk result (λ core. Match core (⟦<TopicStores<E, C> as Stores>⟧.views stores.now)) }
+        ensures refused { (ledger : Entries) → (S.disk shelf.old).honest → E.holds stores.now.entries (S.disk shelf.old).seen ledger →
+            IfErr result (λ e. (e ≡ NoMemory) ⊎ ((e ≡ Device) × Failed (S.disk shelf.old) (S.disk shelf.new))) }
+        ensures cause { IsErrOf result Device → Failed (S.disk shelf.old) (S.disk shelf.new) }
+        ensures seen { (S.disk shelf.old).honest → Same (S.disk shelf.old).seen (S.disk shelf.new).seen }
+        ensures any_moment { (S.disk shelf.old).honest → Leaves (S.disk shelf.old).may_leave (S.disk shelf.old) (S.disk shelf.new) }
+        ensures kept { Counted (S.disk shelf.old) (S.disk shelf.new) }
     {
         let committed = stores.entries.len();
         let kept = stores.subscriptions.kept()?;
         let subs = Subscriptions::opened(alloc, kept)?;
+        let subs = with_slots(alloc, subs, &stores.entries, shelf)?;
         Ok(TopicCore {
             alloc,
             per_ledger,
@@ -149,26 +166,36 @@ impl TopicCore {
                 offset: 0,
             });
         }
-        self.restart(&again)?;
+        self.restart(&again, shelf)?;
         *stores = again;
         Ok(())
     }
 
     /// Goes on over stores that were just opened. What it owes and what it counted stay.
-    fn restart<E: EntryStore, C: SubStore>(
+    fn restart<E: EntryStore, C: SubStore, S: Shelf>(
         &mut self,
         stores: &TopicStores<E, C>,
-    ) -> Result<(), AllocError>
+        shelf: &mut S,
+    ) -> Result<(), Refusal>
         requires failed { self.old.failed ≡ true }
         requires more { self.old.committed ≤ (⟦<TopicStores<E, C> as Stores>⟧.views stores.now).entries.total }
         requires few { (⟦<TopicStores<E, C> as Stores>⟧.views stores.now).entries.total ≤ 2 ^ 62 }
         requires opened { AreOpened (⟦<TopicStores<E, C> as Stores>⟧.views stores.now) }
-        ensures ok { OnOk result (self.new ≡ reopened self.old (⟦<TopicStores<E, C> as Stores>⟧.views stores.now).entries.total (⟦<TopicStores<E, C> as Stores>⟧.views stores.now).subscriptions.kept) }
+        ensures ok { OnOk result ((slots : List ℕ) × (length slots ≡ (⟦<TopicStores<E, C> as Stores>⟧.views stores.now).entries.total)
+            × (self.new ≡ reopened self.old (⟦<TopicStores<E, C> as Stores>⟧.views stores.now).entries.total slots (⟦<TopicStores<E, C> as Stores>⟧.views stores.now).subscriptions.kept)) }
+        ensures slots { (ledger : Entries) → (S.disk shelf.old).honest → E.holds stores.now.entries (S.disk shelf.old).seen ledger → OnOk result (self.new.subs.slots ≡ map slot_of_entry ledger) }
         ensures matched { OnOk result (Match self.new (⟦<TopicStores<E, C> as Stores>⟧.views stores.now)) }
         ensures err { OnErr result (self.new ≡ self.old) }
+        ensures refused { (ledger : Entries) → (S.disk shelf.old).honest → E.holds stores.now.entries (S.disk shelf.old).seen ledger →
+            IfErr result (λ e. (e ≡ NoMemory) ⊎ ((e ≡ Device) × Failed (S.disk shelf.old) (S.disk shelf.new))) }
+        ensures cause { IsErrOf result Device → Failed (S.disk shelf.old) (S.disk shelf.new) }
+        ensures seen { (S.disk shelf.old).honest → Same (S.disk shelf.old).seen (S.disk shelf.new).seen }
+        ensures any_moment { (S.disk shelf.old).honest → Leaves (S.disk shelf.old).may_leave (S.disk shelf.old) (S.disk shelf.new) }
+        ensures kept { Counted (S.disk shelf.old) (S.disk shelf.new) }
     {
         let kept = stores.subscriptions.kept()?;
         let subs = Subscriptions::opened(self.alloc, kept)?;
+        let subs = with_slots(self.alloc, subs, &stores.entries, shelf)?;
         self.committed = stores.entries.len();
         self.waiting = Vec::new(self.alloc);
         self.waiting_bytes = 0;
@@ -178,4 +205,30 @@ impl TopicCore {
         self.failed = false;
         Ok(())
     }
+}
+
+/// The subscriptions with the slots of all entries, each of which is read once.
+fn with_slots<E: EntryStore, S: Shelf>(
+    alloc: Global,
+    subs: Subscriptions,
+    entries: &E,
+    shelf: &mut S,
+) -> Result<Subscriptions, Refusal>
+    requires { E.failed entries.now ≡ false }
+    ensures added { IfOk result (λ t. (slots : List ℕ) × (length slots ≡ total (E.counts entries.now)) × (t ≡ slotted subs slots)) }
+    ensures slots { (ledger : Entries) → (S.disk shelf.old).honest → E.holds entries.now (S.disk shelf.old).seen ledger → IfOk result (λ t. t ≡ slotted subs (map slot_of_entry ledger)) }
+    ensures refused { (ledger : Entries) → (S.disk shelf.old).honest → E.holds entries.now (S.disk shelf.old).seen ledger →
+        IfErr result (λ e. (e ≡ NoMemory) ⊎ ((e ≡ Device) × Failed (S.disk shelf.old) (S.disk shelf.new))) }
+    ensures cause { IsErrOf result Device → Failed (S.disk shelf.old) (S.disk shelf.new) }
+    ensures seen { (S.disk shelf.old).honest → Same (S.disk shelf.old).seen (S.disk shelf.new).seen }
+    ensures any_moment { (S.disk shelf.old).honest → Leaves (S.disk shelf.old).may_leave (S.disk shelf.old) (S.disk shelf.new) }
+    ensures kept { Counted (S.disk shelf.old) (S.disk shelf.new) }
+{
+    let mut subs = subs;
+    for position in 0..entries.len() {
+        let entry = read_entry(entries, shelf, position)?;
+        let slot = slot_of_entry(alloc, entry.as_slice())?;
+        subs.add_slot(slot)?;
+    }
+    Ok(subs)
 }

@@ -4,6 +4,7 @@ ghost use Rattle.std.specs.Str.{bytes_eq};
 ghost use Rattle.std.specs.Result.{is_ok};
 ghost use Rattle.commands.specs.Metadata.{entry_of};
 ghost use Rattle.subscriptions.specs.Statuses.{AreStatuses};
+ghost use Rattle.topic_core.specs.Slots.{slot_of_entry};
 ghost use Rattle.topic_core.specs.Core.{Core, next_position};
 ghost use Rattle.reply_queues.specs.Replies.{is_receipt};
 ghost use Rattle.topic_core.specs.Steps.{Meets, CoreStep, Collects, Fits, first_standing, producer_refusals, send_refusals, limit_refusals, producer_outcome, send_outcome, has_producer, has_open_producer, has_name, is_producer, is_open_producer, is_open, is_single_message, accepted, receipt, key_of, left};
@@ -11,11 +12,14 @@ ghost use Rattle.topic_core.specs.Standing.{GoesOn};
 
 use crate::command::{Answer, PlainEntry, Send, SentEntry, TopicCommand};
 use crate::producer::{Producer, ProducerState};
+use crate::slots::slot_of_meta;
 use bytes::Bytes;
 use commands::{MessageMeta, Reply, ReplyText, ServerError, Text};
 use holds::ConsumerKey;
 use ids::to_id;
-use reply_queues::{ReplyQueue, forget_replies, push_reply, take_reply};
+use reply_queues::{
+    ReplyQueue, drop_last_reply, forget_replies, has_queue, push_reply, take_reply,
+};
 use std::alloc::{AllocError, Global};
 use std::marker::Model;
 use subscriptions::{SubscriptionStatus, Subscriptions};
@@ -213,21 +217,24 @@ impl TopicCore {
         let SentEntry::Plain(entry) = entry else {
             unreachable!()
         };
-        let PlainEntry { bytes, metadata: _ } = entry;
-        self.accept(who, producer_id, sequence_id, bytes)?;
+        let PlainEntry { bytes, metadata } = entry;
+        let slot = slot_of_meta(&metadata);
+        self.accept(who, producer_id, sequence_id, bytes, slot)?;
         Ok(Answer::Later)
     }
 
-    /// The entry waits, and the receipt for its position awaits a flush.
+    /// The entry waits, with its slot, and the receipt for its position awaits a flush.
     fn accept(
         &mut self,
         who: u64,
         producer_id: u64,
         sequence_id: u64,
         entry: Bytes,
+        slot: u16,
     ) -> Result<(), AllocError>
         requires works { self.old.failed ≡ false }
         requires readable { is_ok (entry_of entry) ≡ true }
+        requires slotted { slot ≡ slot_of_entry entry }
         requires short { length entry ≤ 1048576 }
         requires room { first_standing (limit_refusals self.old (length entry)) ≡ None }
         ensures ok { OnOk result (self.new ≡ accepted self.old who producer_id sequence_id entry) }
@@ -242,7 +249,12 @@ impl TopicCore {
             sequence_id,
             message_id,
         };
+        let had_queue = has_queue(who, self.queues.as_slice());
         push_reply(self.alloc, who, receipt, &mut self.queues)?;
+        if let Err(error) = self.subs.add_slot(slot) {
+            drop_last_reply(who, had_queue, &mut self.queues);
+            return Err(error);
+        }
         self.waiting.push(entry).unwrap();
         self.waiting_bytes += len;
         self.accepted += 1;
@@ -264,7 +276,7 @@ impl TopicCore {
                 producer_name,
             } => self.add_producer(who, producer_id, request_id, producer_name),
             TopicCommand::Send(send) => self.send(who, send),
-            TopicCommand::Subscribe(subscribe) => self.subscribe(who, &subscribe),
+            TopicCommand::Subscribe(subscribe) => self.subscribe(who, subscribe),
             TopicCommand::Ack(ack) => self.acknowledge(who, &ack),
             TopicCommand::CloseProducer(close) => self.close_producer(who, &close),
             TopicCommand::Unsubscribe(unsubscribe) => self.unsubscribe(who, &unsubscribe),

@@ -3,6 +3,7 @@ mod asking;
 mod basics;
 mod crashes;
 mod failures;
+mod keyed;
 mod limits;
 mod sharing;
 mod slow;
@@ -37,7 +38,7 @@ impl Topic {
     {
         let mut shelf = MemShelf::new(alloc);
         let stores = TopicStores::create(alloc, &mut shelf, 0, per_ledger)?;
-        let core = TopicCore::open(alloc, per_ledger, &stores)?;
+        let core = TopicCore::open(alloc, per_ledger, &stores, &mut shelf)?;
         Ok(Topic {
             core,
             stores,
@@ -51,7 +52,7 @@ impl Topic {
         ensures { IfOk result (λ t. AreMatched t.core t.stores) }
     {
         let stores = TopicStores::open(alloc, &mut shelf, 0, per_ledger)?;
-        let core = TopicCore::open(alloc, per_ledger, &stores)?;
+        let core = TopicCore::open(alloc, per_ledger, &stores, &mut shelf)?;
         Ok(Topic {
             core,
             stores,

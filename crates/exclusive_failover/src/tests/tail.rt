@@ -3,7 +3,7 @@ ghost use Rattle.std.specs.Prelude.{[]};
 ghost use Rattle.std.specs.FinMap as map;
 ghost use Rattle.cursor.specs.Positions.{below};
 
-use holds::{Pending, SlotRange};
+use holds::Pending;
 
 pub(crate) struct Tail {
     pub(crate) first: u32,
@@ -20,10 +20,6 @@ impl Pending for Tail {
         } else {
             None
         }
-    }
-
-    fn passed_over(&self, _ranges: &[SlotRange]) -> u64 {
-        0
     }
 
     fn slot(&self, _position: u64) -> u16 {

@@ -1,6 +1,6 @@
 use crate::KeySharedDispatcher;
 use crate::tests::keyed::Keyed;
-use holds::{Consumer, ConsumerKey, Dispatcher, Refusal, SlotRange};
+use holds::{Consumer, ConsumerKey, Dispatcher, Refusal, SlotRange, SlotRanges};
 use std::alloc::{AllocError, Global};
 use std::test::Fail;
 
@@ -24,7 +24,7 @@ fn attach(
     }
     let newcomer = Consumer {
         key: key(id),
-        ranges,
+        ranges: SlotRanges::new(ranges),
     };
     let foretold = dispatcher.refusal(&newcomer);
     match dispatcher.attach(newcomer) {

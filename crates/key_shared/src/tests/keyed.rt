@@ -3,7 +3,7 @@
 ghost use Rattle.std.specs.FinMap as map;
 ghost use Rattle.cursor.specs.Positions.{below};
 
-use holds::{Pending, SlotRange};
+use holds::Pending;
 
 #[derive(Drop)]
 pub(crate) struct Keyed {
@@ -17,10 +17,6 @@ impl Pending for Keyed {
     fn first_open(&self, from: u64) -> Option<u64> {
         let open = from.max(u64::from(self.first));
         if open < 6 { Some(open) } else { None }
-    }
-
-    fn passed_over(&self, _ranges: &[SlotRange]) -> u64 {
-        u64::from(self.first)
     }
 
     fn slot(&self, position: u64) -> u16 {

@@ -1,8 +1,8 @@
 use crate::slot;
 use std::test::Fail;
 
-/// Keys and their slots, by a C program that was written after Austin Appleby's MurmurHash3.cpp.
-const KEYS: [(&[u8], u16); 15] = [
+/// Keys and their slots: the low 16 bits of what Hashing.murmur3_32_fixed(0) of Google's Guava 31.1 answers.
+const KEYS: [(&[u8], u16); 17] = [
     (b"", 0),
     (b"test", 53779),
     (b"hello", 64071),
@@ -18,6 +18,8 @@ const KEYS: [(&[u8], u16); 15] = [
     (b"\xff", 61709),
     (b"\x80\xfe", 18456),
     (b"\xff\xfe\xfd", 62172),
+    (b"\xff\xfe\xfd\xfc", 32367),
+    (b"\xff\xfe\xfd\xfc\xfb", 40123),
 ];
 
 #[test]
@@ -28,6 +30,7 @@ fn slots_of_keys(rt: HostRuntime) -> Result<(), Fail> {
     Ok(())
 }
 
+/// By the same program.
 #[test]
 fn slot_of_a_thousand_bytes(rt: HostRuntime) -> Result<(), Fail> {
     let mut key = [0u8; 1000];
@@ -35,5 +38,6 @@ fn slot_of_a_thousand_bytes(rt: HostRuntime) -> Result<(), Fail> {
         *byte = (i * 7 % 251) as u8;
     }
     assert_eq!(rt; slot(&key), 10942);
+    assert_eq!(rt; slot(&[0xff; 1000]), 38307);
     Ok(())
 }

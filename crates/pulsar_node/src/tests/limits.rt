@@ -57,3 +57,89 @@ pump 0
     assert_lines(&rt, script.as_str(), lines)?;
     Ok(())
 }
+
+// A subscription has sixty-four consumers at most; one of another type is refused as busy.
+#[test]
+fn refuses_more_shared_consumers_than_sixty_four(rt: HostRuntime) -> Result<(), Fail> {
+    let mut script = String::from_str(
+        rt.alloc(),
+        "\
+init 1000
+open
+bytes 0 0000000d00000009080212050a01632005
+bytes 0 ",
+    )?;
+    // Consumers of the ids 0x10 to 0x73, each by its two digits.
+    for id in 10..74u8 {
+        let subscribe = format!(in rt.alloc();
+            "00000025000000210804221d0a1270657273697374656e743a2f2f612f622f63120173180120{id}2808"
+        )?;
+        script.push_str(subscribe.as_str())?;
+    }
+    script.push_str(
+        "
+open
+bytes 1 0000000d00000009080212050a01632005
+bytes 1 00000025000000210804221d0a1270657273697374656e743a2f2f612f622f63120173180120022808
+bytes 1 00000025000000210804221d0a1270657273697374656e743a2f2f612f622f63120173180320022808
+",
+    )?;
+    let lines = "\
+1 - ok
+2 - ok
+3 000000160000001208031a0e0a066e6f64652d31100518808040 ok
+4 - ok
+5 - ok
+6 000000160000001208031a0e0a066e6f64652d31100518808040 ok
+7 0000001d00000019080e72150808100e1a0f546f6f4d616e795265717565737473 ok
+8 0000001a00000016080e7212080810051a0c436f6e73756d657242757379 ok
+";
+    assert_lines(&rt, script.as_str(), lines)?;
+    Ok(())
+}
+
+// Of Key_Shared too, and that is told before anything of its ranges; a consumer that closes makes room, and frees its slot.
+#[test]
+fn refuses_more_key_shared_consumers_than_sixty_four(rt: HostRuntime) -> Result<(), Fail> {
+    let mut script = String::from_str(
+        rt.alloc(),
+        "\
+init 1000
+open
+bytes 0 0000000d00000009080212050a01632005
+bytes 0 ",
+    )?;
+    // Consumers of the ids and the slots 0x10 to 0x73, each by its two digits.
+    for id in 10..74u8 {
+        let subscribe = format!(in rt.alloc();
+            "000000320000002e0804222a0a1270657273697374656e743a2f2f612f622f63120173180320{id}28088a010808011a0408{id}10{id}6801"
+        )?;
+        script.push_str(subscribe.as_str())?;
+    }
+    script.push_str(
+        "
+open
+bytes 1 0000000d00000009080212050a01632005
+bytes 1 000000320000002e0804222a0a1270657273697374656e743a2f2f612f622f631201731803200328088a010808011a04080910056801
+bytes 1 00000027000000230804221f0a1270657273697374656e743a2f2f612f622f631201731801200328086801
+bytes 0 0000000d00000009081082010408101008
+bytes 1 000000320000002e0804222a0a1270657273697374656e743a2f2f612f622f631201731803200328088a010808011a04081010116801
+bytes 1 000000320000002e0804222a0a1270657273697374656e743a2f2f612f622f631201731803200328088a010808011a04081010106801
+",
+    )?;
+    let lines = "\
+1 - ok
+2 - ok
+3 000000160000001208031a0e0a066e6f64652d31100518808040 ok
+4 - ok
+5 - ok
+6 000000160000001208031a0e0a066e6f64652d31100518808040 ok
+7 0000001d00000019080e72150808100e1a0f546f6f4d616e795265717565737473 ok
+8 0000001a00000016080e7212080810051a0c436f6e73756d657242757379 ok
+9 0000000a00000006080d6a020808 ok
+10 000000210000001d080e7219080810131a13436f6e73756d657241737369676e4572726f72 ok
+11 - ok
+";
+    assert_lines(&rt, script.as_str(), lines)?;
+    Ok(())
+}

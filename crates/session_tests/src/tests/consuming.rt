@@ -258,9 +258,14 @@ fn lengths_of_a_subscription_name(rt: HostRuntime) -> Result<(), Fail> {
 }
 
 #[test]
-fn subscription_types_that_are_served(rt: HostRuntime) -> Result<(), Fail> {
+fn modes_of_the_subscription_types(rt: HostRuntime) -> Result<(), Fail> {
     let mut frame = SUBSCRIBE;
-    for (kind, mode) in [(0, Mode::Exclusive), (1, Mode::Shared), (2, Mode::Failover)] {
+    for (kind, mode) in [
+        (0, Mode::Exclusive),
+        (1, Mode::Shared),
+        (2, Mode::Failover),
+        (3, Mode::KeyShared),
+    ] {
         frame[36] = kind;
         let mut stage = Stage::connected(rt.alloc())?;
         stage.feed(&frame)?;
@@ -268,10 +273,10 @@ fn subscription_types_that_are_served(rt: HostRuntime) -> Result<(), Fail> {
             return Err("there is not one SUBSCRIBE".into());
         };
         assert_eq!(rt; asked.mode, mode);
+        assert!(rt; asked.ranges.as_slice().is_empty());
         assert!(rt; stage.out.is_empty());
     }
-    frame[36] = 3;
-    is_refused(&rt, rt.alloc(), &frame)
+    Ok(())
 }
 
 #[test]

@@ -1,14 +1,19 @@
 // Scripts that run over the subscriptions and over the plain program, in each mode.
-use super::{acknowledge, dispatch, subscribe};
+use super::{acknowledge, dispatch, keyed_seat, subscribe};
 use crate::plain::PlainSubscription;
 use crate::{InitialPosition, Mode, Subscriptions};
-use holds::ConsumerKey;
+use holds::{ConsumerKey, SlotRange};
 use std::alloc::{AllocError, Global};
 use std::process::Abort;
 use std::test::Fail;
 
-/// How many positions are committed in every script.
+mod sweeps;
+
+/// How many positions are committed when a script begins.
 const COMMITTED: u32 = 6;
+
+/// The slots of the entries.
+const SLOTS: [u16; 9] = [3, 12, 25, 9, 12, 40, 25, 3, 10];
 
 const FIRST: ConsumerKey = ConsumerKey { session: 0, id: 2 };
 
@@ -17,8 +22,32 @@ const SECOND: ConsumerKey = ConsumerKey { session: 1, id: 2 };
 /// Has the first one's session.
 const THIRD: ConsumerKey = ConsumerKey { session: 0, id: 3 };
 
+/// Has the second one's session. Its ranges meet those of the first and the second one.
+const FOURTH: ConsumerKey = ConsumerKey { session: 1, id: 4 };
+
+fn ranges_of(key: ConsumerKey) -> &'static [SlotRange] {
+    if key == FIRST {
+        return &[SlotRange { start: 0, end: 9 }];
+    }
+    if key == SECOND {
+        return &[
+            SlotRange { start: 10, end: 19 },
+            SlotRange {
+                start: 40,
+                end: 65535,
+            },
+        ];
+    }
+    if key == THIRD {
+        return &[SlotRange { start: 25, end: 25 }];
+    }
+    &[SlotRange { start: 9, end: 12 }]
+}
+
 #[derive(Clone, Copy, Debug)]
 enum Action {
+    /// One more entry is committed, while there are more.
+    Commit,
     Attach(ConsumerKey),
     Grant(ConsumerKey, u32),
     Send(ConsumerKey),
@@ -29,53 +58,96 @@ enum Action {
     Leave(u64),
 }
 
-use Action::{Ack, Attach, Close, Grant, Leave, Redeliver, RedeliverSome, Send};
+use Action::{Ack, Attach, Close, Commit, Grant, Leave, Redeliver, RedeliverSome, Send};
 
-/// Works one action with both programs, and compares what goes out.
-fn act(
-    rt: &impl Abort,
-    subs: &mut Subscriptions,
-    plain: &mut PlainSubscription,
+/// A subscription of both programs, over so many committed entries.
+#[derive(Drop)]
+struct Both<'a> {
+    alloc: Global,
     mode: Mode,
-    action: Action,
-) -> Result<(), AllocError> {
-    match action {
-        Attach(key) => {
-            if !subs.has_consumer(key) {
-                subscribe(subs, "s", mode, key, InitialPosition::Latest, COMMITTED)?;
-            }
-            plain.attach(key)?;
+    committed: u32,
+    subs: Subscriptions,
+    plain: PlainSubscription<'a>,
+}
+
+impl<'a> Both<'a> {
+    /// The first consumer is attached.
+    fn new(rt: &impl Abort, alloc: Global, mode: Mode) -> Result<Both<'a>, AllocError> {
+        let mut subs = Subscriptions::new(alloc);
+        for slot in SLOTS {
+            subs.add_slot(slot)?;
         }
-        Grant(key, permits) => {
-            plain.grant(key, permits);
-            assert_eq!(rt; subs.grant(key, u64::from(permits)), Ok(()));
-        }
-        Send(key) => {
-            let got = dispatch(subs, key, COMMITTED)?;
-            assert_eq!(rt; got, plain.dispatch(key, u64::from(COMMITTED))?);
-        }
-        Ack(key, position) => {
-            acknowledge(subs, key, position)?;
-            plain.acknowledge(key, u64::from(position))?;
-        }
-        Redeliver(key) => {
-            subs.redeliver(key, None);
-            plain.redeliver(key, None);
-        }
-        RedeliverSome(key, positions) => {
-            subs.redeliver(key, Some(&positions));
-            plain.redeliver(key, Some(&positions));
-        }
-        Close(key) => {
-            subs.detach(key);
-            plain.detach(key);
-        }
-        Leave(session) => {
-            subs.leave(session);
-            plain.leave(session);
-        }
+        let mut both = Both {
+            alloc,
+            mode,
+            committed: COMMITTED,
+            subs,
+            plain: PlainSubscription::new(alloc, mode, &SLOTS),
+        };
+        both.attach(rt, FIRST, InitialPosition::Earliest)?;
+        Ok(both)
     }
-    Ok(())
+
+    /// Attaches a consumer that isn't there, and compares whether it is taken.
+    fn attach(
+        &mut self,
+        rt: &impl Abort,
+        key: ConsumerKey,
+        initial: InitialPosition,
+    ) -> Result<(), AllocError> {
+        if self.subs.has_consumer(key) {
+            return Ok(());
+        }
+        let seat = keyed_seat(self.alloc, key, ranges_of(key))?;
+        let refusal = subscribe(
+            &mut self.subs,
+            "s",
+            self.mode,
+            seat,
+            initial,
+            self.committed,
+        )?;
+        let is_taken = self.plain.attach(key, ranges_of(key))?;
+        assert_eq!(rt; refusal.is_none(), is_taken);
+        Ok(())
+    }
+
+    /// Works one action, and compares what goes out.
+    fn act(&mut self, rt: &impl Abort, action: Action) -> Result<(), AllocError> {
+        match action {
+            Commit => self.committed = self.committed.saturating_add(1).min(9),
+            Attach(key) => self.attach(rt, key, InitialPosition::Latest)?,
+            Grant(key, permits) => {
+                self.plain.grant(key, permits);
+                assert_eq!(rt; self.subs.grant(key, u64::from(permits)), Ok(()));
+            }
+            Send(key) => {
+                let got = dispatch(&mut self.subs, key, self.committed)?;
+                assert_eq!(rt; got, self.plain.dispatch(key, u64::from(self.committed))?);
+            }
+            Ack(key, position) => {
+                acknowledge(&mut self.subs, key, position)?;
+                self.plain.acknowledge(key, u64::from(position))?;
+            }
+            Redeliver(key) => {
+                self.subs.redeliver(key, None);
+                self.plain.redeliver(key, None);
+            }
+            RedeliverSome(key, positions) => {
+                self.subs.redeliver(key, Some(&positions));
+                self.plain.redeliver(key, Some(&positions));
+            }
+            Close(key) => {
+                self.subs.detach(key);
+                self.plain.detach(key);
+            }
+            Leave(session) => {
+                self.subs.leave(session);
+                self.plain.leave(session);
+            }
+        }
+        Ok(())
+    }
 }
 
 fn run_both(
@@ -84,18 +156,20 @@ fn run_both(
     mode: Mode,
     script: &[Action],
 ) -> Result<(), AllocError> {
-    let mut subs = Subscriptions::new(alloc);
-    let mut plain = PlainSubscription::new(alloc, mode);
-    subscribe(&mut subs, "s", mode, FIRST, InitialPosition::Earliest, 0)?;
-    plain.attach(FIRST)?;
+    let mut both = Both::new(rt, alloc, mode)?;
     for action in script {
-        act(rt, &mut subs, &mut plain, mode, *action)?;
+        both.act(rt, *action)?;
     }
     Ok(())
 }
 
 fn run_in_each_mode(rt: &impl Abort, alloc: Global, script: &[Action]) -> Result<(), AllocError> {
-    for mode in [Mode::Exclusive, Mode::Failover, Mode::Shared] {
+    for mode in [
+        Mode::Exclusive,
+        Mode::Failover,
+        Mode::Shared,
+        Mode::KeyShared,
+    ] {
         run_both(rt, alloc, mode, script)?;
     }
     Ok(())
@@ -223,6 +297,79 @@ fn what_is_asked_for_is_sent_again(rt: HostRuntime) -> Result<(), Fail> {
             Redeliver(FIRST),
             Send(FIRST),
             Send(SECOND),
+            Send(SECOND),
+        ],
+    )?;
+    Ok(())
+}
+
+#[test]
+fn each_slot_goes_to_its_consumer(rt: HostRuntime) -> Result<(), Fail> {
+    run_in_each_mode(
+        &rt,
+        rt.alloc(),
+        &[
+            Attach(SECOND),
+            Attach(THIRD),
+            Grant(SECOND, 9),
+            Send(SECOND),
+            Send(SECOND),
+            Send(SECOND),
+            Send(SECOND),
+            Grant(FIRST, 3),
+            Send(FIRST),
+            Send(FIRST),
+            Send(FIRST),
+            Commit,
+            Commit,
+            Send(SECOND),
+            Send(FIRST),
+            Commit,
+            Send(SECOND),
+            Grant(THIRD, 2),
+            Send(THIRD),
+            Send(THIRD),
+            Redeliver(THIRD),
+            Send(SECOND),
+            Grant(THIRD, 9),
+            Send(THIRD),
+            RedeliverSome(SECOND, [4, 2]),
+            Send(SECOND),
+            Send(THIRD),
+        ],
+    )?;
+    Ok(())
+}
+
+#[test]
+fn ranges_are_free_when_their_consumer_goes(rt: HostRuntime) -> Result<(), Fail> {
+    run_in_each_mode(
+        &rt,
+        rt.alloc(),
+        &[
+            Attach(FOURTH),
+            Close(FIRST),
+            Attach(SECOND),
+            Attach(FOURTH),
+            Grant(SECOND, 9),
+            Send(SECOND),
+            Send(SECOND),
+            Close(SECOND),
+            Attach(FOURTH),
+            Grant(FOURTH, 9),
+            Send(FOURTH),
+            Attach(FIRST),
+            Attach(SECOND),
+            Send(FOURTH),
+            Send(FOURTH),
+            Leave(1),
+            Attach(FIRST),
+            Attach(SECOND),
+            Grant(FIRST, 9),
+            Grant(SECOND, 9),
+            Send(FIRST),
+            Send(SECOND),
+            Send(FIRST),
             Send(SECOND),
         ],
     )?;

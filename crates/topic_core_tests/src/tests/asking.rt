@@ -7,10 +7,10 @@ ghost use Rattle.topic_core_tests.specs.Matching.{AreMatched};
 use super::Topic;
 use bytes::Bytes;
 use commands::{
-    AckType, InitialPosition, MessageMeta, Reply, ReplyText, Sequence, ServerError, Text,
-    read_entry,
+    AckType, InitialPosition, Reply, ReplyText, Sequence, ServerError, Text, read_entry,
 };
 use gated_log::Refusal;
+use holds::{SlotRange, SlotRanges};
 use ids::MessageIdData;
 use records::is_subscription_name;
 use std::alloc::{AllocError, Global};
@@ -137,19 +137,6 @@ pub(super) fn produce(
     answered(&answer)
 }
 
-pub(super) fn meta(alloc: Global) -> MessageMeta {
-    MessageMeta {
-        producer_name: Text::new(String::new(alloc)),
-        sequence_id: 0,
-        publish_time: 1,
-        partition_key: None,
-        compression: 0,
-        num_messages_in_batch: 1,
-        ordering_key: None,
-        deliver_at_time: None,
-    }
-}
-
 /// These bytes as an entry.
 pub(super) fn plain(alloc: Global, bytes: Bytes) -> Result<PlainEntry, Fail> {
     let metadata = read_entry(alloc, bytes.as_slice())?;
@@ -157,11 +144,8 @@ pub(super) fn plain(alloc: Global, bytes: Bytes) -> Result<PlainEntry, Fail> {
 }
 
 /// The same entry again. It shares the bytes.
-pub(super) fn again(alloc: Global, entry: &PlainEntry) -> Result<PlainEntry, AllocError> {
-    Ok(PlainEntry {
-        bytes: entry.bytes.clone()?,
-        metadata: meta(alloc),
-    })
+pub(super) fn again(alloc: Global, entry: &PlainEntry) -> Result<PlainEntry, Fail> {
+    plain(alloc, entry.bytes.clone()?)
 }
 
 pub(super) fn send_entry(
@@ -196,7 +180,22 @@ pub(super) fn send(
     requires { AreMatched topic.old.core topic.old.stores }
     ensures { AreMatched topic.new.core topic.new.stores }
 {
-    let entry = plain(alloc, Bytes::from_static(PLAIN))?;
+    send_bytes(alloc, topic, who, id, sequence, PLAIN)
+}
+
+/// Sends an entry of these bytes.
+pub(super) fn send_bytes(
+    alloc: Global,
+    topic: &mut Topic,
+    who: u64,
+    id: u64,
+    sequence: u64,
+    bytes: &'static [u8],
+) -> Result<Told, Fail>
+    requires { AreMatched topic.old.core topic.old.stores }
+    ensures { AreMatched topic.new.core topic.new.stores }
+{
+    let entry = plain(alloc, Bytes::from_static(bytes))?;
     let told = send_entry(topic, who, id, sequence, SentEntry::Plain(entry))?;
     Ok(told)
 }
@@ -215,13 +214,46 @@ pub(super) fn subscribe(
     subscribe_as(alloc, topic, who, id, Mode::Exclusive, initial)
 }
 
-/// Asks for a consumer of the subscription `s`.
+/// Asks for a consumer of the subscription `s`, without hash ranges.
 pub(super) fn subscribe_as(
     alloc: Global,
     topic: &mut Topic,
     who: u64,
     id: u64,
     mode: Mode,
+    initial: InitialPosition,
+) -> Result<Told, AllocError>
+    requires { AreMatched topic.old.core topic.old.stores }
+    ensures { AreMatched topic.new.core topic.new.stores }
+{
+    let ranges = SlotRanges::new(Vec::new(alloc));
+    subscribe_with(alloc, topic, who, id, mode, ranges, initial)
+}
+
+/// Asks for a consumer of the Key_Shared subscription `s` with one hash range, from the first entry on.
+pub(super) fn subscribe_keyed(
+    alloc: Global,
+    topic: &mut Topic,
+    who: u64,
+    id: u64,
+    start: u16,
+    end: u16,
+) -> Result<Told, AllocError>
+    requires { AreMatched topic.old.core topic.old.stores }
+    ensures { AreMatched topic.new.core topic.new.stores }
+{
+    let ranges = SlotRanges::new(vec![in alloc; SlotRange { start, end }; 1]?);
+    let initial = InitialPosition::Earliest;
+    subscribe_with(alloc, topic, who, id, Mode::KeyShared, ranges, initial)
+}
+
+fn subscribe_with(
+    alloc: Global,
+    topic: &mut Topic,
+    who: u64,
+    id: u64,
+    mode: Mode,
+    ranges: SlotRanges,
     initial: InitialPosition,
 ) -> Result<Told, AllocError>
     requires { AreMatched topic.old.core topic.old.stores }
@@ -238,6 +270,7 @@ pub(super) fn subscribe_as(
             request_id: 200 + id % 100,
             subscription,
             mode,
+            ranges,
             initial,
         }),
     );

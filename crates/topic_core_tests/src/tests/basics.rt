@@ -3,12 +3,11 @@ ghost use Rattle.std.specs.Prelude.{IfOk};
 ghost use Rattle.topic_core_tests.specs.Matching.{AreMatched};
 
 use super::asking::{
-    PLAIN, Told, acknowledge, acknowledge_all, collected, entry_id, meta, plain, produce, send,
+    PLAIN, Told, acknowledge, acknowledge_all, collected, entry_id, produce, send, send_bytes,
     send_entry, subscribe, told_by,
 };
 use super::{Topic, answer};
-use bytes::Bytes;
-use commands::{AckType, InitialPosition, MessageMeta, ServerError};
+use commands::{AckType, InitialPosition, ServerError};
 use cursor_store::SubStore;
 use disk::{CrashShelf, FileId, Fuse, Shelf};
 use gated_log::Refusal;
@@ -16,9 +15,9 @@ use managed_ledger::EntryStore;
 use std::alloc::Global;
 use std::test::Fail;
 use topic_core::{
-    PlainEntry, SentEntry, answers_are_no_receipts, answers_fit, cores_go_on,
-    entries_are_published, flushes_commit, flushes_keep, ids_are_positions, messages_are_admitted,
-    receipts_are_covered, stays_sound,
+    SentEntry, answers_are_no_receipts, answers_fit, cores_go_on, entries_are_published,
+    flushes_commit, flushes_keep, ids_are_positions, messages_are_admitted,
+    messages_go_to_their_ranges, receipts_are_covered, stays_sound,
 };
 
 #[test]
@@ -124,34 +123,27 @@ fn producing(alloc: Global) -> Result<Topic, Fail>
     Ok(topic)
 }
 
-// The refusal of an entry with this metadata.
-fn refusal_of(alloc: Global, metadata: MessageMeta) -> Result<Told, Fail> {
+// Metadata as in `PLAIN` with compression 1, the delivery time -1, or two messages in a batch, behind its size.
+const COMPRESSED: &[u8] = b"\0\0\0\x09\x0a\x01p\x10\0\x18\x01\x40\x01";
+
+const DELAYED: &[u8] =
+    b"\0\0\0\x13\x0a\x01p\x10\0\x18\x01\x98\x01\xff\xff\xff\xff\xff\xff\xff\xff\xff\x01";
+
+const BATCHED: &[u8] = b"\0\0\0\x09\x0a\x01p\x10\0\x18\x01\x58\x02";
+
+// What is said to an entry of these bytes.
+fn told_of(alloc: Global, entry: &'static [u8]) -> Result<Told, Fail> {
     let mut topic = producing(alloc)?;
-    let PlainEntry { bytes, metadata: _ } = plain(alloc, Bytes::from_static(PLAIN))?;
-    let entry = PlainEntry { bytes, metadata };
-    let told = send_entry(&mut topic, 0, 1, 7, SentEntry::Plain(entry))?;
-    Ok(told)
+    send_bytes(alloc, &mut topic, 0, 1, 7, entry)
 }
 
 #[test]
 fn an_entry_is_one_plain_message(rt: HostRuntime) -> Result<(), Fail> {
     let alloc = rt.alloc();
-    let compressed = MessageMeta {
-        compression: 1,
-        ..meta(alloc)
-    };
-    let delayed = MessageMeta {
-        deliver_at_time: Some(-1),
-        ..meta(alloc)
-    };
-    let batched = MessageMeta {
-        num_messages_in_batch: 2,
-        ..meta(alloc)
-    };
-    for metadata in [compressed, delayed, batched] {
-        assert_eq!(rt; refusal_of(alloc, metadata)?, REFUSED);
+    for entry in [COMPRESSED, DELAYED, BATCHED] {
+        assert_eq!(rt; told_of(alloc, entry)?, REFUSED);
     }
-    assert_eq!(rt; refusal_of(alloc, meta(alloc))?, Told::Later);
+    assert_eq!(rt; told_of(alloc, PLAIN)?, Told::Later);
     let mut topic = producing(alloc)?;
     let checksum = Told::Refused(7, ServerError::ChecksumError);
     let told = send_entry(&mut topic, 0, 1, 7, SentEntry::Checksummed)?;
@@ -241,6 +233,7 @@ fn laws_cost_nothing() {
     entries_are_published();
     stays_sound();
     messages_are_admitted();
+    messages_go_to_their_ranges();
     ids_are_positions();
     receipts_are_covered();
     flushes_commit();

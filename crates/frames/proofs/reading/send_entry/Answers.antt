@@ -1,6 +1,5 @@
 use Rattle.std.proofs.Common.{rules, ◌≡◌, ◌∙◌, sym, ap, take, length, ◌-◌, drop}
-use Rattle.frames.specs.Reading.{is_checksummed, read_as_metadata}
-use Rattle.commands.specs.Metadata.{entry_of}
+use Rattle.frames.specs.Reading.{is_checksummed}
 use Rattle.frames.proofs.Entries.{plain-sent, behind-is}
 use Rattle.frames.proofs.reading.send_entry.Goals as goal
 
@@ -10,4 +9,3 @@ returns c =
     behind-is c.args.start c.deref.result.now c.args.frame.items (search rules) in
     plain-sent (drop c.args.start c.args.frame.items) _
     (ap is_checksummed (sym behind) ∙ sym c.is_checksummed.ensures ∙ c.if-is_checksummed.false) (search rules)
-    (ap (λ l. read_as_metadata (entry_of l)) (sym behind) ∙ c.in_ok-metadata.ensures)

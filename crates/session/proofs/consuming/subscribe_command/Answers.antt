@@ -6,4 +6,4 @@ use Rattle.session.proofs.consuming.subscribe_command.Goals as goal
 pub returns : goal.returns
 returns c = λ named.
     let one : IsProp (IsNamed c.args.asked) = hlevel props in
-    ap (λ (n : IsNamed c.args.asked). subscribe_command c.args.asked c.args.mode n) (one _ named)
+    rw (c.mode_of.ensures, c.requires.ranges) (ap (λ (n : IsNamed c.args.asked). subscribe_command c.args.asked n) (one _ named))

@@ -1,6 +1,6 @@
 use Rattle.std.proofs.Common.{◌∙◌, sym, refl}
 use Rattle.session.specs.declared.port.Found.TheVariants.{Topic, TooMany}
-use Rattle.session.proofs.Refusals.{subscribe_topic, subscribe_named, subscribe_served}
+use Rattle.session.proofs.Refusals.{subscribe_topic, subscribe_named}
 use Rattle.session.proofs.session.Session.subscribe_new.Goals as goal
 
 pub find-requires : goal.find-requires
@@ -8,9 +8,6 @@ find-requires g c = rw c.as_str.ensures (record { named = subscribe_topic c.args
 
 pub subscribe_on-requires-clause-named : goal.subscribe_on-requires-clause-named
 subscribe_on-requires-clause-named g c = subscribe_named c.args.self.now.consumers c.args.asked (sym c.own_consumer_refusal.ensures ∙ c.in_default.is)
-
-pub subscribe_on-requires-clause-served : goal.subscribe_on-requires-clause-served
-subscribe_on-requires-clause-served g c = subscribe_served c.args.self.now.consumers c.args.asked (sym c.own_consumer_refusal.ensures ∙ c.in_default.is)
 
 pub returns-in-Topic-clause-step : goal.returns-in-Topic-clause-step
 returns-in-Topic-clause-step g c = λ s.

@@ -1,11 +1,9 @@
-use Rattle.std.proofs.Common.{◌∙◌, rules, sym}
+use Rattle.std.proofs.Common.{rules, sym}
 use Rattle.session.proofs.session.Session.try_subscribe.Goals as goal
 
 pub returns-clause-ok : goal.returns-clause-ok
 returns-clause-ok g c = λ s. record {
   named = c.requires.named;
-  mode = c.unwrap-mode.result;
-  served = sym c.mode_of.ensures ∙ c.unwrap-mode.ensures;
   answer = c.command-answer.result;
   step = rw (sym (c.subscribe_command.ensures c.requires.named)) (search rules);
   answered = search rules;

@@ -1,23 +1,19 @@
-use Rattle.std.proofs.Common.{◌≡◌, not, sym, ap}
-use Rattle.holds.specs.Deliveries.{same_key, given_back}
-use Rattle.subscriptions.specs.declared.consumer.Consumer.{Consumer}
+use Rattle.std.proofs.Common.{◌≡◌, ap}
+use Rattle.holds.specs.Deliveries.{given_back}
 use Rattle.subscriptions.specs.Held.{subscription_of}
 use Rattle.subscriptions.specs.Steps.{each_delivery, detached_on}
 use Rattle.subscriptions.proofs.Each.{each_by}
-use Rattle.subscriptions.proofs.Seats.{keys_kept}
 use Rattle.subscriptions.proofs.Sound.{sound_detached}
 use Rattle.subscriptions.proofs.subscription.Subscription.detach.Goals as goal
 
 pub invariant_of-self : goal.invariant_of-self
 invariant_of-self c =
     let s = subscription_of c.self.inside in
-    let given : c.give_back.new.self.deliveries ≡ each_delivery (λ i d. given_back c.args.key d) s.deliveries = each_by (λ i d. given_back c.args.key d) s.deliveries _ c.give_back.ensures.deliveries in record {
-      sound = rw (c.forget_consumer.ensures, c.detach.ensures.mode, c.give_back.ensures.acked, given) (sound_detached c.args.key s c.self.invariant.sound);
-      seated = rw (c.forget_consumer.ensures, c.detach.ensures.keys, c.self.invariant.seated) (sym (keys_kept (λ (x : Consumer). x.key) (λ k. not (same_key k c.args.key)) s.consumers));
-    }
+    let given : c.give_back.new.self.deliveries ≡ each_delivery (λ i d. given_back c.args.key d) s.deliveries = each_by (λ i d. given_back c.args.key d) s.deliveries _ c.give_back.ensures.deliveries in
+    rw (c.forget_consumer.ensures, c.detach.ensures.mode, c.detach.ensures.seats, c.give_back.ensures.acked, given) (sound_detached c.args.key s c.self.invariant)
 
 pub returns : goal.returns
 returns c =
     let s = subscription_of c.self.inside in
     let given : c.give_back.new.self.deliveries ≡ each_delivery (λ i d. given_back c.args.key d) s.deliveries = each_by (λ i d. given_back c.args.key d) s.deliveries _ c.give_back.ensures.deliveries in
-    rw (c.forget_consumer.ensures, c.detach.ensures.mode, c.give_back.ensures.acked, given) (ap (detached_on c.args.key) c.self.view_is)
+    rw (c.forget_consumer.ensures, c.detach.ensures.mode, c.detach.ensures.seats, c.give_back.ensures.acked, given) (ap (detached_on c.args.key) c.self.view_is)

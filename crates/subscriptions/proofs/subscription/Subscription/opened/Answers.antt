@@ -4,7 +4,5 @@ use Rattle.subscriptions.proofs.subscription.Subscription.opened.Goals as goal
 
 pub invariant_of-result : goal.invariant_of-result
 invariant_of-result c =
-    let nobody : c.new-2.result.items ≡ [] = search rules in record {
-      sound = rw (nobody, c.new.ensures.mode, c.opened.ensures.acked, c.opened.ensures.deliveries) (sound_opened c.args.name c.args.acked);
-      seated = rw nobody c.new.ensures.keys;
-    }
+    let nobody : c.new-2.result.items ≡ [] = search rules in
+    rw (nobody, c.new.ensures.mode, c.new.ensures.seats, c.opened.ensures.acked, c.opened.ensures.deliveries) (sound_opened c.args.name c.args.acked)

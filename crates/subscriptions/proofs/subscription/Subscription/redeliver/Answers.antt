@@ -12,10 +12,8 @@ invariant_of-self c =
     let s = subscription_of c.self.inside in
     let asked = option_copied c.args.asked in
     let given : c.give_back_asked.new.progress.deliveries ≡ each_delivery (λ i d. cond (is_asked_back s.mode asked i) (given_back c.args.key d) d) s.deliveries =
-    each_by (λ i d. cond (is_asked_back s.mode asked i) (given_back c.args.key d) d) s.deliveries _ (rw (← c.mode-mode.ensures) c.give_back_asked.ensures.deliveries) in record {
-      sound = rw (c.give_back_asked.ensures.acked, given) (sound_redelivered c.args.key asked s c.self.invariant.sound);
-      seated = c.self.invariant.seated;
-    }
+    each_by (λ i d. cond (is_asked_back s.mode asked i) (given_back c.args.key d) d) s.deliveries _ (rw (← c.mode-mode.ensures) c.give_back_asked.ensures.deliveries) in
+    rw (c.give_back_asked.ensures.acked, given) (sound_redelivered c.args.key asked s c.self.invariant)
 
 pub returns : goal.returns
 returns c =

@@ -1,4 +1,4 @@
-use Rattle.std.proofs.Common.{◌≡◌, Some, None, refl, ap, subst, ◌∙◌, set, rules}
+use Rattle.std.proofs.Common.{◌≡◌, [], Some, None, refl, ap, subst, ◌∙◌, set, rules}
 use Rattle.std.specs.List.{position}
 use Rattle.subscriptions.specs.State.{Subscriptions}
 use Rattle.subscriptions.specs.Steps.{is_on, first_changed, detached, detached_on}
@@ -9,21 +9,22 @@ use Rattle.subscriptions.proofs.table.Subscriptions.detach.Goals as goal
 
 pub returns-in_default : goal.returns-in_default
 returns-in_default c =
-    let t : Subscriptions = record { subs = c.self.inside.subs.items; changes = c.self.inside.changes.items } in
+    let t : Subscriptions = record { subs = c.self.inside.subs.items; changes = c.self.inside.changes.items; slots = c.self.inside.slots.items } in
     let at : position (is_on c.args.key) c.self.inside.subs.items ≡ None = search rules in
     subst (λ (x : Subscriptions). x ≡ detached x c.args.key) c.self.view_is (stays_at t c.args.key (detached_on c.args.key) at)
 
 pub invariant_of-self : goal.invariant_of-self
 invariant_of-self c =
-    let t : Subscriptions = record { subs = c.self.inside.subs.items; changes = c.self.inside.changes.items } in
+    let t : Subscriptions = record { subs = c.self.inside.subs.items; changes = c.self.inside.changes.items; slots = c.self.inside.slots.items } in
     let at : position (is_on c.args.key) c.self.inside.subs.items ≡ Some c.in-Some.place = search rules in
+    let cleared : c.clear.new.self.items ≡ [] = search rules in
     let new : set c.self.inside.subs.items c.in-Some.place c.detach.new.self ≡ first_changed (is_on c.args.key) (detached_on c.args.key) c.self.inside.subs.items =
     changes (is_on c.args.key) (detached_on c.args.key) c.self.inside.subs.items c.in-Some.place c.index_mut-sub.result.now c.detach.new.self at c.index_mut-sub.ensures.value c.detach.ensures in
-    rw new (limits_changed t (is_on c.args.key) (detached_on c.args.key) (λ _. refl) c.self.invariant)
+    rw (new, cleared) (limits_changed t (is_on c.args.key) (detached_on c.args.key) (λ _. refl) c.self.invariant.0, tt)
 
 pub returns : goal.returns
 returns c =
-    let t : Subscriptions = record { subs = c.self.inside.subs.items; changes = c.self.inside.changes.items } in
+    let t : Subscriptions = record { subs = c.self.inside.subs.items; changes = c.self.inside.changes.items; slots = c.self.inside.slots.items } in
     let at : position (is_on c.args.key) c.self.inside.subs.items ≡ Some c.in-Some.place = search rules in
     changes_at t c.args.key (detached_on c.args.key) c.in-Some.place c.index_mut-sub.result.now c.detach.new.self at c.index_mut-sub.ensures.value c.detach.ensures
     ∙ ap (λ (x : Subscriptions). detached x c.args.key) c.self.view_is

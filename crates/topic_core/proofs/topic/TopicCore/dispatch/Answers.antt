@@ -1,4 +1,5 @@
 use Rattle.std.proofs.Common.{◌≡◌, sym, subst, rules}
+use Rattle.std.specs.Prelude.{OnOk, OnErr}
 use Rattle.subscriptions.specs.State.{Subscriptions}
 use Rattle.subscriptions.specs.Steps as subscriptions
 use Rattle.topic_core.specs.Core.{Core}
@@ -10,9 +11,13 @@ use Rattle.topic_core.proofs.topic.TopicCore.dispatch.Goals as goal
 
 pub invariant_of-self-2 : goal.invariant_of-self-2
 invariant_of-self-2 g c =
-    let t = core_of c.self.inside in (
+    let t = core_of c.self.inside in
+    let key = c.key_of-key.result in
+    let i = c.in-Some.position in
+    let ok = subst (λ (s : Subscriptions). OnOk c.send.result (c.send.new.self ≡ subscriptions.sent s key i)) c.pick.ensures.same c.send.ensures.ok in
+    let err = subst (λ (s : Subscriptions). OnErr c.send.result (c.send.new.self ≡ s)) c.pick.ensures.same c.send.ensures.err in (
       c.self.invariant.0,
-      sound-sent t c.key_of-key.result c.in-Some.position c.send.result c.send.new.self c.in-Some.ensures.some c.send.ensures.ok c.send.ensures.err c.self.invariant.1,
+      sound-sent t key i c.send.result c.send.new.self c.in-Some.ensures.some ok err c.self.invariant.1,
       receipts-subs t c.send.new.self c.self.invariant.2,
     )
 

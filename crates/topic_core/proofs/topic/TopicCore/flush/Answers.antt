@@ -110,7 +110,7 @@ returns-clause-standing g c =
       entries = λ i l x. g.met.E.EntryStore.holds_stands E1 i l x;
       subscriptions = λ n i k x. g.met.C.SubStore.holds_stands C1 n i k x;
     } in
-    λ h. ends_standing t sound works none v0 v1 d0 d1 laws (h.settled works) written c.finish.result t2 e f
+    λ h. ends_standing t sound works none v0 v1 d0 d1 laws (h.settled works) h.slots written c.finish.result t2 e f
 
 pub returns-clause-no_memory : goal.returns-clause-no_memory
 returns-clause-no_memory g c =

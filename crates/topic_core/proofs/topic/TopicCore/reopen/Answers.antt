@@ -1,9 +1,12 @@
 use Rattle.std.proofs.Common.{◌≡◌, ◌≤◌, true, length, sym, ap, subst, ◌∙◌, arith}
 use Rattle.managed_ledger.specs.Shape.{total}
+use Rattle.disk.specs.Disk.{Image}
+use Rattle.disk.specs.Areas.{OfTopic}
 use Rattle.topic_core.specs.Core.{Core}
 use Rattle.topic_core.specs.Openings.{Hold}
 use Rattle.topic_core.specs.Views.{EntryView, SubView}
 use Rattle.topic_core.proofs.Writing.{both}
+use Rattle.topic_core.proofs.Filling.{OnlyReads, entries_read, subs_read, then_leaves, reopened_within}
 use Rattle.topic_core.proofs.Standings.{AreLawful, left_longer, reopened_step, reopened_standing}
 use Rattle.topic_core.proofs.topic.TopicCore.reopen.Goals as goal
 
@@ -40,6 +43,7 @@ returns-clause-step g c =
     let was : t.failed ≡ true = sym (ap (λ (k : Core). k.failed) c.self.view_is) ∙ c.if-not-self.false in
     let d0 = g.S.Shelf.disk c.args.shelf.now in
     let d1 = g.S.Shelf.disk c.open.new.shelf in
+    let d2 = g.S.Shelf.disk c.restart.new.shelf in
     let E0 = c.args.stores.now.entries in
     let C0 = c.args.stores.now.subscriptions in
     let E1 = c.in_ok-again.again.entries in
@@ -54,10 +58,14 @@ returns-clause-step g c =
     λ h. let s = h.left d0.seen (g.met.S.Shelf.lawful c.args.shelf.now h.honest).leaves_seen in
     let hold : Hold v1 d1 s.ledger s.kept = c.in_ok-again.ensures.opened s.ledger s.kept h.honest (subst (λ n. g.E.EntryStore.stands n d0.seen s.ledger) (sym topic_is) s.entries)
     (subst (λ n. g.C.SubStore.stands n (length s.ledger) d0.seen s.kept) (c.requires.matched.one_topic ∙ sym topic_is) s.subscriptions) in
-    let content = g.met.E.EntryStore.holds_content E1 d1.seen s.ledger hold.entries.now in
+    let restart = c.in_ok-restart.ensures in
+    let reads : OnlyReads d1 d2 = record { seen = restart.seen; any_moment = restart.any_moment; kept = restart.kept } in
+    let held = entries_read e1.holds d1 d2 s.ledger reads hold.entries in
+    let slotted = restart.slots s.ledger hold.entries.honest hold.entries.now in
+    let content = g.met.E.EntryStore.holds_content E1 d2.seen s.ledger held.now in
     let counted = g.met.E.EntryStore.holds_counts E1 d1.seen s.ledger hold.entries.now in
     let kept = g.met.C.SubStore.holds_content C1 (length s.ledger) d1.seen s.kept hold.subscriptions.now in
-    reopened_step t v0 v1 d0.seen d1 s.ledger s.kept c.restart.new.self content kept counted c.in_ok-restart.ensures.ok was s.is_left
+    reopened_step t v0 v1 d0.seen d2 s.ledger s.kept restart.ok.0 c.restart.new.self content kept counted restart.ok.2 slotted was s.is_left
 
 pub returns-clause-standing : goal.returns-clause-standing
 returns-clause-standing g c =
@@ -65,6 +73,7 @@ returns-clause-standing g c =
     let was : t.failed ≡ true = sym (ap (λ (k : Core). k.failed) c.self.view_is) ∙ c.if-not-self.false in
     let d0 = g.S.Shelf.disk c.args.shelf.now in
     let d1 = g.S.Shelf.disk c.open.new.shelf in
+    let d2 = g.S.Shelf.disk c.restart.new.shelf in
     let E0 = c.args.stores.now.entries in
     let C0 = c.args.stores.now.subscriptions in
     let E1 = c.in_ok-again.again.entries in
@@ -79,7 +88,11 @@ returns-clause-standing g c =
     λ h. let s = h.left d0.seen (g.met.S.Shelf.lawful c.args.shelf.now h.honest).leaves_seen in
     let hold : Hold v1 d1 s.ledger s.kept = c.in_ok-again.ensures.opened s.ledger s.kept h.honest (subst (λ n. g.E.EntryStore.stands n d0.seen s.ledger) (sym topic_is) s.entries)
     (subst (λ n. g.C.SubStore.stands n (length s.ledger) d0.seen s.kept) (c.requires.matched.one_topic ∙ sym topic_is) s.subscriptions) in
-    let content = g.met.E.EntryStore.holds_content E1 d1.seen s.ledger hold.entries.now in
+    let restart = c.in_ok-restart.ensures in
+    let reads : OnlyReads d1 d2 = record { seen = restart.seen; any_moment = restart.any_moment; kept = restart.kept } in
+    let held = entries_read e1.holds d1 d2 s.ledger reads hold.entries in
+    let slotted = restart.slots s.ledger hold.entries.honest hold.entries.now in
+    let content = g.met.E.EntryStore.holds_content E1 d2.seen s.ledger held.now in
     let counted = g.met.E.EntryStore.holds_counts E1 d1.seen s.ledger hold.entries.now in
     let kept = g.met.C.SubStore.holds_content C1 (length s.ledger) d1.seen s.kept hold.subscriptions.now in
     let laws : AreLawful v1 = record {
@@ -87,4 +100,44 @@ returns-clause-standing g c =
       entries = λ i l x. g.met.E.EntryStore.holds_stands E1 i l x;
       subscriptions = λ n i k x. g.met.C.SubStore.holds_stands C1 n i k x;
     } in
-    reopened_standing t v0 v1 d0.seen d1 s.ledger s.kept c.restart.new.self content kept counted c.in_ok-restart.ensures.ok laws hold.entries hold.subscriptions
+    let subs = subs_read (s1.holds (length s.ledger)) s1.written d1 d2 s.kept reads hold.subscriptions in
+    reopened_standing t v0 v1 d0.seen d2 s.ledger s.kept restart.ok.0 c.restart.new.self content kept counted restart.ok.2 slotted laws held subs
+
+pub returns-in_err-again-clause-within : goal.returns-in_err-again-clause-within
+returns-in_err-again-clause-within g c =
+    let d0 = g.S.Shelf.disk c.args.shelf.now in
+    let d1 = g.S.Shelf.disk c.open.new.shelf in
+    let T = g.E.EntryStore.topic_of c.args.stores.now.entries in
+    let topic_is : c.topic-topic.result ≡ T = c.topic-topic.ensures in
+    let opened = c.in_err-again.ensures in
+    λ h. reopened_within (g.E.EntryStore.stands T) g.C.SubStore.stands T (g.C.SubStore.topic_of c.args.stores.now.subscriptions) _ d0 d1 c.requires.matched.one_topic
+    (λ f other. opened.others h.honest f (subst (λ n. ¬ OfTopic n f) (sym topic_is) other))
+    (opened.any_moment h.honest) h.left
+
+pub returns-in_err-restart-clause-within : goal.returns-in_err-restart-clause-within
+returns-in_err-restart-clause-within g c =
+    let d0 = g.S.Shelf.disk c.args.shelf.now in
+    let d1 = g.S.Shelf.disk c.open.new.shelf in
+    let d2 = g.S.Shelf.disk c.restart.new.shelf in
+    let T = g.E.EntryStore.topic_of c.args.stores.now.entries in
+    let topic_is : c.topic-topic.result ≡ T = c.topic-topic.ensures in
+    let opened = c.in_ok-again.ensures in
+    λ h. let restart = c.in_err-restart.ensures in
+    let honest = opened.kept.honest h.honest in
+    reopened_within (g.E.EntryStore.stands T) g.C.SubStore.stands T (g.C.SubStore.topic_of c.args.stores.now.subscriptions) _ d0 d2 c.requires.matched.one_topic
+    (λ f other. ap (λ (i : Image). i f) (restart.seen honest) ∙ opened.others h.honest f (subst (λ n. ¬ OfTopic n f) (sym topic_is) other))
+    (then_leaves d0 d1 d2 (opened.any_moment h.honest) (restart.any_moment honest)) h.left
+
+pub returns-clause-within : goal.returns-clause-within
+returns-clause-within g c =
+    let d0 = g.S.Shelf.disk c.args.shelf.now in
+    let d1 = g.S.Shelf.disk c.open.new.shelf in
+    let d2 = g.S.Shelf.disk c.restart.new.shelf in
+    let T = g.E.EntryStore.topic_of c.args.stores.now.entries in
+    let topic_is : c.topic-topic.result ≡ T = c.topic-topic.ensures in
+    let opened = c.in_ok-again.ensures in
+    λ h. let restart = c.in_ok-restart.ensures in
+    let honest = opened.kept.honest h.honest in
+    reopened_within (g.E.EntryStore.stands T) g.C.SubStore.stands T (g.C.SubStore.topic_of c.args.stores.now.subscriptions) _ d0 d2 c.requires.matched.one_topic
+    (λ f other. ap (λ (i : Image). i f) (restart.seen honest) ∙ opened.others h.honest f (subst (λ n. ¬ OfTopic n f) (sym topic_is) other))
+    (then_leaves d0 d1 d2 (opened.any_moment h.honest) (restart.any_moment honest)) h.left
