@@ -1,4 +1,6 @@
-// Each file and each answer was worked out by hand from the format of the files.
+// Each file and each answer was worked out by hand from the format of the files. What the proof of a test costs goes by the paths
+// on which a store or a device is dropped. So records are tables, functions that borrow a store or a device tell what they saw as
+// plain values, and a test drops the device before it looks at them.
 mod bytes;
 mod damage;
 mod kept;
@@ -33,38 +35,40 @@ const HEADER: [u8; 16] = [
     1, 0x50, 0x55, 0x4c, 0x53, 0x41, 0x52, 1, 1, 0, 0, 0, 0, 0, 0, 0,
 ];
 
-fn made(alloc: Global, name: &str, start: u64) -> Result<Record, AllocError> {
-    let name = Name::new(alloc, name)?;
-    Ok(Record::Made { name, start })
+// The kinds of records.
+#[derive(Clone, Copy)]
+enum Kind {
+    Made,
+    Removed,
+    One,
+    Through,
+    Range,
 }
 
-fn acknowledged(alloc: Global, name: &str, position: u64) -> Result<Record, AllocError> {
-    let name = Name::new(alloc, name)?;
-    Ok(Record::Acknowledged { name, position })
-}
+// A record as data: its kind, the name of its subscription, and its positions; those that its kind doesn't have are 0.
+type Change = (Kind, &'static str, u64, u64);
 
-fn acknowledged_through(alloc: Global, name: &str, position: u64) -> Result<Record, AllocError> {
+// The record of a change.
+fn record(alloc: Global, change: Change) -> Result<Record, AllocError> {
+    let (kind, name, first, last) = change;
     let name = Name::new(alloc, name)?;
-    Ok(Record::AcknowledgedThrough { name, position })
-}
-
-fn acknowledged_range(
-    alloc: Global,
-    name: &str,
-    first: u64,
-    last: u64,
-) -> Result<Record, AllocError> {
-    let name = Name::new(alloc, name)?;
-    Ok(Record::AcknowledgedRange { name, first, last })
-}
-
-fn removed(alloc: Global, name: &str) -> Result<Record, AllocError> {
-    let name = Name::new(alloc, name)?;
-    Ok(Record::Removed { name })
+    Ok(match kind {
+        Kind::Made => Record::Made { name, start: first },
+        Kind::Removed => Record::Removed { name },
+        Kind::One => Record::Acknowledged {
+            name,
+            position: first,
+        },
+        Kind::Through => Record::AcknowledgedThrough {
+            name,
+            position: first,
+        },
+        Kind::Range => Record::AcknowledgedRange { name, first, last },
+    })
 }
 
 // Adds one record; one that isn't of its form is refused as too large.
-fn append(
+fn append_record(
     store: &mut CursorStore,
     shelf: &mut MemShelf,
     alloc: Global,
@@ -78,6 +82,15 @@ fn append(
     let prepared = store.prepare(&changes)?;
     store.append_prepared(shelf, prepared)?;
     Ok(())
+}
+
+fn append(
+    store: &mut CursorStore,
+    shelf: &mut MemShelf,
+    alloc: Global,
+    change: Change,
+) -> Result<(), Refusal> {
+    append_record(store, shelf, alloc, record(alloc, change)?)
 }
 
 // Whether this is the subscription, with these positions of the first ten acknowledged.
@@ -96,6 +109,11 @@ fn keeps_s(store: &CursorStore, positions: &[u64]) -> Result<bool, AllocError> {
     Ok(kept.len() == 1 && is_so(&kept[0], "s", positions))
 }
 
+// How many subscriptions the store keeps.
+fn count(store: &CursorStore) -> Result<usize, AllocError> {
+    Ok(store.kept()?.len())
+}
+
 // The answer, where it isn't want of memory.
 fn answer<T: Drop>(answered: Result<T, Refusal>) -> Result<Result<T, Refusal>, Refusal> {
     match answered {
@@ -107,7 +125,7 @@ fn answer<T: Drop>(answered: Result<T, Refusal>) -> Result<Result<T, Refusal>, R
 // What an opening finds: the number of subscriptions, or why it refuses.
 fn found(alloc: Global, shelf: &mut MemShelf) -> Result<Result<usize, Refusal>, Refusal> {
     match CursorStore::open(alloc, shelf, TOPIC, ENTRIES) {
-        Ok(store) => Ok(Ok(store.kept()?.len())),
+        Ok(store) => Ok(Ok(count(&store)?)),
         Err(e) => answer(Err(e)),
     }
 }

@@ -8,8 +8,6 @@ mod durable;
 mod file_id;
 mod history;
 mod shelf;
-#[cfg(test)]
-mod tests;
 
 pub use crash_shelf::{CrashForm, CrashShelf, Fuse};
 pub use durable::persist;

@@ -12,7 +12,5 @@ mod settle;
 mod shelf;
 mod span;
 mod steps;
-#[cfg(test)]
-mod tests;
 
 pub use shelf::MemShelf;

@@ -8,6 +8,3 @@ mod failover;
 
 pub use exclusive::ExclusiveDispatcher;
 pub use failover::FailoverDispatcher;
-
-#[cfg(test)]
-mod tests;

@@ -16,6 +16,3 @@ pub use delivery::Delivery;
 pub use dispatcher::{Dispatcher, Pending};
 pub use holds_map::Holds;
 pub use laws::restoring_undoes;
-
-#[cfg(test)]
-mod tests;

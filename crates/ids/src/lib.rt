@@ -8,6 +8,3 @@ mod message_id;
 
 pub use laws::position_names;
 pub use message_id::{MessageId, MessageIdData, Position, from_id, to_id};
-
-#[cfg(test)]
-mod tests;

@@ -1,4 +1,3 @@
 pub mod Apart
-pub mod Below
 pub mod Cut
 pub mod From

@@ -16,6 +16,3 @@ pub use laws::{
 };
 pub use murmur::slot;
 pub use ranges::are_refused;
-
-#[cfg(test)]
-mod tests;

@@ -106,85 +106,118 @@ fn are(outputs: Vec<Output>, expected: &[(&[u8], Verdict)]) -> Result<bool, Refu
 
 #[test]
 fn open_never_has_memory(rt: HostRuntime) -> Result<(), Fail> {
-    let shelf = made(rt.alloc())?;
-    let mut node: MemNode = match Node::open(rt.alloc(), 1_000, shelf) {
-        Ok(node) => node,
-        Err((refusal, _)) => return Err(Fail::from(refusal)),
-    };
+    let mut node = opened(rt.alloc())?;
     assert_eq!(rt; worked(node.step(Event::Flush(0)))?.result, Verdict::Done);
     Ok(())
 }
 
-#[test]
-fn a_run_works_its_events_in_order(rt: HostRuntime) -> Result<(), Fail> {
-    let alloc = rt.alloc();
+/// What a node puts out through `connecting`.
+const OF_A_RUN: [(&[u8], Verdict); 7] = [
+    (&[], Verdict::Done),
+    (&[], Verdict::Done),
+    (&CONNECTED, Verdict::Done),
+    (&PONG, Verdict::Done),
+    (&[], Verdict::Unknown),
+    (&[], Verdict::Done),
+    (&[], Verdict::Unknown),
+];
+
+/// A client that connects in two pieces, pings and goes; another topic is opened again, and the session that is gone pumped.
+fn connecting(alloc: Global) -> Result<Vec<Event>, AllocError> {
     let mut events = Vec::with_capacity(alloc, 7)?;
     events.push(Event::Open)?;
-    events.push(Event::Bytes(0, octets(alloc, &CONNECT[..16])?))?;
-    events.push(Event::Bytes(0, octets(alloc, &CONNECT[16..])?))?;
-    events.push(Event::Bytes(0, octets(alloc, &PING)?))?;
+    for piece in [&CONNECT[..16], &CONNECT[16..], PING.as_slice()] {
+        events.push(Event::Bytes(0, octets(alloc, piece)?))?;
+    }
     events.push(Event::Reopen(1))?;
     events.push(Event::Close(0))?;
     events.push(Event::Pump(0))?;
-    let mut outputs = Vec::new(alloc);
-    let mut node: MemNode = match Node::open(alloc, 1_000, made(alloc)?) {
-        Ok(node) => node,
-        Err((refusal, _)) => return Err(Fail::from(refusal)),
-    };
-    node.run(events, &mut outputs)?;
-    let expected: [(&[u8], Verdict); 7] = [
-        (&[], Verdict::Done),
-        (&[], Verdict::Done),
-        (&CONNECTED, Verdict::Done),
-        (&PONG, Verdict::Done),
-        (&[], Verdict::Unknown),
-        (&[], Verdict::Done),
-        (&[], Verdict::Unknown),
-    ];
-    assert!(rt; are(outputs, &expected)?);
-    Ok(())
+    Ok(events)
+}
+
+/// A node over the files of a new topic.
+fn opened(alloc: Global) -> Result<MemNode, Fail> {
+    match Node::open(alloc, 1_000, made(alloc)?) {
+        Ok(node) => Ok(node),
+        Err((refusal, _)) => Err(Fail::from(refusal)),
+    }
 }
 
 #[test]
+fn a_run_works_its_events_in_order(rt: HostRuntime) -> Result<(), Fail> {
+    let mut node = opened(rt.alloc())?;
+    let mut outputs = Vec::new(rt.alloc());
+    node.run(connecting(rt.alloc())?, &mut outputs)?;
+    assert!(rt; are(outputs, &OF_A_RUN)?);
+    Ok(())
+}
+
+/// What a machine puts out through `sending`, a pump, a crash and a pump of a session that is gone.
+const OF_A_MACHINE: [(&[u8], Verdict); 9] = [
+    (&[], Verdict::Done),
+    (&[], Verdict::Done),
+    (&CONNECTED, Verdict::Done),
+    (&PRODUCER_SUCCESS, Verdict::Done),
+    (&[], Verdict::Done),
+    (&[], Verdict::Done),
+    (&RECEIPT, Verdict::Done),
+    (&[], Verdict::Done),
+    (&[], Verdict::Unknown),
+];
+
+#[test]
 fn a_machine_is_driven_through_events_and_crashes(rt: HostRuntime) -> Result<(), Fail> {
-    let alloc = rt.alloc();
-    let mut happenings = Vec::with_capacity(alloc, 8)?;
-    happenings.push(Happening::Event(Event::Open))?;
-    happenings.push(Happening::Event(Event::Bytes(0, octets(alloc, &CONNECT)?)))?;
-    happenings.push(Happening::Event(Event::Bytes(0, octets(alloc, &PRODUCER)?)))?;
-    happenings.push(Happening::Event(Event::Bytes(0, octets(alloc, &SEND)?)))?;
-    happenings.push(Happening::Event(Event::Flush(0)))?;
+    let mut happenings = sending(rt.alloc())?;
     happenings.push(Happening::Event(Event::Pump(0)))?;
     happenings.push(Happening::Crash)?;
     happenings.push(Happening::Event(Event::Pump(0)))?;
-    let mut outputs = Vec::new(alloc);
-    let machine: MemMachine = drive(alloc, 1_000, made(alloc)?, happenings, &mut outputs)?;
-    let expected: [(&[u8], Verdict); 9] = [
-        (&[], Verdict::Done),
-        (&[], Verdict::Done),
-        (&CONNECTED, Verdict::Done),
-        (&PRODUCER_SUCCESS, Verdict::Done),
-        (&[], Verdict::Done),
-        (&[], Verdict::Done),
-        (&RECEIPT, Verdict::Done),
-        (&[], Verdict::Done),
-        (&[], Verdict::Unknown),
-    ];
-    assert!(rt; are(outputs, &expected)?);
-    assert_eq!(rt; machine.status()?.map(|status| status.entries), Some(1));
+    let mut outputs = Vec::new(rt.alloc());
+    let machine = driven(rt.alloc(), happenings, &mut outputs)?;
+    assert!(rt; are(outputs, &OF_A_MACHINE)?);
+    assert_eq!(rt; entries(&machine)?, Some(1));
     Ok(())
+}
+
+// What follows stands between the tests and calls whose contracts say much, of which a test needs nothing.
+
+/// The machine behind what happened, and its outputs.
+fn driven(
+    alloc: Global,
+    happenings: Vec<Happening>,
+    outputs: &mut Vec<Output>,
+) -> Result<MemMachine, Fail> {
+    let shelf = made(alloc)?;
+    Ok(drive(alloc, 1_000, shelf, happenings, outputs)?)
+}
+
+/// The machine behind a crash, and what its opening answered.
+fn crashed(alloc: Global, machine: MemMachine) -> (MemMachine, Output) {
+    machine.crash(alloc, 1_000)
+}
+
+/// How many entries the topic has, where the node is up.
+fn entries(machine: &MemMachine) -> Result<Option<u64>, Refusal> {
+    match machine.status()? {
+        Some(status) => Ok(Some(status.entries)),
+        None => Ok(None),
+    }
+}
+
+/// A client that connects and sends an entry, which is committed.
+fn sending(alloc: Global) -> Result<Vec<Happening>, AllocError> {
+    let mut happenings = Vec::with_capacity(alloc, 8)?;
+    happenings.push(Happening::Event(Event::Open))?;
+    for frame in [CONNECT.as_slice(), PRODUCER.as_slice(), SEND.as_slice()] {
+        happenings.push(Happening::Event(Event::Bytes(0, octets(alloc, frame)?)))?;
+    }
+    happenings.push(Happening::Event(Event::Flush(0)))?;
+    Ok(happenings)
 }
 
 /// A machine whose node has one entry.
 fn with_an_entry(alloc: Global) -> Result<MemMachine, Fail> {
-    let mut happenings = Vec::with_capacity(alloc, 5)?;
-    happenings.push(Happening::Event(Event::Open))?;
-    happenings.push(Happening::Event(Event::Bytes(0, octets(alloc, &CONNECT)?)))?;
-    happenings.push(Happening::Event(Event::Bytes(0, octets(alloc, &PRODUCER)?)))?;
-    happenings.push(Happening::Event(Event::Bytes(0, octets(alloc, &SEND)?)))?;
-    happenings.push(Happening::Event(Event::Flush(0)))?;
     let mut outputs = Vec::new(alloc);
-    let machine = drive(alloc, 1_000, made(alloc)?, happenings, &mut outputs)?;
+    let machine = driven(alloc, sending(alloc)?, &mut outputs)?;
     for output in outputs.as_slice() {
         done(output)?;
     }
@@ -200,20 +233,29 @@ fn done(output: &Output) -> Result<(), Refusal> {
     }
 }
 
+/// The machine behind a crash whose opening the device refuses.
+fn refused(alloc: Global, machine: MemMachine) -> Result<MemMachine, Fail> {
+    let (machine, output) = crashed(alloc, machine);
+    if worked(output)?.result != Verdict::Refused(Refusal::Device) || entries(&machine)?.is_some() {
+        return Err(Fail::new("opened, though a read failed"));
+    }
+    Ok(machine)
+}
+
+/// Whether the next crash's opening finds one entry.
+fn finds_the_entry(alloc: Global, machine: MemMachine) -> Result<bool, Fail> {
+    let (machine, output) = crashed(alloc, machine);
+    Ok(worked(output)?.result == Verdict::Done && entries(&machine)? == Some(1))
+}
+
 // Each read of an opening fails in turn; the last one is that of the entry.
 #[test]
 fn a_failing_read_refuses_an_opening(rt: HostRuntime) -> Result<(), Fail> {
-    let alloc = rt.alloc();
     for read in 1..=13u64 {
-        let mut machine = with_an_entry(alloc)?;
+        let mut machine = with_an_entry(rt.alloc())?;
         machine.arm(Fuse::FailRead(read))?;
-        let (machine, output) = machine.crash(alloc, 1_000);
-        let refused = Verdict::Refused(Refusal::Device);
-        assert_eq!(rt; worked(output)?.result, refused, "{read}");
-        assert!(rt; machine.status()?.is_none(), "{read}");
-        let (machine, output) = machine.crash(alloc, 1_000);
-        assert_eq!(rt; worked(output)?.result, Verdict::Done, "{read}");
-        assert_eq!(rt; machine.status()?.map(|status| status.entries), Some(1));
+        let machine = refused(rt.alloc(), machine)?;
+        assert!(rt; finds_the_entry(rt.alloc(), machine)?, "{read}");
     }
     Ok(())
 }

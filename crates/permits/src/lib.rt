@@ -8,6 +8,3 @@ mod plain;
 
 pub use gauge::Gauge;
 pub use plain::{MAX_PERMITS, PlainGauge, Told, TooManyPermits};
-
-#[cfg(test)]
-mod tests;

@@ -21,6 +21,3 @@ pub use laws::{
 pub use put::{put_bytes, put_number, put_varint};
 pub use slice::ByteSlice;
 pub use value::{Field, Value};
-
-#[cfg(test)]
-mod tests;

@@ -29,16 +29,26 @@ const REPLAY: &str = "Runs a script of events over a broker in memory.
 The script is read whole before its first line is worked. Its lines are words one space apart,
 with numbers in decimal and bytes in hex:
 
-  init N         a broker with N entries a ledger, 1 to 50000; first, and only there
-  open           opens the next session; sessions are numbered from 0
-  bytes S HEX    session S receives these bytes
-  pump S         session S collects its replies and messages
-  close S        session S ends
-  flush T        topic T commits what waits
+  init N          a broker with N entries a ledger, 1 to 50000; first, and only there
+  open            opens the next session; sessions are numbered from 0
+  bytes S HEX     session S receives these bytes
+  pump S          session S collects its replies and messages
+  close S         session S ends
+  flush T         topic T commits what waits; topics are numbered from 0
+  fail K          the device's Kth write, cut or sync from now fails, once
+  stop K          that one and all later ones fail, until the next crash
+  crash old       the power is cut, and the node starts again: of each file what its last
+                  sync left; `crash new`: what reads gave; `crash fill HH`: this byte
+                  wherever a byte may be anything
+  reopen T        topic T's files are opened again, after a failure
+  status          prints a line for each topic and each of its subscriptions
 
 For each line one line is printed: its number, the bytes out in hex or `-`, and the result: `ok`,
-`F1` to `F9` for a fault that ended the session, `S5` for want of memory, `full`, or `none` for a
-session or topic that isn't there.";
+`F1` to `F9` for a fault that ended the session, `S1` to `S6` for a refusal of the stores (`S1` a
+failed device, `S2` a damaged file, `S5` want of memory), `full`, or `none` for a session or topic
+that isn't there. A status line of a topic is `T`, its number, its entries, its segment files and
+its name; one of a subscription is `S`, its topic's number, its mark-delete position, how many
+ranges it acknowledged behind that, and its name.";
 
 /// The file of the script, or none for the standard input.
 pub(crate) fn script_file<'a>(matches: &ArgMatches<'a>) -> Option<&'a str>

@@ -19,9 +19,6 @@ use std::process::ExitCode;
 use std::rt::{Env, Files};
 use std::{env, io};
 
-#[cfg(test)]
-mod tests;
-
 const REFUSED: u8 = 2;
 
 fn main(rt: HostRuntime) -> ExitCode {

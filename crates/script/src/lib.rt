@@ -20,6 +20,3 @@ pub use output::{
 };
 pub use script::{Script, ScriptFault, read_script};
 pub use sequence::Sequence;
-
-#[cfg(test)]
-mod tests;

@@ -7,6 +7,3 @@
 mod shared_dispatcher;
 
 pub use shared_dispatcher::SharedDispatcher;
-
-#[cfg(test)]
-mod tests;

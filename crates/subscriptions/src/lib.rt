@@ -22,12 +22,3 @@ pub use initial_position::InitialPosition;
 pub use laws::{deliveries_are_committed, picked_is_open, stays_sound, subscriptions_are_kept};
 pub use status::SubscriptionStatus;
 pub use table::Subscriptions;
-
-#[cfg(test)]
-mod plain;
-#[cfg(test)]
-mod plain_status;
-#[cfg(test)]
-mod status_tests;
-#[cfg(test)]
-mod tests;

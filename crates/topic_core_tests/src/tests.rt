@@ -1,28 +1,34 @@
-// Each answer was worked out by hand from what a client of Pulsar is told.
-mod asking;
+// Each answer was worked out by hand from what a client of Pulsar is told. What the proof of a test costs goes by the paths on
+// which a topic is dropped. So only a test owns one, and functions that borrow it tell what they saw as plain values; the test
+// drops it before it looks at them.
 mod basics;
-mod crashes;
 mod failures;
-mod keyed;
-mod limits;
-mod sharing;
-mod slow;
-mod table;
 
-ghost use Rattle.std.specs.Prelude.{◌<◌, IfOk};
+ghost use Rattle.std.specs.Prelude.{IfOk};
 ghost use Rattle.topic_core_tests.specs.Matching.{AreMatched};
 
-use commands::Reply;
+use bytes::Bytes;
+use commands::{AckType, InitialPosition, Reply, ReplyText, Sequence, Text, read_entry};
 use cursor_store::CursorStore;
 use disk_mem::MemShelf;
 use gated_log::Refusal;
+use holds::SlotRanges;
+use ids::MessageIdData;
 use managed_ledger::{EntryStore, ManagedLedger};
-use std::alloc::Global;
-use std::test::Fail;
-use subscriptions::TooManyPermits;
-use topic_core::{Answer, Outgoing, TopicCommand, TopicCore, TopicStores};
+use records::is_subscription_name;
+use std::alloc::{AllocError, Global};
+use subscriptions::Mode;
+use topic_core::{
+    Ack, Answer, PlainEntry, Send, SentEntry, Subscribe, TopicCommand, TopicCore, TopicStores,
+};
 
-// A topic over its stores, on a device in memory. Core and stores remember the same, as a flush asks.
+// Metadata of ten bytes, behind their size: the producer "p", the sequence id 0, the time 1 and a field that isn't known.
+const PLAIN: &[u8] = b"\0\0\0\x0a\x0a\x01p\x10\0\x18\x01\xc0>\x05";
+
+// The refusal of a call, whether the topic is failed behind it, and how many entries it has.
+type Seen = (Option<Refusal>, bool, u64);
+
+// A topic of one entry a ledger over its stores, on a device in memory. Core and stores remember the same, as a flush asks.
 #[derive(Drop)]
 struct Topic {
     core: TopicCore,
@@ -31,14 +37,13 @@ struct Topic {
 }
 
 impl Topic {
-    // A topic with nothing in it, of so many entries a ledger.
-    fn new(alloc: Global, per_ledger: u32) -> Result<Topic, Fail>
-        requires { 0 < per_ledger }
+    // A new topic.
+    fn new(alloc: Global) -> Result<Topic, Refusal>
         ensures { IfOk result (λ t. AreMatched t.core t.stores) }
     {
         let mut shelf = MemShelf::new(alloc);
-        let stores = TopicStores::create(alloc, &mut shelf, 0, per_ledger)?;
-        let core = TopicCore::open(alloc, per_ledger, &stores, &mut shelf)?;
+        let stores = TopicStores::create(alloc, &mut shelf, 0, 1)?;
+        let core = TopicCore::open(alloc, 1, &stores, &mut shelf)?;
         Ok(Topic {
             core,
             stores,
@@ -46,54 +51,15 @@ impl Topic {
         })
     }
 
-    // The topic whose files are on the device.
-    fn open(alloc: Global, mut shelf: MemShelf, per_ledger: u32) -> Result<Topic, Refusal>
-        requires { 0 < per_ledger }
-        ensures { IfOk result (λ t. AreMatched t.core t.stores) }
-    {
-        let stores = TopicStores::open(alloc, &mut shelf, 0, per_ledger)?;
-        let core = TopicCore::open(alloc, per_ledger, &stores, &mut shelf)?;
-        Ok(Topic {
-            core,
-            stores,
-            shelf,
-        })
-    }
-
-    fn command(&mut self, who: u64, command: TopicCommand) -> Answer
+    // Asks, whatever is answered. Only want of memory is an error.
+    fn ask(&mut self, who: u64, command: TopicCommand) -> Result<(), AllocError>
         requires { AreMatched self.old.core self.old.stores }
         ensures { AreMatched self.new.core self.new.stores }
     {
-        self.core.command(who, command)
-    }
-
-    fn grant(&mut self, who: u64, id: u64, permits: u32) -> Result<(), TooManyPermits>
-        requires { AreMatched self.old.core self.old.stores }
-        ensures { AreMatched self.new.core self.new.stores }
-    {
-        self.core.grant(who, id, permits)
-    }
-
-    fn dispatch(&mut self, who: u64, id: u64) -> Result<Option<Outgoing>, Refusal>
-        requires { AreMatched self.old.core self.old.stores }
-        ensures { AreMatched self.new.core self.new.stores }
-    {
-        self.core
-            .dispatch(&self.stores.entries, &mut self.shelf, who, id)
-    }
-
-    fn collect(&mut self, who: u64) -> Option<Reply>
-        requires { AreMatched self.old.core self.old.stores }
-        ensures { AreMatched self.new.core self.new.stores }
-    {
-        self.core.collect(who)
-    }
-
-    fn leave(&mut self, who: u64)
-        requires { AreMatched self.old.core self.old.stores }
-        ensures { AreMatched self.new.core self.new.stores }
-    {
-        self.core.leave(who);
+        match self.core.command(who, command) {
+            Answer::Now(_) | Answer::Later | Answer::Nothing => Ok(()),
+            Answer::NoMemory => Err(AllocError),
+        }
     }
 
     fn flush(&mut self) -> Result<usize, Refusal>
@@ -110,16 +76,128 @@ impl Topic {
         self.core.reopen(&mut self.stores, &mut self.shelf)
     }
 
+    // Of a new topic: session 0 gets the producer 1, and the first entry is committed. Session 1 gets the consumer 5.
+    fn begin(&mut self, alloc: Global) -> Result<(), Refusal>
+        requires { AreMatched self.old.core self.old.stores }
+        ensures { AreMatched self.new.core self.new.stores }
+    {
+        self.ask(0, producer(alloc)?)?;
+        self.ask(0, send(alloc, 10)?)?;
+        self.ask(1, subscribe(alloc)?)?;
+        self.flush()?;
+        Ok(())
+    }
+
+    // Behind that: two further entries and the acknowledgement of the first one wait for a flush.
+    fn wait(&mut self, alloc: Global) -> Result<(), Refusal>
+        requires { AreMatched self.old.core self.old.stores }
+        ensures { AreMatched self.new.core self.new.stores }
+    {
+        self.begin(alloc)?;
+        self.ask(0, send(alloc, 11)?)?;
+        self.ask(0, send(alloc, 12)?)?;
+        self.ask(1, acknowledge(alloc)?)?;
+        Ok(())
+    }
+
+    // The position of the next message of a session's consumer 5, which gets a permit. It has the bytes that were sent.
+    fn next(&mut self, who: u64) -> Result<Option<u64>, Refusal> {
+        if self.core.grant(who, 5, 1).is_err() {
+            return Ok(None);
+        }
+        let entries = &self.stores.entries;
+        match self.core.dispatch(entries, &mut self.shelf, who, 5)? {
+            Some(outgoing) if outgoing.entry.as_slice() == PLAIN => {
+                Ok(position_in(&outgoing.reply))
+            }
+            _ => Ok(None),
+        }
+    }
+
+    fn seen(&self, refused: Option<Refusal>) -> Seen {
+        (refused, self.core.is_failed(), self.core.committed())
+    }
+
     // How many entries the topic has, and its store.
     fn counts(&self) -> (u64, u64) {
         (self.core.committed(), self.stores.entries.len())
     }
 }
 
-// The answer, where it isn't want of memory.
-fn answer<T: Drop>(answered: Result<T, Refusal>) -> Result<Result<T, Refusal>, Refusal> {
-    match answered {
-        Err(Refusal::NoMemory) => Err(Refusal::NoMemory),
+// A producer 1 is asked for.
+fn producer(alloc: Global) -> Result<TopicCommand, AllocError> {
+    let name = String::from_str(alloc, "one")?;
+    if name.len() > 9 {
+        return Err(AllocError);
+    }
+    Ok(TopicCommand::Producer {
+        producer_id: 1,
+        request_id: 101,
+        producer_name: ReplyText::new(name),
+    })
+}
+
+// The producer 1 sends.
+fn send(alloc: Global, sequence_id: u64) -> Result<TopicCommand, AllocError> {
+    let bytes = Bytes::from_static(PLAIN);
+    let Ok(metadata) = read_entry(alloc, bytes.as_slice()) else {
+        return Err(AllocError);
+    };
+    Ok(TopicCommand::Send(Send {
+        producer_id: 1,
+        sequence_id,
+        num_messages: 1,
+        entry: SentEntry::Plain(PlainEntry { bytes, metadata }),
+    }))
+}
+
+// A consumer 5 of the subscription `s` is asked for, from the first entry on.
+fn subscribe(alloc: Global) -> Result<TopicCommand, AllocError> {
+    let subscription = Text::new(String::from_str(alloc, "s")?);
+    if !is_subscription_name(subscription.as_str().as_bytes()) {
+        return Err(AllocError);
+    }
+    Ok(TopicCommand::Subscribe(Subscribe {
+        consumer_id: 5,
+        request_id: 205,
+        subscription,
+        mode: Mode::Exclusive,
+        ranges: SlotRanges::new(Vec::new(alloc)),
+        initial: InitialPosition::Earliest,
+    }))
+}
+
+// The consumer 5 acknowledges the first entry.
+fn acknowledge(alloc: Global) -> Result<TopicCommand, AllocError> {
+    let first = MessageIdData {
+        ledger_id: 0,
+        entry_id: 0,
+        partition: -1,
+        batch_index: -1,
+        has_ack_set: false,
+    };
+    Ok(TopicCommand::Ack(Ack {
+        consumer_id: 5,
+        ack_type: AckType::Individual,
+        ids: Sequence::new(vec![in alloc; first; 1]?),
+        request_id: Some(300),
+    }))
+}
+
+// The position that a receipt or a message names.
+fn position_in(reply: &Reply) -> Option<u64> {
+    match reply {
+        Reply::SendReceipt { message_id, .. } | Reply::Message { message_id, .. } => {
+            Some(message_id.ledger_id)
+        }
+        _ => None,
+    }
+}
+
+// The refusal, where it isn't want of memory.
+fn refusal(refused: Option<Refusal>) -> Result<Option<Refusal>, Refusal> {
+    match refused {
+        Some(Refusal::NoMemory) => Err(Refusal::NoMemory),
         other => Ok(other),
     }
 }

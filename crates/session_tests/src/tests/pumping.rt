@@ -1,125 +1,150 @@
-use super::board::{Dispatch, FILE};
-use super::{MESSAGE, PING, PONG, RECEIPT, SEND, SUBSCRIBE, SUCCESS, Stage};
+use super::{CONNECT, PING, PONG, SUBSCRIBE, Stage};
+use commands::Reply;
+use disk::FileId;
+use ids::MessageId;
 use session::{Fault, More, PumpFault};
-use std::alloc::Global;
+use std::alloc::{AllocError, Global};
 use std::process::Abort;
 use std::test::Fail;
 
-/// RECEIPT, and MESSAGE behind it.
-const RECEIPT_AND_MESSAGE: [u8; 56] = [
-    0, 0, 0, 0x12, 0, 0, 0, 0x0e, 8, 7, 0x3a, 0x0a, 8, 1, 0x10, 0, 0x1a, 4, 8, 0, 0x10, 0, // RECEIPT
-    0, 0, 0, 0x1e, 0, 0, 0, 0x0c, 8, 9, 0x4a, 8, 8, 2, 0x12, 4, 8, 0, 0x10, 0, 0, 0, 0, 0x0a, 0x0a,
-    1, 0x70, 0x10, 0, 0x18, 1, 0xc0, 0x3e, 5,
-];
+// RECEIPT of the first entry to producer 1, and MESSAGE for consumer 2 behind it.
+const RECEIPT_AND_MESSAGE: &[u8] =
+    b"\0\0\0\x12\0\0\0\x0e\x08\x07\x3a\x0a\x08\x01\x10\0\x1a\x04\x08\0\x10\0\
+\0\0\0\x1e\0\0\0\x0c\x08\x09\x4a\x08\x08\x02\x12\x04\x08\0\x10\0\0\0\0\x0a\x0a\x01p\x10\0\x18\x01\xc0>\x05";
 
-/// A session with a producer and a consumer, to which a receipt is due.
-fn with_receipt_due(alloc: Global) -> Result<Stage, Fail> {
-    let mut stage = Stage::producing(alloc)?;
-    stage.feed(&SUBSCRIBE)?;
-    stage.flush_and_pump()?;
-    stage.feed(&SEND)?;
-    stage.board.flush()?;
-    stage.board.served.clear();
-    Ok(stage)
+// MESSAGE for consumer 2 with the first entry.
+const MESSAGE: &[u8] =
+    b"\0\0\0\x1e\0\0\0\x0c\x08\x09\x4a\x08\x08\x02\x12\x04\x08\0\x10\0\0\0\0\x0a\x0a\x01p\x10\0\x18\x01\xc0>\x05";
+
+// SUBSCRIBE of consumer 3, to the same subscription.
+const SUBSCRIBE_NEXT: &[u8] =
+    b"\0\0\0\x27\0\0\0\x23\x08\x04\x22\x1f\x0a\x12persistent://a/b/c\x12\x01s\x18\0\x20\x03\x28\x08\x68\x01";
+
+impl Stage {
+    // A consumer for each of these, and dispatches to come, the last one first.
+    fn begin(
+        &mut self,
+        consumers: &[&[u8]],
+        dispatches: &[Option<PumpFault>],
+    ) -> Result<(), Fault> {
+        self.feed(CONNECT)?;
+        for subscribe in consumers {
+            self.feed(subscribe)?;
+        }
+        match self.lay(dispatches) {
+            Ok(()) => Ok(()),
+            Err(_) => Err(Fault::NoMemory),
+        }
+    }
+
+    fn lay(&mut self, dispatches: &[Option<PumpFault>]) -> Result<(), AllocError> {
+        for dispatch in dispatches {
+            self.board.dispatches.push(*dispatch)?;
+        }
+        Ok(())
+    }
+
+    // A receipt is due.
+    fn owe(&mut self) {
+        self.board.due = Some(Reply::SendReceipt {
+            producer_id: 1,
+            sequence_id: 0,
+            message_id: MessageId {
+                ledger_id: 0,
+                entry_id: 0,
+            },
+        });
+    }
 }
 
-/// Checks that a pump whose second dispatch fails hands out what it had, and that the next pump goes on.
-fn goes_on(rt: &impl Abort, alloc: Global, fails: Dispatch, why: PumpFault) -> Result<(), Fail> {
-    let mut stage = with_receipt_due(alloc)?;
-    stage.board.dispatches.push(Dispatch::Message)?;
-    stage.board.dispatches.push(fails)?;
-    stage.board.dispatches.push(Dispatch::Message)?;
-    assert_eq!(rt; stage.pumped()?, Err(why));
-    assert_eq!(rt; stage.out.as_slice(), RECEIPT_AND_MESSAGE.as_slice());
-    assert_eq!(rt; stage.session.fault(), None);
-    assert_eq!(rt; stage.board.consumers.len(), 1);
-    assert_eq!(rt; stage.pumped()?, Ok(More::No));
-    assert_eq!(rt; stage.out.as_slice(), MESSAGE.as_slice());
-    stage.out.clear();
-    stage.feed(&PING)?;
-    assert_eq!(rt; stage.out.as_slice(), PONG.as_slice());
+// How the first pump went whose second dispatch fails so, and whether it handed out what it had; then the same of the next one;
+// and whether a PING behind them is answered.
+type Pumps = ([Result<More, PumpFault>; 2], [bool; 3]);
+
+fn goes_on(stage: &mut Stage, why: PumpFault) -> Result<Pumps, Fault> {
+    stage.begin(&[SUBSCRIBE], &[None, Some(why), None])?;
+    stage.owe();
+    let first = stage.pumped()?;
+    let handed_out = stage.out.as_slice() == RECEIPT_AND_MESSAGE;
+    let second = stage.pumped()?;
+    let went_on = stage.out.as_slice() == MESSAGE;
+    stage.feed(PING)?;
+    let answered = stage.out.as_slice() == PONG;
+    Ok(([first, second], [handed_out, went_on, answered]))
+}
+
+// Checks that a pump stops there, and that the session goes on.
+fn stops(rt: &impl Abort, alloc: Global, why: PumpFault) -> Result<(), Fail> {
+    let mut stage = Stage::new(alloc);
+    let went = goes_on(&mut stage, why);
+    let ended = (stage.session.fault(), stage.board.left);
+    drop(stage);
+    assert_eq!(rt; went?, ([Err(why), Ok(More::No)], [true; 3]));
+    assert_eq!(rt; ended, (None, None));
     Ok(())
 }
 
 #[test]
 fn a_device_that_fails_stops_a_pump(rt: HostRuntime) -> Result<(), Fail> {
-    goes_on(&rt, rt.alloc(), Dispatch::Device, PumpFault::Device)
+    stops(&rt, rt.alloc(), PumpFault::Device)
 }
 
 #[test]
 fn a_damaged_file_stops_a_pump(rt: HostRuntime) -> Result<(), Fail> {
-    let damaged = PumpFault::Damaged {
-        file: FILE,
-        offset: 40,
-    };
-    goes_on(&rt, rt.alloc(), Dispatch::Damaged, damaged)
+    let (topic, number) = (0, 3);
+    let file = FileId::Segment { topic, number };
+    stops(&rt, rt.alloc(), PumpFault::Damaged { file, offset: 40 })
 }
 
 #[test]
 fn a_message_that_finds_no_memory_ends_the_session(rt: HostRuntime) -> Result<(), Fail> {
-    let mut stage = with_receipt_due(rt.alloc())?;
-    stage.board.dispatches.push(Dispatch::NoMemory)?;
-    stage.out.clear();
-    assert_eq!(rt; stage.pump(), Err(PumpFault::Ended(Fault::NoMemory)));
-    assert_eq!(rt; stage.session.fault(), Some(Fault::NoMemory));
-    assert!(rt; stage.board.consumers.is_empty());
-    assert!(rt; stage.board.producers.is_empty());
-    assert_eq!(rt; stage.pump(), Err(PumpFault::Ended(Fault::NoMemory)));
+    let no_memory = PumpFault::Ended(Fault::NoMemory);
+    let mut stage = Stage::new(rt.alloc());
+    let begun = stage.begin(&[SUBSCRIBE], &[None, Some(no_memory)]);
+    let pumps = [stage.pump(), stage.pump()];
+    let ended = (stage.session.fault(), stage.board.left);
+    drop(stage);
+    begun?;
+    assert_eq!(rt; pumps, [Err(no_memory); 2]);
+    assert_eq!(rt; ended, (Some(Fault::NoMemory), Some(3)));
     Ok(())
 }
 
-#[test]
-fn consumers_are_served_in_rising_id(rt: HostRuntime) -> Result<(), Fail> {
-    let mut stage = Stage::connected(rt.alloc())?;
-    let mut frame = SUBSCRIBE;
-    for consumer_id in [5, 1, 2] {
-        frame[38] = consumer_id;
-        stage.feed(&frame)?;
-    }
-    stage.board.dispatches.push(Dispatch::Message)?;
-    assert_eq!(rt; stage.pump()?, More::No);
-    assert_eq!(rt; stage.board.served.as_slice(), [1, 1, 2, 5].as_slice());
-    Ok(())
+// How a pump went whose first dispatch fails before two consumers, and how many dispatches are left then.
+fn is_left(stage: &mut Stage) -> Result<(Result<More, PumpFault>, usize), Fault> {
+    stage.begin(
+        &[SUBSCRIBE, SUBSCRIBE_NEXT],
+        &[None, Some(PumpFault::Device)],
+    )?;
+    Ok((stage.pumped()?, stage.board.dispatches.len()))
 }
 
 #[test]
 fn a_device_that_fails_leaves_the_consumers_behind_unserved(rt: HostRuntime) -> Result<(), Fail> {
-    let mut stage = Stage::connected(rt.alloc())?;
-    let mut frame = SUBSCRIBE;
-    for consumer_id in [1, 2] {
-        frame[38] = consumer_id;
-        stage.feed(&frame)?;
-    }
-    stage.board.dispatches.push(Dispatch::Device)?;
-    assert_eq!(rt; stage.pumped()?, Err(PumpFault::Device));
-    assert!(rt; stage.out.is_empty());
-    assert_eq!(rt; stage.board.served.as_slice(), [1].as_slice());
+    let mut stage = Stage::new(rt.alloc());
+    let went = is_left(&mut stage);
+    let is_silent = stage.out.is_empty();
+    drop(stage);
+    assert_eq!(rt; went?, (Err(PumpFault::Device), 1));
+    assert!(rt; is_silent);
     Ok(())
+}
+
+// How two pumps went to which 65 messages come, how many bytes the first one handed out, how many messages it left, and whether
+// the second one handed out a last one.
+fn at_bound(stage: &mut Stage) -> Result<([Result<More, PumpFault>; 2], [usize; 2], bool), Fault> {
+    stage.begin(&[SUBSCRIBE], &[None; 65])?;
+    let first = stage.pumped()?;
+    let counts = [stage.out.len(), stage.board.dispatches.len()];
+    let second = stage.pumped()?;
+    Ok(([first, second], counts, stage.out.as_slice() == MESSAGE))
 }
 
 #[test]
 fn a_pump_sends_sixty_four_messages(rt: HostRuntime) -> Result<(), Fail> {
-    let mut stage = Stage::connected(rt.alloc())?;
-    stage.feed(&SUBSCRIBE)?;
-    for _ in 0..65u8 {
-        stage.board.dispatches.push(Dispatch::Message)?;
-    }
-    assert_eq!(rt; stage.pump()?, More::Yes);
-    assert_eq!(rt; stage.out.len(), 64 * MESSAGE.len());
-    assert_eq!(rt; stage.board.served.len(), 64);
-    stage.out.clear();
-    assert_eq!(rt; stage.pump()?, More::No);
-    assert_eq!(rt; stage.out.as_slice(), MESSAGE.as_slice());
-    Ok(())
-}
-
-#[test]
-fn replies_go_out_in_their_order(rt: HostRuntime) -> Result<(), Fail> {
-    let mut stage = Stage::producing(rt.alloc())?;
-    stage.feed(&SUBSCRIBE)?;
-    stage.feed(&SEND)?;
-    assert_eq!(rt; stage.flush_and_pump()?, More::No);
-    assert_eq!(rt; stage.out.get(..14), Some(SUCCESS.as_slice()));
-    assert_eq!(rt; stage.out.get(14..), Some(RECEIPT.as_slice()));
+    let mut stage = Stage::new(rt.alloc());
+    let went = at_bound(&mut stage);
+    drop(stage);
+    assert_eq!(rt; went?, ([Ok(More::Yes), Ok(More::No)], [64 * 34, 1], true));
     Ok(())
 }

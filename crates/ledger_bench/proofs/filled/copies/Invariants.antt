@@ -1,5 +1,0 @@
-use Rattle.managed_ledger.specs.Entries.{AreEntries}
-use Rattle.ledger_bench.proofs.filled.copies.Given as goal
-
-abbrev pub invariant-loop : goal.invariant-loop
-invariant-loop l = AreEntries l.entries.items

@@ -1,0 +1,37 @@
+use crate::outcome::{Outcome, is_too_large, size_of};
+use anyhow::Error;
+use disk::FileId;
+use disk_mem::MemShelf;
+use gated_log::MAX_BODY;
+use journal::Journal;
+use std::alloc::Global;
+
+const TOPIC: u16 = 3;
+
+fn append(journal: &mut Journal, shelf: &mut MemShelf, body: &[u8]) -> Result<Outcome, Error> {
+    let refused = is_too_large(journal.append(shelf, body))?;
+    let segment = FileId::Segment {
+        topic: TOPIC,
+        number: 0,
+    };
+    Ok(Outcome {
+        bytes: body.len(),
+        refused,
+        count: journal.last_count(),
+        size: size_of(shelf, segment)?,
+    })
+}
+
+/// What became of a body that is a byte too long, and of the longest one behind it, and the end of that one as it is read
+/// once the journal was opened again.
+pub(crate) fn limits(alloc: Global) -> Result<(Outcome, Outcome, Option<Vec<u8>>), Error> {
+    let mut shelf = MemShelf::new(alloc);
+    let mut journal = Journal::create(alloc, &mut shelf, TOPIC, 0)?;
+    let mut body = vec![in alloc; 9u8; MAX_BODY]?;
+    let longer = append(&mut journal, &mut shelf, &body)?;
+    body.truncate(MAX_BODY - 1);
+    let longest = append(&mut journal, &mut shelf, &body)?;
+    let opened = Journal::open(alloc, &mut shelf, TOPIC)?;
+    let end = opened.read(&mut shelf, 0, 0, (MAX_BODY - 2) as u32, 9)?;
+    Ok((longer, longest, end))
+}

@@ -1,0 +1,44 @@
+// What a topic tells of its changes and of its subscriptions.
+use anyhow::Error;
+use records::Record;
+use std::alloc::{AllocError, Global};
+use subscriptions::{SubscriptionStatus, Subscriptions};
+
+fn change(alloc: Global, change: &Record) -> Result<String, AllocError> {
+    match change {
+        Record::Made { name, start } => format!(in alloc; "made {} {start}, ", name.as_str()),
+        Record::Removed { name } => format!(in alloc; "removed {}, ", name.as_str()),
+        Record::Acknowledged { name, position } => {
+            format!(in alloc; "acknowledged {} {position}, ", name.as_str())
+        }
+        Record::AcknowledgedThrough { name, position } => {
+            format!(in alloc; "through {} {position}, ", name.as_str())
+        }
+        Record::AcknowledgedRange { name, first, last } => {
+            format!(in alloc; "range {} {first} {last}, ", name.as_str())
+        }
+    }
+}
+
+/// Each change, the earliest first.
+pub(crate) fn changes(alloc: Global, subs: &Subscriptions) -> Result<String, Error> {
+    let mut said = String::new(alloc);
+    for record in subs.changes() {
+        said.push_str(change(alloc, record)?.as_str())?;
+    }
+    Ok(said)
+}
+
+fn status(alloc: Global, status: &SubscriptionStatus) -> Result<String, AllocError> {
+    let name = status.name.as_str();
+    format!(in alloc; "{name} {} {}, ", status.mark_delete, status.ranges)
+}
+
+/// The status of each subscription.
+pub(crate) fn statuses(alloc: Global, subs: &Subscriptions) -> Result<String, Error> {
+    let mut said = String::new(alloc);
+    for one in &subs.statuses()? {
+        said.push_str(status(alloc, one)?.as_str())?;
+    }
+    Ok(said)
+}

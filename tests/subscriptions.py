@@ -1,0 +1,449 @@
+#!/usr/bin/env python3
+"""Computes anew what `crates/subscriptions_tests` must print of the lines in its file stdin, by a plain model of sets and lists.
+
+Usage: tests/subscriptions.py [--write]
+
+The model follows docs/PROTOCOL.md and the contracts of `cursor` and `subscriptions`. Compares the answers with the file stdout; the last line is
+'subscriptions: N lines, M differ', and the exit status is 1 where any does. With --write it puts lines of its own behind the hand-written ones of
+stdin, and writes stdout."""
+import os
+import random
+import sys
+
+sys.dont_write_bytecode = True
+
+FOLDER = os.path.join(os.path.dirname(os.path.dirname(os.path.realpath(__file__))), "crates", "subscriptions_tests")
+AT_RANDOM = "# at random"
+SEED = 11
+ROUNDS, ACTIONS = 6, 60  # topics of each mode, and actions of a topic
+CURSORS, STEPS = 24, 12  # and steps of a cursor
+
+MODES = ("Exclusive", "Failover", "Shared", "KeyShared")
+SERVING_MANY = ("Shared", "KeyShared")
+MOST_CONSUMERS = 64
+MOST_SUBSCRIPTIONS = 64
+MOST_CHANGES = 65_536
+MOST_PERMITS = 2**62
+
+BUSY, TOO_MANY, BAD_RANGES = "Some(ConsumerBusy)", "Some(TooManyRequests)", "Some(ConsumerAssignError)"
+
+
+# What is acknowledged
+
+
+class Acked:
+    """A set of positions, as the list of what was put in: the first position and the one behind the last."""
+
+    def __init__(self, start=0):
+        self.parts = [(0, start)]
+
+    def add(self, first, last):
+        self.parts.append((first, last + 1))
+
+    def has(self, position):
+        return any(first <= position < end for first, end in self.parts)
+
+    def first_open(self, position):
+        while self.has(position):
+            position = max(end for first, end in self.parts if first <= position)
+        return position
+
+    def mark_delete(self):
+        return self.first_open(0)
+
+    def ranges(self):
+        """How many runs there are behind position 0: a run begins where the position before isn't in."""
+        return len({first for first, end in self.parts if 0 < first < end and not self.has(first - 1)})
+
+    def copy(self):
+        copied = Acked()
+        copied.parts = list(self.parts)
+        return copied
+
+    def __str__(self):
+        return f"{self.mark_delete()} {self.ranges()}"
+
+
+def acknowledge(acked, word, first, last=None):
+    acked.add(*{"one": (first, first), "through": (0, first), "range": (first, last)}[word])
+
+
+class CursorLines:
+    """Answers the lines that ask a cursor."""
+
+    def __init__(self):
+        self.acked = Acked()
+
+    def answer(self, word, *words):
+        if word in ("copy", "own"):
+            copy = self.acked.copy()
+            acknowledge(copy if word == "copy" else self.acked, words[0], *map(int, words[1:]))
+            return f"{copy}, {self.acked}"
+        numbers = [int(number) for number in words]
+        if word == "look":
+            seen = (f" {'a' if self.acked.has(position) else '.'}{self.acked.first_open(position)}" for position in range(*numbers))
+            return f"{self.acked}{''.join(seen)}"
+        if word == "new":
+            self.acked = Acked(*numbers)
+        else:
+            acknowledge(self.acked, word, *numbers)
+        return str(self.acked)
+
+
+# The subscriptions of a topic
+
+
+class Consumer:
+    def __init__(self, key, ranges):
+        self.key, self.ranges = key, ranges
+        self.granted = self.sent = 0
+
+    def session(self):
+        return self.key.split(".")[0]
+
+    def takes(self, slot):
+        return any(start <= slot <= end for start, end in self.ranges)
+
+
+def meet(one, other):
+    return one[0] <= other[1] and other[0] <= one[1]
+
+
+def are_refused(ranges, consumers):
+    """Whether Key_Shared refuses ranges beside those of attached consumers."""
+    of_others = [taken for consumer in consumers for taken in consumer.ranges]
+    return (not ranges or any(start > end for start, end in ranges)
+            or any(meet(one, other) for at, one in enumerate(ranges) for other in ranges[:at] + of_others))
+
+
+class Subscription:
+    def __init__(self, name, start):
+        self.name, self.mode = name, None
+        self.consumers = []  # the one that was attached first is the first
+        self.acked = Acked(start)
+        self.holders = {}  # by position
+        self.times = {}  # how often a position was sent
+
+    def refusal(self, mode, ranges):
+        if self.consumers and (mode != self.mode or mode == "Exclusive"):
+            return BUSY
+        if len(self.consumers) >= MOST_CONSUMERS:
+            return TOO_MANY
+        if mode == "KeyShared" and are_refused(ranges, self.consumers):
+            return BAD_RANGES
+        return "None"
+
+    def attach(self, mode, consumer):
+        self.mode = mode
+        self.consumers.append(consumer)
+
+    def consumer(self, key):
+        return next((consumer for consumer in self.consumers if consumer.key == key), None)
+
+    def acknowledge(self, first, last):
+        self.acked.add(first, last)
+        for known in (self.holders, self.times):
+            for position in [position for position in known if first <= position <= last]:
+                del known[position]
+
+    def give_back(self, gives):
+        """What passes the test, of a position and its holder, is held no more."""
+        self.holders = {position: key for position, key in self.holders.items() if not gives(position, key)}
+
+    def drop(self, goes):
+        """The consumers that pass the test go, and give back what they hold."""
+        keys = [consumer.key for consumer in self.consumers if goes(consumer)]
+        self.consumers = [consumer for consumer in self.consumers if consumer.key not in keys]
+        self.give_back(lambda position, key: key in keys)
+
+    def is_open(self, position):
+        return not self.acked.has(position) and position not in self.holders
+
+    def pick(self, key, slots, committed):
+        consumer = self.consumer(key)
+        if consumer.sent >= consumer.granted or self.mode == "Failover" and self.consumers[0] is not consumer:
+            return None
+        for position in range(committed):
+            slot = slots[position] if position < len(slots) else 0
+            if self.is_open(position) and (self.mode != "KeyShared" or consumer.takes(slot)):
+                return position
+        return None
+
+    def send(self, key, position):
+        """How often the position was sent before."""
+        self.consumer(key).sent += 1
+        self.holders[position] = key
+        self.times[position] = self.times.get(position, 0) + 1
+        return self.times[position] - 1
+
+
+class Topic:
+    def __init__(self):
+        self.subs, self.changes, self.slots, self.committed = [], [], [], 0
+
+    def named(self, name):
+        return next((sub for sub in self.subs if sub.name == name), None)
+
+    def of(self, key):
+        return next((sub for sub in self.subs if sub.consumer(key)), None)
+
+    def refusal(self, name, mode, ranges):
+        if sub := self.named(name):
+            return sub.refusal(mode, ranges)
+        if len(self.subs) >= MOST_SUBSCRIPTIONS:
+            return TOO_MANY
+        if mode == "KeyShared" and are_refused(ranges, []):
+            return BAD_RANGES
+        return TOO_MANY if len(self.changes) >= MOST_CHANGES else "None"
+
+    def subscribe(self, name, mode, key, initial, ranges):
+        if self.of(key):
+            return "attached"
+        refusal = self.refusal(name, mode, ranges)
+        if refusal == "None":
+            if not self.named(name):
+                start = self.committed if initial == "Latest" else 0
+                self.subs.append(Subscription(name, start))
+                self.changes.append(f"made {name} {start}")
+            self.named(name).attach(mode, Consumer(key, ranges))
+        return refusal
+
+    def statuses(self):
+        return "".join(f"{sub.name} {sub.acked}, " for sub in sorted(self.subs, key=lambda sub: sub.name.encode()))
+
+
+# Lines
+
+
+def ranges_of(words):
+    return [tuple(map(int, word.split("-"))) for word in words]
+
+
+def truth(value):
+    return "true" if value else "false"
+
+
+class TopicLines:
+    """Answers the lines that ask a topic: each has a method, by its word."""
+
+    def __init__(self):
+        self.at = Topic()
+
+    def topic(self):
+        self.at = Topic()
+        return "done"
+
+    def slots(self, *slots):
+        if self.at.committed:
+            raise ValueError("slots come before entries are committed")
+        self.at.slots += map(int, slots)
+        return "done"
+
+    def commit(self, committed):
+        self.at.committed = int(committed)
+        return "done"
+
+    def subscribe(self, name, mode, key, initial, *ranges):
+        return self.at.subscribe(name, mode, key, initial, ranges_of(ranges))
+
+    def refusal(self, name, mode, *ranges):
+        return self.at.refusal(name, mode, ranges_of(ranges))
+
+    def changes(self):
+        return "".join(f"{change}, " for change in self.at.changes)
+
+    def count(self):
+        return str(len(self.at.changes))
+
+    def room(self, count):
+        return truth(len(self.at.changes) + int(count) <= MOST_CHANGES)
+
+    def settle(self, count):
+        if int(count) > len(self.at.changes):
+            raise ValueError("more is settled than waits")
+        del self.at.changes[:int(count)]
+        return "done"
+
+    def statuses(self):
+        return self.at.statuses()
+
+    def leave(self, session):
+        for sub in self.at.subs:
+            sub.drop(lambda consumer: consumer.session() == session)
+        return "done"
+
+    def has(self, key):
+        sub = self.at.of(key)
+        return f"{truth(sub)} {truth(sub and sub.mode in SERVING_MANY)}"
+
+    def grant(self, key, permits):
+        sub = self.at.of(key)
+        if sub:
+            consumer = sub.consumer(key)
+            if consumer.granted + int(permits) > MOST_PERMITS:
+                return "Err(TooManyPermits)"
+            consumer.granted += int(permits)
+        return "Ok(())"
+
+    def picked(self, key):
+        sub = self.at.of(key)
+        return sub and sub.pick(key, self.at.slots, self.at.committed)
+
+    def pick(self, key):
+        position = self.picked(key)
+        return "None" if position is None else f"Some({position})"
+
+    def send(self, key):
+        position = self.picked(key)
+        if position is None:
+            return "None"
+        return f"Some(({position}, {self.at.of(key).send(key, position)}))"
+
+    def ack(self, key, position, times=1):
+        sub = self.at.of(key)
+        for _ in range(int(times)):
+            if len(self.at.changes) >= MOST_CHANGES:
+                return "no room"
+            if sub:
+                sub.acknowledge(int(position), int(position))
+                self.at.changes.append(f"acknowledged {sub.name} {position}")
+        return "done"
+
+    def through(self, key, position):
+        sub = self.at.of(key)
+        if len(self.at.changes) >= MOST_CHANGES:
+            return "no room"
+        if sub:
+            sub.acknowledge(0, int(position))
+            self.at.changes.append(f"through {sub.name} {position}")
+        return "done"
+
+    def redeliver(self, key, *positions):
+        sub = self.at.of(key)
+        if sub:
+            asked = {int(position) for position in positions} if positions and sub.mode in SERVING_MANY else None
+            sub.give_back(lambda position, holder: holder == key and (asked is None or position in asked))
+        return "done"
+
+    def unsubscribe(self, key):
+        sub = self.at.of(key)
+        if sub and len(sub.consumers) > 1:
+            return BUSY
+        if len(self.at.changes) >= MOST_CHANGES:
+            return TOO_MANY
+        if sub:
+            self.at.subs.remove(sub)
+            self.at.changes.append(f"removed {sub.name}")
+        return "None"
+
+    def close(self, key):
+        sub = self.at.of(key)
+        if sub:
+            sub.drop(lambda consumer: consumer.key == key)
+        return "done"
+
+
+def answers_to(lines):
+    """The answer to each line, one after another."""
+    topic, cursor, answers = TopicLines(), CursorLines(), []
+    for line in lines:
+        word, *words = line.split(" ")
+        if word in ("", "#"):
+            answers.append(line)
+        elif word == "cursor":
+            answers.append(cursor.answer(*words))
+        else:
+            answers.append(getattr(topic, word)(*words))
+    return answers
+
+
+# Lines at random
+
+KEYS = {"0.2": "0-9", "1.2": "10-19 40-65535", "0.3": "25-25", "1.4": "9-12", "2.0": "20-24 26-39"}
+SLOTS = (3, 12, 25, 9, 12, 40, 25, 3, 10, 33, 9, 65535, 0, 21)
+
+
+def action(chance, mode):
+    """One line about a topic, whose subscriptions have this mode for the most part."""
+    key = chance.choice(list(KEYS))
+    position = chance.randrange(len(SLOTS))
+    name = chance.choice(("s", "s", "s", "s", "t", "S-1"))
+    its_mode = mode if chance.randrange(12) else chance.choice(MODES)
+    ranges = KEYS[key] if chance.randrange(8) else chance.choice(("7-6", "0-9 9-9", "0-65535", "60-60"))
+    initial = chance.choice(("Earliest", "Latest"))
+    return chance.choice(
+        3 * [f"subscribe {name} {its_mode} {key} {initial} {ranges}"] + 3 * [f"grant {key} {chance.randrange(6)}"] + 8 * [f"send {key}"]
+        + 2 * [f"ack {key} {position}", f"commit {position}"]
+        + [f"pick {key}", f"has {key}", f"through {key} {position // 2}", f"redeliver {key}", f"redeliver {key} {position} {chance.randrange(9)}",
+           f"close {key}", f"leave {key[0]}", f"unsubscribe {key}", f"refusal {name} {its_mode} {ranges}", "statuses", "count"])
+
+
+def topic_at_random(chance, mode):
+    begin = ["topic", f"slots {' '.join(map(str, SLOTS))}", "commit 6", f"subscribe s {mode} 0.2 Earliest {KEYS['0.2']}", "grant 0.2 3"]
+    return ["", *begin, *(action(chance, mode) for _ in range(ACTIONS)), "statuses", "changes"]
+
+
+def step(chance):
+    """One line about a cursor, over the positions below 40."""
+    first = chance.randrange(36)
+    last = first + chance.randrange(5)
+    acked = chance.choice(3 * [f"one {first}"] + 3 * [f"range {first} {last}"] + [f"through {first // 2}"])
+    return f"cursor {chance.choice(8 * [''] + ['copy ', 'own '])}{acked}"
+
+
+def cursor_at_random(chance):
+    begin = chance.choice(("cursor new", f"cursor new {chance.randrange(6)}"))
+    return ["", begin, *(line for _ in range(STEPS) for line in (step(chance), "cursor look 0 41"))]
+
+
+def lines_at_random():
+    chance = random.Random(SEED)
+    topics = [line for _ in range(ROUNDS) for mode in MODES for line in topic_at_random(chance, mode)]
+    cursors = [line for _ in range(CURSORS) for line in cursor_at_random(chance)]
+    return [AT_RANDOM, *topics, *cursors]
+
+
+# Files
+
+
+def read_lines(name):
+    with open(os.path.join(FOLDER, name), encoding="utf-8") as file:
+        return [line.rstrip("\n") for line in file]
+
+
+def write_lines(name, lines):
+    with open(os.path.join(FOLDER, name), "w", encoding="utf-8") as file:
+        file.write("\n".join(lines) + "\n")
+
+
+def write():
+    asked = read_lines("stdin")
+    hand = asked[:asked.index(AT_RANDOM)] if AT_RANDOM in asked else asked
+    asked = hand + lines_at_random()
+    write_lines("stdin", asked)
+    write_lines("stdout", answers_to(asked))
+
+
+def differing(asked, answers):
+    """How many answers aren't those of the model."""
+    count = abs(len(asked) - len(answers))
+    for at, (line, answer, wanted) in enumerate(zip(asked, answers, answers_to(asked)), 1):
+        if answer != wanted:
+            print(f"line {at}: {line}\n  wanted: {wanted}\n  stands: {answer}")
+            count += 1
+    return count
+
+
+def main():
+    if sys.argv[1:] == ["--write"]:
+        write()
+    elif sys.argv[1:]:
+        sys.exit(__doc__)
+    asked = read_lines("stdin")
+    count = differing(asked, read_lines("stdout"))
+    print(f"subscriptions: {len(asked)} lines, {count} differ")
+    return 1 if count else 0
+
+
+if __name__ == "__main__":
+    sys.exit(main())

@@ -1,0 +1,77 @@
+"""The device stops, or fails once, at each of its calls, and what is found afterwards is compared with what was told.
+
+Each sweep is a script with a failure at its call k, a crash of some form, and lines that look at what is left; there is one for each k and
+form. Its lines aren't known beforehand: a judge reads them, and says what is wrong.
+"""
+import re
+
+CONNECT = "bytes 0 0000000d00000009080212050a01632005\n"
+BEGIN = f"init 2\nopen\n{CONNECT}bytes 0 000000200000001c08052a180a1270657273697374656e743a2f2f612f622f6310011807\n"
+SUBSCRIBE = "bytes 0 00000027000000230804221f0a1270657273697374656e743a2f2f612f622f631201731800200228086801\n"
+FLOW = "bytes 0 0000000c00000008080b5a0408021001\n"
+END = "flush 0\npump 0\n"
+
+
+def send(sequence_id):
+    return f"bytes 0 0000001a00000008080632040801100{sequence_id}0000000a0a017010001801c03e05\n"
+
+
+# Three messages, each flushed, in ledgers of two.
+SENDS = "".join(send(n) + END for n in range(3))
+
+# A subscription, a message that it gets, and its acknowledgement; and a new session that gets what the subscription has open.
+CONSUMES = f"{SUBSCRIBE}{send(0)}flush 0\n{FLOW}pump 0\nbytes 0 0000001400000010080a520c080210001a04080010004009\n{END}"
+CONSUMES_AGAIN = f"open\n{CONNECT}{SUBSCRIBE}{FLOW}{END}"
+
+# Two subscriptions and two messages; then all up to the second one is acknowledged on the first, the other is removed, and the producer closes.
+CHANGES = (SUBSCRIBE + "bytes 0 00000027000000230804221f0a1270657273697374656e743a2f2f612f622f631201741800200328096801\n" + send(0) + send(1) + END
+           + "bytes 0 0000001400000010080a520c080210011a04080010014009\nbytes 0 0000000c00000008080c62040803100a\n"
+           + "bytes 0 0000000c00000008080f7a040801100b\n" + END)
+
+RECEIPT, MESSAGE, ACK_RESPONSE = "08073a", "08094a", "0000000d000000090826b2"
+SUCCESS_OF_SUBSCRIBE, SUCCESS_OF_UNSUBSCRIBE = "0000000a00000006080d6a020808", "0000000a00000006080d6a02080a"
+
+
+def receipted_is_found(said):
+    """Each receipted message is found."""
+    status = re.findall(r"^T    0 +(\d+) ", said, re.M)
+    if len(status) != 1:
+        return "it was not opened"
+    return "a receipted message is lost" if said.count(RECEIPT) > int(status[0]) else None
+
+
+def acknowledged_stays_so(said):
+    """A message whose acknowledgement was answered doesn't come again."""
+    if f"{len((BEGIN + 'fail 1').splitlines())} - ok" not in said:
+        return "it did not run"
+    return "an acknowledged message came again" if said.count(ACK_RESPONSE) == 1 and said.count(MESSAGE) != 1 else None
+
+
+def changed_is_found(said):
+    """Answered changes are found, and those of one flush all or none."""
+    subscribed, acknowledged, removed = (said.count(it) for it in (SUCCESS_OF_SUBSCRIBE, ACK_RESPONSE, SUCCESS_OF_UNSUBSCRIBE))
+    left = tuple(len(re.findall(f"^S    0 +{line}$", said, re.M)) for line in ("0 +0 s", "2 +0 s", "0 +0 t"))
+    if acknowledged != removed:
+        return "one of two answers of a flush"
+    if left not in ((0, 0, 0), (1, 0, 1), (0, 1, 0)):
+        return "a part of a flush's changes"
+    if left == (0, 0, 0) and subscribed:
+        return "an answered subscription is lost"
+    return "an answered change is lost" if left != (0, 1, 0) and removed else None
+
+
+# What is done, what is done after the crash, the judge, up to which call, and the forms of crash behind a stop. A single failure is followed by `old`.
+SWEEPS = {
+    "receipted": (SENDS, "status\n", receipted_is_found, 20, ("old", "new", "fill 01", "fill 07")),
+    "acknowledged": (CONSUMES, CONSUMES_AGAIN, acknowledged_stays_so, 18, ("old", "new", "fill 01", "fill 07")),
+    "changed": (CHANGES, "status\n", changed_is_found, 13, ("old", "new", "fill 01", "fill 07")),
+}
+
+
+def scripts():
+    """The name of each script of each sweep, with the script and its judge."""
+    for name, (done, further, judge, calls, forms) in SWEEPS.items():
+        for failure, form in [("stop", form) for form in forms] + [("fail", "old")]:
+            for call in range(1, calls):
+                script = f"{BEGIN}{failure} {call}\n{done}crash {form}\n{further}"
+                yield f"sweep-{name}-{failure}-{call}-{form.replace(' ', '-')}", script, judge
