@@ -28,6 +28,13 @@ CHANGES = (SUBSCRIBE + "bytes 0 00000027000000230804221f0a1270657273697374656e74
            + "bytes 0 0000001400000010080a520c080210011a04080010014009\nbytes 0 0000000c00000008080c62040803100a\n"
            + "bytes 0 0000000c00000008080f7a040801100b\n" + END)
 
+# Three messages in flushes that come in parts; the next one is sent between two of them, and the last one waits.
+PARTS = "take 0\n{}write 0\nfinish 0\npump 0\n"
+SENDS_IN_PARTS = send(0) + "".join(PARTS.format(send(n)) for n in range(1, 4))
+
+# The changes in a flush that comes in parts, beside a message that is sent and a subscription that is made between these.
+CHANGES_IN_PARTS = CHANGES[:-len(END)] + PARTS.format(send(2) + f"bytes 0 {'00000027000000230804221f0a1270657273697374656e743a2f2f612f622f63120175180020042809' + '6801'}\n")
+
 RECEIPT, MESSAGE, ACK_RESPONSE = "08073a", "08094a", "0000000d000000090826b2"
 SUCCESS_OF_SUBSCRIBE, SUCCESS_OF_UNSUBSCRIBE = "0000000a00000006080d6a020808", "0000000a00000006080d6a02080a"
 
@@ -64,6 +71,8 @@ def changed_is_found(said):
 SWEEPS = {
     "receipted": (SENDS, "status\n", receipted_is_found, 20, ("old", "new", "fill 01", "fill 07")),
     "acknowledged": (CONSUMES, CONSUMES_AGAIN, acknowledged_stays_so, 18, ("old", "new", "fill 01", "fill 07")),
+    "receipted_in_parts": (SENDS_IN_PARTS, "status\n", receipted_is_found, 20, ("old", "new", "fill 01", "fill 07")),
+    "changed_in_parts": (CHANGES_IN_PARTS, "status\n", changed_is_found, 13, ("old", "new", "fill 01", "fill 07")),
     "changed": (CHANGES, "status\n", changed_is_found, 13, ("old", "new", "fill 01", "fill 07")),
 }
 

@@ -3,7 +3,7 @@ ghost use Rattle.std.specs.Prelude.{◌≡◌};
 
 use crate::{CursorStore, PreparedRecords, SubStore};
 use disk::{DeviceError, Shelf};
-use gated_log::{BatchList, MAX_BODY, Refusal};
+use gated_log::{BatchList, MAX_BODY, PrepareError, Refusal};
 use records::{KeptCursor, KeptSubscriptions, Record, fits, write_records};
 use std::alloc::{AllocError, Global};
 use two_slot::TwoSlot;
@@ -63,14 +63,20 @@ impl SubStore for CursorStore {
         self.kept.copies()
     }
 
-    fn prepare(&mut self, records: &[Record]) -> Result<PreparedRecords, Refusal> {
+    fn fits(&self, records: &[Record], entries: u64) -> bool {
+        self.kept.are_formed(records, entries)
+    }
+
+    fn prepare(&mut self, records: &[Record]) -> Result<PreparedRecords, PrepareError> {
         if !fits(records, MAX_BODY) {
-            return Err(Refusal::TooLarge);
+            return Err(PrepareError::TooLarge);
         }
         let body = write_records(self.alloc, records)?;
         let mut kept = self.kept.clone()?;
         kept.apply_all(records)?;
-        let batch = self.slots.prepare(&body)?;
+        let mut builder = self.slots.builder(body.len())?;
+        builder.extend_from_slice(&body)?;
+        let batch = self.slots.prepare(builder)?;
         Ok(PreparedRecords { batch, kept })
     }
 

@@ -1,5 +1,5 @@
 // The store of a topic's durable subscriptions.
-ghost use Rattle.std.specs.Prelude.{◌≡◌, ◌⊎◌, ◌<◌, ◌≤◌, ◌^◌, ◌↔◌, List, ℕ, Bool, true, false, length, IfOk, IfErr, OnOk, IsErr, IsErrOf, map as each};
+ghost use Rattle.std.specs.Prelude.{◌≡◌, ◌⊎◌, ◌<◌, ◌≤◌, ◌^◌, ◌↔◌, List, ℕ, Bool, true, false, length, IfOk, IfErr, OnOk, IsErr, IsErrOf, IsTrue, map as each};
 ghost use Rattle.std.specs.List.{AllByRecursion};
 ghost use Rattle.std.specs.FinMap as map;
 ghost use Rattle.records.specs.Names.{is_subscription_name};
@@ -16,7 +16,7 @@ ghost use Rattle.two_slot.specs.Slots.{SlotsOf};
 ghost use Rattle.cursor_store.specs.Stores.{Settled, InDoubt};
 
 use disk::{DeviceError, Shelf};
-use gated_log::Refusal;
+use gated_log::{PrepareError, Refusal};
 use records::{KeptCursor, Record};
 use std::alloc::{AllocError, Global};
 
@@ -104,8 +104,13 @@ pub trait SubStore: Drop {
         ensures few { IfOk result (λ cursors. length cursors.items ≤ 64) }
         ensures named { IfOk result (λ cursors. AllByRecursion (λ c. is_subscription_name c.name ≡ true) cursors.items) };
 
+    /// Whether these records are of their form beside what it remembers and a ledger of so many entries, each at its place
+    /// behind the ones before it. Takes no memory.
+    fn fits(&self, records: &[Record], entries: u64) -> bool
+        ensures { IsTrue result ↔ AreFormed entries (content self.now) records.now };
+
     /// Builds what an append of these records writes, and what the store keeps after it. Reaches no device.
-    fn prepare(&mut self, records: &[Record]) -> Result<Self::Prepared, Refusal>
+    fn prepare(&mut self, records: &[Record]) -> Result<Self::Prepared, PrepareError>
         requires some { 0 < length records.now }
         requires formed { AreFormed (2 ^ 62) (content self.old) records.now }
         ensures prepared { IfOk result (λ prepared. has_room self.new prepared × is_for self.new prepared records.now) }
@@ -114,8 +119,7 @@ pub trait SubStore: Drop {
         ensures content { content self.new ≡ content self.old }
         ensures topic { topic_of self.new ≡ topic_of self.old }
         ensures failed { failed self.new ≡ failed self.old }
-        ensures too_large { IsErrOf result Refusal.TooLarge ↔ (33554432 < length (body_of records.now)) }
-        ensures refusals { IfErr result (λ e. (e ≡ Refusal.TooLarge) ⊎ (e ≡ Refusal.NoMemory)) };
+        ensures too_large { IsErrOf result PrepareError.TooLarge ↔ (33554432 < length (body_of records.now)) };
 
     /// Writes what was prepared. Device calls alone, four of them. After an error the store is failed: each later append
     /// answers it without a device call.

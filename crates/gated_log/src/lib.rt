@@ -4,6 +4,7 @@
 #![tactic(auto)]
 
 mod batch_list;
+mod builder;
 mod create;
 mod gate;
 mod gated_file;
@@ -14,13 +15,16 @@ mod log_id;
 mod open;
 mod part;
 mod place;
+mod prepare_error;
 mod prepared;
 mod read;
+mod read_error;
 mod reader;
 mod refusal;
 mod room;
 
 pub use batch_list::BatchList;
+pub use builder::BatchBuilder;
 pub use create::{lay_closed, open_header};
 pub use gated_file::GatedFile;
 pub use header::{AtHeader, at_header};
@@ -30,7 +34,9 @@ pub use law::{
 };
 pub use log::GatedLog;
 pub use log_id::LogId;
+pub use prepare_error::PrepareError;
 pub use prepared::{MAX_BODY, PreparedBatch};
+pub use read_error::ReadError;
 pub use reader::LogReader;
 pub use refusal::Refusal;
 pub use room::Room;

@@ -7,7 +7,7 @@ mod stops;
 
 use disk::{DeviceError, FileId, Shelf};
 use disk_mem::MemShelf;
-use gated_log::{BatchList, GatedLog, Refusal};
+use gated_log::{BatchList, GatedLog, ReadError, Refusal};
 use std::alloc::Global;
 use std::test::Fail;
 
@@ -31,6 +31,14 @@ fn contents(alloc: Global, shelf: &mut MemShelf) -> Result<Vec<u8>, Fail> {
 fn answer<T: Drop>(answered: Result<T, Refusal>) -> Result<Result<T, Refusal>, Refusal> {
     match answered {
         Err(Refusal::NoMemory) => Err(Refusal::NoMemory),
+        other => Ok(other),
+    }
+}
+
+// The same of a read.
+fn read_answer<T: Drop>(answered: Result<T, ReadError>) -> Result<Result<T, ReadError>, ReadError> {
+    match answered {
+        Err(ReadError::NoMemory) => Err(ReadError::NoMemory),
         other => Ok(other),
     }
 }

@@ -5,6 +5,7 @@
 #![tactic(auto)]
 
 mod append;
+mod builder;
 mod journal;
 mod kind;
 mod law;
@@ -13,6 +14,7 @@ mod read;
 mod reader;
 mod roll;
 
+pub use builder::BodyBuilder;
 pub use journal::Journal;
 pub use law::{
     bodies_stay_in_a_roll, chain_is_its_own_files, files_stand_for_one_chain,

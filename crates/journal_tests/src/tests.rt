@@ -4,9 +4,12 @@ mod failures;
 mod openings;
 mod stops;
 
+ghost use Rattle.std.specs.Prelude.{IfOk};
+ghost use Rattle.journal.specs.Journals.{HasRoom};
+
 use disk::{DeviceError, FileId, Shelf};
 use disk_mem::MemShelf;
-use gated_log::Refusal;
+use gated_log::{PreparedBatch, ReadError, Refusal};
 use journal::Journal;
 use std::alloc::Global;
 use std::test::Fail;
@@ -44,6 +47,14 @@ fn roomy(alloc: Global) -> Result<MemShelf, Fail> {
 fn answer<T: Drop>(answered: Result<T, Refusal>) -> Result<Result<T, Refusal>, Refusal> {
     match answered {
         Err(Refusal::NoMemory) => Err(Refusal::NoMemory),
+        other => Ok(other),
+    }
+}
+
+// The same of a read.
+fn read_answer<T: Drop>(answered: Result<T, ReadError>) -> Result<Result<T, ReadError>, ReadError> {
+    match answered {
+        Err(ReadError::NoMemory) => Err(ReadError::NoMemory),
         other => Ok(other),
     }
 }
@@ -88,8 +99,18 @@ fn chain(alloc: Global, shelf: &mut MemShelf) -> Result<Vec<u8>, Fail> {
     Ok(bodies)
 }
 
+// What an append of this body writes; the journal has room for it.
+fn prepared(journal: &mut Journal, body: &[u8]) -> Result<PreparedBatch, Fail>
+    ensures { IfOk result (λ batch. HasRoom journal.new) }
+{
+    let mut builder = journal.builder(body.len())?;
+    builder.extend_from_slice(body)?;
+    let batch = journal.prepare(builder)?;
+    Ok(batch)
+}
+
 fn append(journal: &mut Journal, shelf: &mut MemShelf, body: &[u8]) -> Result<(), Fail> {
-    let batch = journal.prepare(body)?;
+    let batch = prepared(journal, body)?;
     journal.append_prepared(shelf, batch)?;
     Ok(())
 }

@@ -9,7 +9,7 @@ use bytes::Bytes;
 use commands::read_entry;
 use disk::{CrashShelf, FileId, Fuse, Shelf};
 use disk_mem::MemShelf;
-use gated_log::Refusal;
+use gated_log::{ReadError, Refusal};
 use managed_ledger::{EntryStore, ManagedLedger};
 use std::alloc::Global;
 use std::test::Fail;
@@ -77,6 +77,14 @@ fn append<S: Shelf>(
 fn answer<T: Drop>(answered: Result<T, Refusal>) -> Result<Result<T, Refusal>, Refusal> {
     match answered {
         Err(Refusal::NoMemory) => Err(Refusal::NoMemory),
+        other => Ok(other),
+    }
+}
+
+// The same of a read.
+fn read_answer<T: Drop>(answered: Result<T, ReadError>) -> Result<Result<T, ReadError>, ReadError> {
+    match answered {
+        Err(ReadError::NoMemory) => Err(ReadError::NoMemory),
         other => Ok(other),
     }
 }

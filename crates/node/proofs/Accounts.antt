@@ -1,7 +1,7 @@
 -- Each life of a node accounts for what its sessions were told.
 use Rattle.std.proofs.Common.{◌≡◌, ℕ, zero, suc, ◌<◌, ◌+◌, ◌≤◌, false, List, length, refl, sym, subst}
 use Rattle.std.specs.List.{AllByRecursion}
-use Rattle.topic_core.specs.Core.{Topic, receipts_due}
+use Rattle.topic_core.specs.State.{Topic, receipts_due}
 use Rattle.topic_core.specs.Soundness.{IsSoundTopic}
 use Rattle.session.specs.Broker.{fresh, topic_at}
 use Rattle.node.specs.State.{fresh_broker}
@@ -21,7 +21,7 @@ use Rattle.node.proofs.Promising.{word_kept}
 use Rattle.node.proofs.Unfolding.{life_unfolds}
 
 fresh_quiet : (n : ℕ) → IsQuiet (fresh n)
-fresh_quiet n = record { queues = refl; waiting = refl; counted = refl }
+fresh_quiet n = record { queues = refl; waiting = refl; sure = refl; counted = refl }
 
 quiet_at : (n number : ℕ) → IsQuiet (topic_at (fresh_broker n) number)
 quiet_at n zero = fresh_quiet n
@@ -38,7 +38,7 @@ account t told u course sound quiet = record {
   sound = moves_sound t course.moves u course.steps sound;
   published = moves_publish t course.moves u course.steps quiet;
   covered = λ (none : AllByRecursion (λ move. is_crash move ≡ false) course.moves).
-      subst (λ (hs : List Handed). receipts_told hs + receipts_due u.core.queues ≤ length u.ledger) (sym course.tells) (moves_covered t course.moves u course.steps none sound);
+      subst (λ (hs : List Handed). receipts_told hs + receipts_due u.queues ≤ length u.ledger) (sym course.tells) (moves_covered t course.moves u course.steps none sound);
   found = subst (λ (hs : List Handed). FindsEach (sends_by t course.moves u course.steps) u.ledger hs) (sym course.tells) (moves_found t course.moves u course.steps quiet);
   word = word_kept t course.moves u course.steps quiet sound;
   delivered = subst (λ (hs : List Handed). DeliversEach t course.moves u.ledger hs) (sym course.tells) (moves_delivered t course.moves u course.steps quiet);

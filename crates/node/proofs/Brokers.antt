@@ -1,6 +1,6 @@
 -- How a broker's topics change where one does.
 use Rattle.std.proofs.Common.{◌≡◌, ℕ, zero, suc, List, [], ◌∷◌, ◌++◌, map, get_or, set, refl}
-use Rattle.topic_core.specs.Core.{Topic}
+use Rattle.topic_core.specs.State.{Topic}
 
 -- another place of the list, or this one: it is set if it is there
 pub set_at : (R : Topic → Topic → Type 0) → ((t : Topic) → R t t) → (topics : List Topic) (at number : ℕ) (t other : Topic) → R (get_or topics at other) t → R (get_or topics number other) (get_or (set topics at t) number other)

@@ -1,6 +1,6 @@
 -- What every move respects, every run of moves respects.
 use Rattle.std.proofs.Common.{List, [], ◌∷◌, sym, subst}
-use Rattle.topic_core.specs.Core.{Topic}
+use Rattle.topic_core.specs.State.{Topic}
 use Rattle.node.specs.Moves.{Move, MoveStep, Moves}
 
 pub record Respected (R : Topic → List Move → Topic → Type 0) : Type 0 where

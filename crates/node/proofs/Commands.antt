@@ -1,5 +1,5 @@
--- What a command leaves of a core, by its answer.
-use Rattle.std.proofs.Common.{◌≡◌, ◌⊎◌, inl, inr, ℕ, Bool, true, false, cond, Option, Some, None, Result, Ok, Err, List, refl, sym, subst}
+-- What a command leaves of a topic, by its answer.
+use Rattle.std.proofs.Common.{◌≡◌, ◌⊎◌, inl, inr, ⊎_elim, ◌∙◌, ℕ, Bool, true, false, cond, Option, Some, None, Result, Ok, Err, List, refl, sym, ap, subst}
 use Rattle.commands.specs.declared.reply.Reply.{Reply}
 use Rattle.commands.specs.declared.reply.Reply.TheVariants.{ProducerSuccess, SendError, Success, Error, AckResponse}
 use Rattle.commands.specs.declared.server_error.ServerError.{ServerError}
@@ -7,6 +7,7 @@ use Rattle.commands.specs.declared.server_error.ServerError.TheVariants.{Persist
 use Rattle.topic_core.specs.declared.command.Answer.{Answer}
 use Rattle.topic_core.specs.declared.command.Answer.TheVariants.{Now, Later, Nothing, NoMemory}
 use Rattle.topic_core.specs.declared.command.Send.{Send}
+use Rattle.topic_core.specs.declared.command.TopicCommand.{TopicCommand}
 use Rattle.topic_core.specs.declared.command.TopicCommand.TheVariants as asked
 use Rattle.topic_core.specs.declared.command.Subscribe.{Subscribe}
 use Rattle.topic_core.specs.declared.command.Ack.{Ack}
@@ -14,14 +15,14 @@ use Rattle.topic_core.specs.declared.command.CloseProducer.{CloseProducer}
 use Rattle.topic_core.specs.declared.command.Unsubscribe.{Unsubscribe}
 use Rattle.topic_core.specs.declared.command.CloseConsumer.{CloseConsumer}
 use Rattle.topic_core.specs.declared.command.Redeliver.{Redeliver}
-use Rattle.topic_core.specs.Core.{Core}
+use Rattle.topic_core.specs.State.{Topic}
 use Rattle.reply_queues.specs.Replies.{queued}
 use Rattle.holds.specs.declared.consumer.ConsumerKey.{ConsumerKey}
 use Rattle.subscriptions.specs.State.{Subscriptions}
 use Rattle.subscriptions.specs.Steps as subscriptions
 use Rattle.subscriptions.specs.declared.consumer.TooManyPermits.{TooManyPermits}
 use Rattle.topic_core.specs.Dispatch.{sent}
-use Rattle.topic_core.specs.Steps.{Outcome, GrantStep, key_of, CoreStep, Meets, refused_or, first_standing, producer_refusals, send_refusals, subscribe_refusal, attach_refusal, ack_refusals, ack_refused, ack_accepted, close_refusals, closing, unsubscribe_refusal, unsubscribed, detach_refusals, detached, asked_back, with_producer, accepted, subscribed, bytes_of}
+use Rattle.topic_core.specs.Steps.{Outcome, GrantStep, key_of, TopicStep, Meets, refused_or, first_standing, producer_refusals, send_refusals, subscribe_refusal, attach_refusal, ack_refusals, ack_refused, ack_accepted, close_refusals, closing, unsubscribe_refusal, unsubscribed, detach_refusals, detached, asked_back, with_producer, accepted, subscribed, bytes_of}
 use Rattle.topic_core.proofs.Sends.{takes_entry}
 use Rattle.topic_core.proofs.Subscribing.{accepts}
 use Rattle.topic_core.proofs.Closings.{close-works, unsubscribe-works}
@@ -33,72 +34,74 @@ not_later r is = cc
 not_now : (r : Reply) → Later ≡ Now r → ⊥
 not_now r is = cc
 
-producer_cases : (o : Option ServerError) (t : Core) (who id request : ℕ) (name : List ℕ) (u : Core)
-    → u ≡ (refused_or o (λ error. Now (Error request error)) t (record { answer = Now (ProducerSuccess request name); core = with_producer t who id name })).core
+producer_cases : (o : Option ServerError) (t : Topic) (who id request : ℕ) (name : List ℕ) (u : Topic)
+    → u ≡ (refused_or o (λ error. Now (Error request error)) t (record { answer = Now (ProducerSuccess request name); topic = with_producer t who id name })).topic
     → (u ≡ t) ⊎ (u ≡ with_producer t who id name)
 producer_cases None t who id request name u is = inr is
 producer_cases (Some e) t who id request name u is = inl is
 
-pub producer_core : (answer : Answer) (t : Core) (who id request : ℕ) (name : List ℕ) (u : Core) → CoreStep t who (asked.Producer id request name) answer u → (u ≡ t) ⊎ (u ≡ with_producer t who id name)
-producer_core NoMemory t who id request name u step = inl step
-producer_core (Now r) t who id request name u step = producer_cases (first_standing (producer_refusals t name)) t who id request name u step.1
-producer_core Nothing t who id request name u step = producer_cases (first_standing (producer_refusals t name)) t who id request name u step.1
-producer_core Later t who id request name u step = producer_cases (first_standing (producer_refusals t name)) t who id request name u step.1
+pub producer_topic : (answer : Answer) (t : Topic) (who id request : ℕ) (name : List ℕ) (u : Topic) → TopicStep t who (asked.Producer id request name) answer u → (u ≡ t) ⊎ (u ≡ with_producer t who id name)
+producer_topic NoMemory t who id request name u step = inl step
+producer_topic (Now r) t who id request name u step = producer_cases (first_standing (producer_refusals t name)) t who id request name u step.1
+producer_topic Nothing t who id request name u step = producer_cases (first_standing (producer_refusals t name)) t who id request name u step.1
+producer_topic Later t who id request name u step = producer_cases (first_standing (producer_refusals t name)) t who id request name u step.1
 
-nothing_cases : (o : Option ServerError) (t : Core) (who : ℕ) (send : Send) (u : Core)
-    → u ≡ (refused_or o (λ error. Now (SendError send.producer_id send.sequence_id error)) t (record { answer = Later; core = accepted t who send.producer_id send.sequence_id (bytes_of send.entry) })).core
-    → Nothing ≡ (refused_or o (λ error. Now (SendError send.producer_id send.sequence_id error)) t (record { answer = Later; core = accepted t who send.producer_id send.sequence_id (bytes_of send.entry) })).answer
+nothing_cases : (o : Option ServerError) (t : Topic) (who : ℕ) (send : Send) (u : Topic)
+    → u ≡ (refused_or o (λ error. Now (SendError send.producer_id send.sequence_id error)) t (record { answer = Later; topic = accepted t who send.producer_id send.sequence_id (bytes_of send.entry) })).topic
+    → Nothing ≡ (refused_or o (λ error. Now (SendError send.producer_id send.sequence_id error)) t (record { answer = Later; topic = accepted t who send.producer_id send.sequence_id (bytes_of send.entry) })).answer
     → u ≡ t
 nothing_cases None t who send u is answer = absurd (let no : ⊥ = cc in no)
 nothing_cases (Some e) t who send u is answer = is
 
 -- a SEND is never left without an answer
-pub silent_core : (t : Core) (who : ℕ) (send : Send) (u : Core) → CoreStep t who (asked.Send send) Nothing u → u ≡ t
-silent_core t who send u step = nothing_cases (first_standing (send_refusals t who send)) t who send u step.1 step.0
+pub silent_topic : (t : Topic) (who : ℕ) (send : Send) (u : Topic) → TopicStep t who (asked.Send send) Nothing u → u ≡ t
+silent_topic t who send u step = nothing_cases (first_standing (send_refusals t who send)) t who send u step.1 step.0
 
-now_cases : (o : Option ServerError) (t : Core) (who : ℕ) (send : Send) (r : Reply) (u : Core)
-    → Now r ≡ (refused_or o (λ error. Now (SendError send.producer_id send.sequence_id error)) t (record { answer = Later; core = accepted t who send.producer_id send.sequence_id (bytes_of send.entry) })).answer
-    → u ≡ (refused_or o (λ error. Now (SendError send.producer_id send.sequence_id error)) t (record { answer = Later; core = accepted t who send.producer_id send.sequence_id (bytes_of send.entry) })).core
+now_cases : (o : Option ServerError) (t : Topic) (who : ℕ) (send : Send) (r : Reply) (u : Topic)
+    → Now r ≡ (refused_or o (λ error. Now (SendError send.producer_id send.sequence_id error)) t (record { answer = Later; topic = accepted t who send.producer_id send.sequence_id (bytes_of send.entry) })).answer
+    → u ≡ (refused_or o (λ error. Now (SendError send.producer_id send.sequence_id error)) t (record { answer = Later; topic = accepted t who send.producer_id send.sequence_id (bytes_of send.entry) })).topic
     → u ≡ t
 now_cases None t who send r u answer is = absurd (not_later r answer)
 now_cases (Some e) t who send r u answer is = is
 
-pub refused_core : (t : Core) (who : ℕ) (send : Send) (r : Reply) (u : Core) → CoreStep t who (asked.Send send) (Now r) u → u ≡ t
-refused_core t who send r u step = now_cases (first_standing (send_refusals t who send)) t who send r u step.0 step.1
+pub refused_topic : (t : Topic) (who : ℕ) (send : Send) (r : Reply) (u : Topic) → TopicStep t who (asked.Send send) (Now r) u → u ≡ t
+refused_topic t who send r u step = now_cases (first_standing (send_refusals t who send)) t who send r u step.0 step.1
 
-later_cases : (o : Option ServerError) (t : Core) (who : ℕ) (send : Send) (u : Core)
-    → Later ≡ (refused_or o (λ error. Now (SendError send.producer_id send.sequence_id error)) t (record { answer = Later; core = accepted t who send.producer_id send.sequence_id (bytes_of send.entry) })).answer
-    → u ≡ (refused_or o (λ error. Now (SendError send.producer_id send.sequence_id error)) t (record { answer = Later; core = accepted t who send.producer_id send.sequence_id (bytes_of send.entry) })).core
+later_cases : (o : Option ServerError) (t : Topic) (who : ℕ) (send : Send) (u : Topic)
+    → Later ≡ (refused_or o (λ error. Now (SendError send.producer_id send.sequence_id error)) t (record { answer = Later; topic = accepted t who send.producer_id send.sequence_id (bytes_of send.entry) })).answer
+    → u ≡ (refused_or o (λ error. Now (SendError send.producer_id send.sequence_id error)) t (record { answer = Later; topic = accepted t who send.producer_id send.sequence_id (bytes_of send.entry) })).topic
     → (o ≡ None) × (u ≡ accepted t who send.producer_id send.sequence_id (bytes_of send.entry))
 later_cases None t who send u answer is = (refl, is)
 later_cases (Some e) t who send u answer is = absurd (not_now (SendError send.producer_id send.sequence_id e) answer)
 
 -- a SEND is accepted by a topic that works
-pub accepted_core : (t : Core) (who : ℕ) (send : Send) (u : Core) → CoreStep t who (asked.Send send) Later u → (t.failed ≡ false) × (u ≡ accepted t who send.producer_id send.sequence_id (bytes_of send.entry))
-accepted_core t who send u step =
+pub accepted_topic : (t : Topic) (who : ℕ) (send : Send) (u : Topic) → TopicStep t who (asked.Send send) Later u → (t.failed ≡ false) × (u ≡ accepted t who send.producer_id send.sequence_id (bytes_of send.entry))
+accepted_topic t who send u step =
     let cases = later_cases (first_standing (send_refusals t who send)) t who send u step.0 step.1 in
     ((takes_entry t who send cases.0).0, cases.1)
 
 -- a session's command leaves the entries as they are; a topic that works may then owe the session one more reply
-pub record Awaits (who : ℕ) (t u : Core) : Type 0 where
+pub record Awaits (who : ℕ) (t u : Topic) : Type 0 where
   pub per_ledger : u.per_ledger ≡ t.per_ledger
   pub committed : u.committed ≡ t.committed
+  pub ledger : u.ledger ≡ t.ledger
   pub waiting : u.waiting ≡ t.waiting
+  pub doubt : u.doubt ≡ t.doubt
   pub handed : u.handed ≡ t.handed
   pub failed : u.failed ≡ t.failed
   pub queues : (u.queues ≡ t.queues) ⊎ ((r : Reply) × IsAtOnce r × (t.failed ≡ false) × (u.queues ≡ queued who r t.queues))
 
-awaits_nothing : (who : ℕ) (t : Core) → Awaits who t t
-awaits_nothing who t = record { per_ledger = refl; committed = refl; waiting = refl; handed = refl; failed = refl; queues = inl refl }
+awaits_nothing : (who : ℕ) (t : Topic) → Awaits who t t
+awaits_nothing who t = record { per_ledger = refl; committed = refl; ledger = refl; waiting = refl; doubt = refl; handed = refl; failed = refl; queues = inl refl }
 
 -- by its outcome
-awaits_by : (who : ℕ) (outcome : Outcome) (t : Core) (a : Answer) (u : Core) → Awaits who t outcome.core → Meets outcome t a u → Awaits who t u
-awaits_by who outcome t NoMemory u h step = subst (λ (x : Core). Awaits who t x) (sym step) (awaits_nothing who t)
-awaits_by who outcome t Nothing u h step = subst (λ (x : Core). Awaits who t x) (sym step.1) h
-awaits_by who outcome t (Now r) u h step = subst (λ (x : Core). Awaits who t x) (sym step.1) h
-awaits_by who outcome t Later u h step = subst (λ (x : Core). Awaits who t x) (sym step.1) h
+awaits_by : (who : ℕ) (outcome : Outcome) (t : Topic) (a : Answer) (u : Topic) → Awaits who t outcome.topic → Meets outcome t a u → Awaits who t u
+awaits_by who outcome t NoMemory u h step = subst (λ (x : Topic). Awaits who t x) (sym step) (awaits_nothing who t)
+awaits_by who outcome t Nothing u h step = subst (λ (x : Topic). Awaits who t x) (sym step.1) h
+awaits_by who outcome t (Now r) u h step = subst (λ (x : Topic). Awaits who t x) (sym step.1) h
+awaits_by who outcome t Later u h step = subst (λ (x : Topic). Awaits who t x) (sym step.1) h
 
-refused_awaits : (who : ℕ) (o : Option ServerError) (refused : ServerError → Answer) (t : Core) (effect : Outcome) → (o ≡ None → Awaits who t effect.core) → Awaits who t (refused_or o refused t effect).core
+refused_awaits : (who : ℕ) (o : Option ServerError) (refused : ServerError → Answer) (t : Topic) (effect : Outcome) → (o ≡ None → Awaits who t effect.topic) → Awaits who t (refused_or o refused t effect).topic
 refused_awaits who None refused t effect h = h refl
 refused_awaits who (Some e) refused t effect h = awaits_nothing who t
 
@@ -109,85 +112,112 @@ no_first : (b : Bool) (e : ServerError) (o : Option ServerError) → cond b (Som
 no_first true e o h = absurd (not_none e h)
 no_first false e o h = refl
 
-subscribed_awaits : (t : Core) (who : ℕ) (subscribe : Subscribe) → t.failed ≡ false → Awaits who t (subscribed t who subscribe)
+subscribed_awaits : (t : Topic) (who : ℕ) (subscribe : Subscribe) → t.failed ≡ false → Awaits who t (subscribed t who subscribe)
 subscribed_awaits t who subscribe works = record {
   per_ledger = refl;
   committed = refl;
+  ledger = refl;
   waiting = refl;
+  doubt = refl;
   handed = refl;
   failed = refl;
   queues = inr (Success subscribe.request_id, record { no_receipt = refl; no_message = refl }, works, refl);
 }
 
-pub subscribe_core : (a : Answer) (t : Core) (who : ℕ) (subscribe : Subscribe) (u : Core) → CoreStep t who (asked.Subscribe subscribe) a u → Awaits who t u
-subscribe_core a t who subscribe u step = awaits_by who _ t a u
-    (refused_awaits who (subscribe_refusal t subscribe) (λ error. Now (Error subscribe.request_id error)) t (record { answer = Later; core = subscribed t who subscribe })
+pub subscribe_topic : (a : Answer) (t : Topic) (who : ℕ) (subscribe : Subscribe) (u : Topic) → TopicStep t who (asked.Subscribe subscribe) a u → Awaits who t u
+subscribe_topic a t who subscribe u step = awaits_by who _ t a u
+    (refused_awaits who (subscribe_refusal t subscribe) (λ error. Now (Error subscribe.request_id error)) t (record { answer = Later; topic = subscribed t who subscribe })
     (λ none. subscribed_awaits t who subscribe (no_first t.failed PersistenceError (attach_refusal t subscribe) none)))
     step
 
-accepted_awaits : (request : Option ℕ) (t : Core) (who : ℕ) (ack : Ack) → t.failed ≡ false → Awaits who t (ack_accepted t who ack request).core
-accepted_awaits None t who ack works = record { per_ledger = refl; committed = refl; waiting = refl; handed = refl; failed = refl; queues = inl refl }
+accepted_awaits : (request : Option ℕ) (t : Topic) (who : ℕ) (ack : Ack) → t.failed ≡ false → Awaits who t (ack_accepted t who ack request).topic
+accepted_awaits None t who ack works = record { per_ledger = refl; committed = refl; ledger = refl; waiting = refl; doubt = refl; handed = refl; failed = refl; queues = inl refl }
 accepted_awaits (Some request) t who ack works = record {
   per_ledger = refl;
   committed = refl;
+  ledger = refl;
   waiting = refl;
+  doubt = refl;
   handed = refl;
   failed = refl;
   queues = inr (AckResponse ack.consumer_id None request, record { no_receipt = refl; no_message = refl }, works, refl);
 }
 
-pub ack_core : (a : Answer) (t : Core) (who : ℕ) (ack : Ack) (u : Core) → CoreStep t who (asked.Ack ack) a u → Awaits who t u
-ack_core a t who ack u step = awaits_by who _ t a u
+pub ack_topic : (a : Answer) (t : Topic) (who : ℕ) (ack : Ack) (u : Topic) → TopicStep t who (asked.Ack ack) a u → Awaits who t u
+ack_topic a t who ack u step = awaits_by who _ t a u
     (refused_awaits who (first_standing (ack_refusals t who ack)) (ack_refused ack.consumer_id ack.request_id) t (ack_accepted t who ack ack.request_id)
     (λ none. accepted_awaits ack.request_id t who ack (accepts t who ack none).works))
     step
 
 -- a reply that is no receipt and no message awaits a flush
-awaits_success : (who request : ℕ) (t u : Core) → u.per_ledger ≡ t.per_ledger → u.committed ≡ t.committed → u.waiting ≡ t.waiting → u.handed ≡ t.handed → u.failed ≡ t.failed
-    → t.failed ≡ false → u.queues ≡ queued who (Success request) t.queues → Awaits who t u
-awaits_success who request t u per_ledger committed waiting handed failed works queues = record {
+awaits_success : (who request : ℕ) (t u : Topic) → u.per_ledger ≡ t.per_ledger → u.committed ≡ t.committed → u.ledger ≡ t.ledger → u.waiting ≡ t.waiting → u.doubt ≡ t.doubt → u.handed ≡ t.handed
+    → u.failed ≡ t.failed → t.failed ≡ false → u.queues ≡ queued who (Success request) t.queues → Awaits who t u
+awaits_success who request t u per_ledger committed ledger waiting doubt handed failed works queues = record {
   per_ledger = per_ledger;
   committed = committed;
+  ledger = ledger;
   waiting = waiting;
+  doubt = doubt;
   handed = handed;
   failed = failed;
   queues = inr (Success request, record { no_receipt = refl; no_message = refl }, works, queues);
 }
 
-pub close_core : (a : Answer) (t : Core) (who : ℕ) (close : CloseProducer) (u : Core) → CoreStep t who (asked.CloseProducer close) a u → Awaits who t u
-close_core a t who close u step = awaits_by who _ t a u
-    (refused_awaits who (first_standing (close_refusals t who close)) (λ error. Now (Error close.request_id error)) t (record { answer = Later; core = closing t who close })
-    (λ none. awaits_success who close.request_id t (closing t who close) refl refl refl refl refl (close-works t who close none) refl))
+pub close_topic : (a : Answer) (t : Topic) (who : ℕ) (close : CloseProducer) (u : Topic) → TopicStep t who (asked.CloseProducer close) a u → Awaits who t u
+close_topic a t who close u step = awaits_by who _ t a u
+    (refused_awaits who (first_standing (close_refusals t who close)) (λ error. Now (Error close.request_id error)) t (record { answer = Later; topic = closing t who close })
+    (λ none. awaits_success who close.request_id t (closing t who close) refl refl refl refl refl refl refl (close-works t who close none) refl))
     step
 
-pub unsubscribe_core : (a : Answer) (t : Core) (who : ℕ) (unsubscribe : Unsubscribe) (u : Core) → CoreStep t who (asked.Unsubscribe unsubscribe) a u → Awaits who t u
-unsubscribe_core a t who unsubscribe u step = awaits_by who _ t a u
-    (refused_awaits who (unsubscribe_refusal t who unsubscribe) (λ error. Now (Error unsubscribe.request_id error)) t (record { answer = Later; core = unsubscribed t who unsubscribe })
-    (λ none. awaits_success who unsubscribe.request_id t (unsubscribed t who unsubscribe) refl refl refl refl refl (unsubscribe-works t who unsubscribe none) refl))
+pub unsubscribe_topic : (a : Answer) (t : Topic) (who : ℕ) (unsubscribe : Unsubscribe) (u : Topic) → TopicStep t who (asked.Unsubscribe unsubscribe) a u → Awaits who t u
+unsubscribe_topic a t who unsubscribe u step = awaits_by who _ t a u
+    (refused_awaits who (unsubscribe_refusal t who unsubscribe) (λ error. Now (Error unsubscribe.request_id error)) t (record { answer = Later; topic = unsubscribed t who unsubscribe })
+    (λ none. awaits_success who unsubscribe.request_id t (unsubscribed t who unsubscribe) refl refl refl refl refl refl refl (unsubscribe-works t who unsubscribe none) refl))
     step
 
-granted_by : (failed : Bool) (who : ℕ) (t : Core) (subs : Subscriptions) → Awaits who t (cond failed t (record t { subs = subs }))
+granted_by : (failed : Bool) (who : ℕ) (t : Topic) (subs : Subscriptions) → Awaits who t (cond failed t (record t { subs = subs }))
 granted_by true who t subs = awaits_nothing who t
-granted_by false who t subs = record { per_ledger = refl; committed = refl; waiting = refl; handed = refl; failed = refl; queues = inl refl }
+granted_by false who t subs = record { per_ledger = refl; committed = refl; ledger = refl; waiting = refl; doubt = refl; handed = refl; failed = refl; queues = inl refl }
 
 -- a consumer is detached at once
-pub detach_core : (a : Answer) (t : Core) (who : ℕ) (close : CloseConsumer) (u : Core) → CoreStep t who (asked.CloseConsumer close) a u → Awaits who t u
-detach_core a t who close u step = awaits_by who _ t a u
-    (refused_awaits who (first_standing (detach_refusals t who close)) (λ error. Now (Error close.request_id error)) t (record { answer = Now (Success close.request_id); core = detached t who close })
-    (λ none. record { per_ledger = refl; committed = refl; waiting = refl; handed = refl; failed = refl; queues = inl refl }))
+pub detach_topic : (a : Answer) (t : Topic) (who : ℕ) (close : CloseConsumer) (u : Topic) → TopicStep t who (asked.CloseConsumer close) a u → Awaits who t u
+detach_topic a t who close u step = awaits_by who _ t a u
+    (refused_awaits who (first_standing (detach_refusals t who close)) (λ error. Now (Error close.request_id error)) t (record { answer = Now (Success close.request_id); topic = detached t who close })
+    (λ none. record { per_ledger = refl; committed = refl; ledger = refl; waiting = refl; doubt = refl; handed = refl; failed = refl; queues = inl refl }))
     step
 
 -- what a consumer gives back is free at once
-pub redeliver_core : (a : Answer) (t : Core) (who : ℕ) (redeliver : Redeliver) (u : Core) → CoreStep t who (asked.Redeliver redeliver) a u → Awaits who t u
-redeliver_core a t who redeliver u step = awaits_by who _ t a u
+pub redeliver_topic : (a : Answer) (t : Topic) (who : ℕ) (redeliver : Redeliver) (u : Topic) → TopicStep t who (asked.Redeliver redeliver) a u → Awaits who t u
+redeliver_topic a t who redeliver u step = awaits_by who _ t a u
     (granted_by t.failed who t (subscriptions.redelivered t.subs (key_of who redeliver.consumer_id) (asked_back t.per_ledger t.committed redeliver.ids)))
     step
 
 -- so do permits
-pub granted_core : (result : Result (Unit {0}) TooManyPermits) (t : Core) (who id permits : ℕ) (u : Core) → GrantStep t who id permits result u → Awaits who t u
-granted_core (Ok done) t who id permits u step = subst (λ (x : Core). Awaits who t x) (sym step.1) (granted_by t.failed who t (subscriptions.granted t.subs (key_of who id) permits))
-granted_core (Err why) t who id permits u step = subst (λ (x : Core). Awaits who t x) (sym step.1) (awaits_nothing who t)
+pub granted_topic : (result : Result (Unit {0}) TooManyPermits) (t : Topic) (who id permits : ℕ) (u : Topic) → GrantStep t who id permits result u → Awaits who t u
+granted_topic (Ok done) t who id permits u step = subst (λ (x : Topic). Awaits who t x) (sym step.1) (granted_by t.failed who t (subscriptions.granted t.subs (key_of who id) permits))
+granted_topic (Err why) t who id permits u step = subst (λ (x : Topic). Awaits who t x) (sym step.1) (awaits_nothing who t)
 
 -- and a message
-pub sent_core : (who : ℕ) (t : Core) (key : ConsumerKey) (i : ℕ) (u : Core) → u ≡ sent t key i → Awaits who t u
-sent_core who t key i u is = subst (λ (x : Core). Awaits who t x) (sym is) (record { per_ledger = refl; committed = refl; waiting = refl; handed = refl; failed = refl; queues = inl refl })
+pub sent_topic : (who : ℕ) (t : Topic) (key : ConsumerKey) (i : ℕ) (u : Topic) → u ≡ sent t key i → Awaits who t u
+sent_topic who t key i u is = subst (λ (x : Topic). Awaits who t x) (sym is) (record { per_ledger = refl; committed = refl; ledger = refl; waiting = refl; doubt = refl; handed = refl; failed = refl; queues = inl refl })
+
+-- no command touches the ledger
+same_ledger : (t u v : Topic) → u ≡ v → v.ledger ≡ t.ledger → u.ledger ≡ t.ledger
+same_ledger t u v is same = ap (λ (x : Topic). x.ledger) is ∙ same
+
+pub command_ledger : (t : Topic) (who : ℕ) (c : TopicCommand) (a : Answer) (u : Topic) → TopicStep t who c a u → u.ledger ≡ t.ledger
+command_ledger t who (asked.Producer id request name) a u step = ⊎_elim
+    (λ same. same_ledger t u t same refl)
+    (λ more. same_ledger t u (with_producer t who id name) more refl)
+    (producer_topic a t who id request name u step)
+command_ledger t who (asked.Send send) (Now r) u step = same_ledger t u t (refused_topic t who send r u step) refl
+command_ledger t who (asked.Send send) Later u step =
+    same_ledger t u (accepted t who send.producer_id send.sequence_id (bytes_of send.entry)) (accepted_topic t who send u step).1 refl
+command_ledger t who (asked.Send send) Nothing u step = same_ledger t u t (silent_topic t who send u step) refl
+command_ledger t who (asked.Send send) NoMemory u step = same_ledger t u t step refl
+command_ledger t who (asked.Subscribe subscribe) a u step = (subscribe_topic a t who subscribe u step).ledger
+command_ledger t who (asked.Ack ack) a u step = (ack_topic a t who ack u step).ledger
+command_ledger t who (asked.CloseProducer close) a u step = (close_topic a t who close u step).ledger
+command_ledger t who (asked.Unsubscribe unsubscribe) a u step = (unsubscribe_topic a t who unsubscribe u step).ledger
+command_ledger t who (asked.CloseConsumer close) a u step = (detach_topic a t who close u step).ledger
+command_ledger t who (asked.Redeliver redeliver) a u step = (redeliver_topic a t who redeliver u step).ledger

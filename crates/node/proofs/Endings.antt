@@ -1,43 +1,67 @@
--- How flushes, openings and crashes end, and that ledgers only grow.
-use Rattle.std.proofs.Common.{◌≡◌, ◌⊎◌, inl, inr, ⊎_elim, ◌∙◌, ℕ, Bool, true, false, Result, Ok, Err, is_some, List, [], ◌++◌, length, take, drop, map, refl, sym, ap, append-nil, append_assoc}
+-- How flushes and their parts, openings and crashes end, and that ledgers only grow.
+use Rattle.std.proofs.Common.{◌≡◌, ◌⊎◌, inl, inr, ⊎_elim, ◌∙◌, ℕ, Bool, true, false, Option, Some, None, Result, Ok, Err, List, [], ◌++◌, take, drop, map, refl, sym, ap, subst, append-nil, append_assoc}
 use Rattle.std.proofs.lemmas.List.{take-append-drop}
 use Rattle.records.specs.Maps.{Kept}
 use Rattle.gated_log.specs.declared.refusal.Refusal.{Refusal}
 use Rattle.gated_log.specs.declared.refusal.Refusal.TheVariants as refusal
+use Rattle.topic_stores.specs.declared.batch.Batch.{Batch}
+use Rattle.topic_stores.specs.declared.error.WriteError.{WriteError}
+use Rattle.topic_stores.specs.declared.error.WriteError.TheVariants.{Device, NoMemory}
 use Rattle.topic_core.specs.Slots.{slot_of_entry}
-use Rattle.topic_core.specs.Core.{Topic, entries_of}
-use Rattle.topic_core.specs.Flush.{FlushStep, FlushIn, FlushEnds, flushed_topic, failed_topic}
+use Rattle.topic_core.specs.State.{Topic, entries_of, entries_in_doubt}
+use Rattle.topic_core.specs.Flush.{TakeStep, FinishStep, FlushStep, FlushIn, FlushEnds, has_no_flush, handed_on, finished, taken_back, failed}
 use Rattle.topic_core.specs.Crashes.{IsLeft, ReopenStep, ReopenIn, ReopenEnds, reopened}
-use Rattle.node.specs.Moves.{Move, Command, Tell, Lose, Grant, Deliver, Miss, Leave, Flush, Reopen, Crash, MoveStep, Moves}
+use Rattle.topic_core.proofs.Flushing.{finished-handed_on}
+use Rattle.node.specs.Moves.{Move, Command, Tell, Lose, Grant, Deliver, Miss, Leave, Flush, Take, Finish, Reopen, Crash, MoveStep, Moves}
 use Rattle.node.proofs.Carrying.{Respected, respects}
+use Rattle.node.proofs.Commands.{command_ledger, granted_topic}
 
--- a flush changes nothing, commits all that waits, or fails the topic
-flush_ends : (t : Topic) (result : Result ℕ Refusal) (u : Topic) → FlushEnds t result u → (u ≡ t) ⊎ ((u ≡ flushed_topic t) ⊎ (u ≡ failed_topic t))
-flush_ends t (Ok count) u s = inr (inl s.1)
-flush_ends t (Err refusal.NoMemory) u s = inl s
-flush_ends t (Err refusal.Device) u s = inr (inr s)
-flush_ends t (Err (refusal.Damaged file offset)) u s = absurd s
-flush_ends t (Err refusal.NotInitialised) u s = absurd s
-flush_ends t (Err refusal.Version) u s = absurd s
-flush_ends t (Err refusal.TooLarge) u s = absurd s
+-- what the parts of a flush respect
+pub record RespectedByFlushes (R : Topic → Topic → Type 0) : Type 0 where
+  pub same : (t : Topic) → R t t
+  pub then : (t u v : Topic) → R t u → R u v → R t v
+  pub take : (t : Topic) → R t (handed_on t)
+  pub finish : (t : Topic) → R t (finished t)
+  pub take_back : (t : Topic) → R t (taken_back t)
+  pub fail : (t : Topic) → R t (failed t)
 
-flush_in : (failed under_way : Bool) (t : Topic) (result : Result ℕ Refusal) (u : Topic) → FlushIn failed under_way t result u → (u ≡ t) ⊎ ((u ≡ flushed_topic t) ⊎ (u ≡ failed_topic t))
-flush_in true true t result u s = inl s.1
-flush_in true false t result u s = inl s.1
-flush_in false true t result u s = inl s.1
-flush_in false false t result u s = flush_ends t result u s
+-- each part respects it, and so does a whole flush, which takes and finishes
+module _ (R : Topic → Topic → Type 0) (by : RespectedByFlushes R) where
+  is : (t u v : Topic) → v ≡ u → R t u → R t v
+  is t u v same r = subst (λ (x : Topic). R t x) (sym same) r
 
-pub flush_cases : (t : Topic) (result : Result ℕ Refusal) (u : Topic) → FlushStep t result u → (u ≡ t) ⊎ ((u ≡ flushed_topic t) ⊎ (u ≡ failed_topic t))
-flush_cases t result u s = flush_in t.core.failed (is_some t.core.doubt) t result u s
+  pub taking : (t : Topic) (result : Result (Option Batch) WriteError) (u : Topic) → TakeStep t result u → R t u
+  taking t (Ok None) u s = is t t u s.2 (by.same t)
+  taking t (Ok (Some batch)) u s = is t (handed_on t) u s.2 (by.take t)
+  taking t (Err Device) u s = is t t u s.1 (by.same t)
+  taking t (Err NoMemory) u s = is t t u s.2 (by.same t)
+
+  pub finishing : (t : Topic) (written : Result (Unit {0}) WriteError) (result : Result ℕ WriteError) (u : Topic) → FinishStep t written result u → R t u
+  finishing t (Ok done) result u s = is t (finished t) u s.1 (by.finish t)
+  finishing t (Err NoMemory) result u s = is t (taken_back t) u s.1 (by.take_back t)
+  finishing t (Err Device) result u s = is t (failed t) u s.1 (by.fail t)
+
+  flush_ends : (t : Topic) (result : Result ℕ WriteError) (u : Topic) → FlushEnds t result u → R t u
+  flush_ends t (Ok count) u s = is t (finished (handed_on t)) u (s.1 ∙ sym (finished-handed_on t)) (by.then t (handed_on t) (finished (handed_on t)) (by.take t) (by.finish (handed_on t)))
+  flush_ends t (Err NoMemory) u s = is t t u s (by.same t)
+  flush_ends t (Err Device) u s = is t (failed (handed_on t)) u s (by.then t (handed_on t) (failed (handed_on t)) (by.take t) (by.fail (handed_on t)))
+
+  flush_in : (fails nothing : Bool) (t : Topic) (result : Result ℕ WriteError) (u : Topic) → FlushIn fails nothing t result u → R t u
+  flush_in true nothing t result u s = is t t u s.1 (by.same t)
+  flush_in false true t result u s = is t t u s.1 (by.same t)
+  flush_in false false t result u s = flush_ends t result u s
+
+  pub flushing : (t : Topic) (result : Result ℕ WriteError) (u : Topic) → FlushStep t result u → R t u
+  flushing t result u s = flush_in t.failed (has_no_flush t) t result u s
 
 -- a failed topic is opened again
 pub record Reopened (t u : Topic) : Type 0 where
-  pub failed : t.core.failed ≡ true
+  pub failed : t.failed ≡ true
   pub left : IsLeft t u.ledger u.kept
-  pub core : u.core ≡ reopened t.core (length u.ledger) (map slot_of_entry u.ledger) u.kept
+  pub again : u ≡ reopened t u.ledger (map slot_of_entry u.ledger) u.kept
 
-reopen_ends : (t : Topic) (result : Result (Unit {0}) Refusal) (u : Topic) → t.core.failed ≡ true → ReopenEnds t result u → (u ≡ t) ⊎ Reopened t u
-reopen_ends t (Ok done) u failed s = inr (record { failed = failed; left = s.0; core = s.1 })
+reopen_ends : (t : Topic) (result : Result (Unit {0}) Refusal) (u : Topic) → t.failed ≡ true → ReopenEnds t result u → (u ≡ t) ⊎ Reopened t u
+reopen_ends t (Ok done) u failed s = inr (record { failed = failed; left = s.0; again = s.1 })
 reopen_ends t (Err refusal.NoMemory) u failed s = inl s
 reopen_ends t (Err refusal.Device) u failed s = inl s
 reopen_ends t (Err (refusal.Damaged file offset)) u failed s = absurd s
@@ -45,30 +69,30 @@ reopen_ends t (Err refusal.NotInitialised) u failed s = absurd s
 reopen_ends t (Err refusal.Version) u failed s = absurd s
 reopen_ends t (Err refusal.TooLarge) u failed s = absurd s
 
-reopen_in : (failed : Bool) (t : Topic) (result : Result (Unit {0}) Refusal) (u : Topic) → t.core.failed ≡ failed → ReopenIn failed t result u → (u ≡ t) ⊎ Reopened t u
+reopen_in : (fails : Bool) (t : Topic) (result : Result (Unit {0}) Refusal) (u : Topic) → t.failed ≡ fails → ReopenIn fails t result u → (u ≡ t) ⊎ Reopened t u
 reopen_in true t result u is s = reopen_ends t result u is s
 reopen_in false t result u is s = inl s.1
 
 pub reopen_cases : (t : Topic) (result : Result (Unit {0}) Refusal) (u : Topic) → ReopenStep t result u → (u ≡ t) ⊎ Reopened t u
-reopen_cases t result u s = reopen_in t.core.failed t result u refl s
+reopen_cases t result u s = reopen_in t.failed t result u refl s
 
 -- a crash leaves the ledger with a front of the entries that waited
 pub record Front (t : Topic) (ledger : List (List ℕ)) : Type 0 where
   pub more : List (List ℕ)
   pub rest : List (List ℕ)
   pub grown : ledger ≡ t.ledger ++ more
-  pub waited : t.core.waiting ≡ more ++ rest
+  pub waited : t.waiting ≡ more ++ rest
 
 no_more : (t : Topic) (ledger : List (List ℕ)) → ledger ≡ t.ledger → Front t ledger
-no_more t ledger is = record { more = []; rest = t.core.waiting; grown = is ∙ sym (append-nil t.ledger); waited = refl }
+no_more t ledger is = record { more = []; rest = t.waiting; grown = is ∙ sym (append-nil t.ledger); waited = refl }
 
-some_more : (t : Topic) (ledger : List (List ℕ)) (n : ℕ) → ledger ≡ t.ledger ++ take n t.core.waiting → Front t ledger
-some_more t ledger n is = record { more = take n t.core.waiting; rest = drop n t.core.waiting; grown = is; waited = sym (take-append-drop n t.core.waiting) }
+some_more : (t : Topic) (ledger : List (List ℕ)) (n : ℕ) → ledger ≡ t.ledger ++ take n t.waiting → Front t ledger
+some_more t ledger n is = record { more = take n t.waiting; rest = drop n t.waiting; grown = is; waited = sym (take-append-drop n t.waiting) }
 
 pub left_front : (t : Topic) (ledger : List (List ℕ)) (kept : Kept) → IsLeft t ledger kept → Front t ledger
 left_front t ledger kept (inl s) = no_more t ledger s.0
-left_front t ledger kept (inr (inl s)) = some_more t ledger (entries_of t.core.doubt) s.0
-left_front t ledger kept (inr (inr s)) = some_more t ledger (entries_of t.core.doubt) s.0
+left_front t ledger kept (inr (inl s)) = some_more t ledger (entries_of t.doubt) s.0
+left_front t ledger kept (inr (inr s)) = some_more t ledger (entries_of t.doubt) s.0
 
 -- a ledger with more behind it
 pub record Grows (old new : List (List ℕ)) : Type 0 where
@@ -81,27 +105,36 @@ same_grows old new is = record { more = []; grown = is ∙ sym (append-nil old) 
 pub grows_then : (a b c : List (List ℕ)) → Grows a b → Grows b c → Grows a c
 grows_then a b c p q = record { more = p.more ++ q.more; grown = q.grown ∙ ap (λ (l : List (List ℕ)). l ++ q.more) p.grown ∙ append_assoc a p.more q.more }
 
-same_topic : (t u : Topic) → u ≡ t → Grows t.ledger u.ledger
+abbrev GrowsTo : Topic → Topic → Type 0
+GrowsTo t u = Grows t.ledger u.ledger
+
+same_topic : (t u : Topic) → u ≡ t → GrowsTo t u
 same_topic t u is = same_grows t.ledger u.ledger (ap (λ (x : Topic). x.ledger) is)
 
-left_grows : (t u : Topic) → IsLeft t u.ledger u.kept → Grows t.ledger u.ledger
+flush_grows : RespectedByFlushes GrowsTo
+flush_grows = record {
+  same = λ t. same_grows t.ledger t.ledger refl;
+  then = λ t u v p q. grows_then t.ledger u.ledger v.ledger p q;
+  take = λ t. same_grows t.ledger t.ledger refl;
+  finish = λ t. record { more = entries_in_doubt t; grown = refl };
+  take_back = λ t. same_grows t.ledger t.ledger refl;
+  fail = λ t. same_grows t.ledger t.ledger refl;
+}
+
+left_grows : (t u : Topic) → IsLeft t u.ledger u.kept → GrowsTo t u
 left_grows t u left = let front = left_front t u.ledger u.kept left in record { more = front.more; grown = front.grown }
 
 pub move_grows : (t : Topic) (m : Move) (u : Topic) → MoveStep t m u → Grows t.ledger u.ledger
-move_grows t (Command who c a) u s = same_grows t.ledger u.ledger s.ledger
+move_grows t (Command who c a) u s = same_grows t.ledger u.ledger (command_ledger t who c a u s)
 move_grows t (Tell h) u s = same_grows t.ledger u.ledger (ap (λ (x : Topic). x.ledger) s.taken)
 move_grows t (Lose h) u s = same_grows t.ledger u.ledger (ap (λ (x : Topic). x.ledger) s.taken)
-move_grows t (Grant who id permits result) u s = same_grows t.ledger u.ledger (ap (λ (x : Topic). x.ledger) s.rest)
-move_grows t (Deliver id h) u s = same_grows t.ledger u.ledger s.ledger
-move_grows t (Miss id h) u s = same_grows t.ledger u.ledger s.ledger
+move_grows t (Grant who id permits result) u s = same_grows t.ledger u.ledger (granted_topic result t who id permits u s).ledger
+move_grows t (Deliver id h) u s = same_grows t.ledger u.ledger (ap (λ (x : Topic). x.ledger) s.1.sent)
+move_grows t (Miss id h) u s = same_grows t.ledger u.ledger (ap (λ (x : Topic). x.ledger) s.1.sent)
 move_grows t (Leave who) u s = same_grows t.ledger u.ledger (ap (λ (x : Topic). x.ledger) s)
-move_grows t (Flush result) u s = ⊎_elim
-    (λ is. same_topic t u is)
-    (λ cases. ⊎_elim
-    (λ is. record { more = t.core.waiting; grown = ap (λ (x : Topic). x.ledger) is })
-    (λ is. same_grows t.ledger u.ledger (ap (λ (x : Topic). x.ledger) is))
-    cases)
-    (flush_cases t result u s)
+move_grows t (Flush result) u s = flushing GrowsTo flush_grows t result u s
+move_grows t (Take result) u s = taking GrowsTo flush_grows t result u s
+move_grows t (Finish written result) u s = finishing GrowsTo flush_grows t written result u s
 move_grows t (Reopen result) u s = ⊎_elim (λ is. same_topic t u is) (λ again. left_grows t u again.left) (reopen_cases t result u s)
 move_grows t Crash u s = left_grows t u s.left
 

@@ -1,6 +1,8 @@
 -- Each entry is that of the latest SEND for its position, and what a receipt promised is found ever after.
-use Rattle.std.proofs.Common.{◌≡◌, ◌⊎◌, inl, inr, ⊎_elim, ◌∙◌, ℕ, zero, suc, ◌+◌, ◌<◌, ◌≤◌, Bool, true, false, not, Some, None, List, [], ◌∷◌, ◌++◌, length, map, slice_get, refl, sym, ap, subst, arith, length-append, append-nil, append_assoc}
+use Rattle.std.proofs.Common.{◌≡◌, ◌⊎◌, inl, inr, ⊎_elim, ◌∙◌, ℕ, zero, suc, ◌<◌, ◌≤◌, Bool, true, false, Some, None, List, [], ◌∷◌, ◌++◌, length, map, take, drop, slice_get, refl, sym, ap, subst, arith, length-append, append-nil, append_assoc}
+use Rattle.std.proofs.lemmas.List.{length-take-le, take_all, take-append-drop, take-append-le}
 use Rattle.std.proofs.lemmas.Option.{slice_get_within}
+use Rattle.std.specs.List.{AllByRecursion}
 use Rattle.commands.specs.declared.reply.Reply.{Reply}
 use Rattle.commands.specs.declared.reply.Reply.TheVariants.{Connected, ProducerSuccess, SendReceipt, SendError, Message, Success, Error, AckResponse, Pong}
 use Rattle.topic_core.specs.declared.command.Answer.{Answer}
@@ -9,17 +11,19 @@ use Rattle.topic_core.specs.declared.command.Send.{Send}
 use Rattle.topic_core.specs.declared.command.TopicCommand.{TopicCommand}
 use Rattle.topic_core.specs.declared.command.TopicCommand.TheVariants as asked
 use Rattle.topic_core.specs.Slots.{slot_of_entry}
-use Rattle.topic_core.specs.Core.{Core, Topic, next_position, opened}
-use Rattle.reply_queues.specs.Replies.{SessionReplies, is_for, is_receipt, due_to, refused}
-use Rattle.topic_core.specs.Steps.{CoreStep, bytes_of, accepted, receipt, with_producer, collected, left}
-use Rattle.topic_core.specs.Flush.{flushed_topic, failed_topic}
+use Rattle.topic_core.specs.State.{Topic, next_position, opened, entries_of, entries_in_doubt}
+use Rattle.reply_queues.specs.Replies.{SessionReplies, is_receipt, due_to, hand_on, make_due, take_back, refused, refuse_pending}
+use Rattle.topic_core.specs.Steps.{TopicStep, bytes_of, accepted, receipt, with_producer, collected, left}
+use Rattle.topic_core.specs.Flush.{handed_on, finished, taken_back, failed}
 use Rattle.topic_core.specs.Crashes.{TopicCrash, reopened}
+use Rattle.topic_core.proofs.Keeps.{moved as moved_on}
 use Rattle.topic_core.proofs.Receipts.{all-append}
-use Rattle.node.specs.Moves.{Handed, Move, Command, Tell, Lose, Grant, Deliver, Miss, Leave, Flush, Reopen, Crash, MoveStep, Moves, Takes, told_on, told_by}
+use Rattle.node.specs.Moves.{Handed, Move, Command, Tell, Lose, Grant, Deliver, Miss, Leave, Flush, Take, Finish, Reopen, Crash, MoveStep, Moves, Takes, told_on, told_by}
 use Rattle.node.specs.Finding.{Sent, sent_at, sent_by, sends_on, sends_by, IsLatest, Finds, FindsEach, IsPublished, IsQuiet}
-use Rattle.node.proofs.Commands.{Awaits, producer_core, refused_core, silent_core, accepted_core, subscribe_core, ack_core, close_core, unsubscribe_core, detach_core, redeliver_core, granted_core, sent_core}
-use Rattle.node.proofs.Endings.{flush_cases, reopen_cases, Reopened, Front, left_front, moves_grow}
-use Rattle.node.proofs.Owed.{same_handed, AllOwed, each_owed, queued_owed, due_owed, collected_owed, filter_owed, all_due_owed, all_refused_owed}
+use Rattle.node.proofs.Commands.{Awaits, producer_topic, refused_topic, silent_topic, accepted_topic, subscribe_topic, ack_topic, close_topic, unsubscribe_topic, detach_topic, redeliver_topic, granted_topic, sent_topic}
+use Rattle.node.proofs.Endings.{RespectedByFlushes, taking, finishing, flushing, reopen_cases, Reopened, Front, left_front, moves_grow}
+use Rattle.node.proofs.Queues.{Debt, Due, HandedOn, Pending, hands_on, makes_due, takes_back, refuses, debts_to, AreWithin, within-queued, within-collected, within-left, within-mapped, debts-handed_on, debts-made_due, debts-taken_back, debts-refused}
+use Rattle.node.proofs.Owed.{handed, same_handed, AllOwed, each_owed, queued_owed, due_owed, collected_owed, left_owed, turned_owed}
 
 not_receipt : (r : Reply) → is_receipt r ≡ false → is_receipt r ≡ true → ⊥
 not_receipt r isnt is = cc
@@ -106,226 +110,345 @@ finds_sent sends s ledger h behind found = λ is.
 of_more : (sends : List Sent) (s : Sent) (i : ℕ) (entry : List ℕ) → i < s.position → IsOf sends i entry → IsOf (sends ++ s ∷ []) i entry
 of_more sends s i entry behind is = (is.0, latest_more sends s is.0 (λ same. omega (arith, same, behind, is.2)) is.1, is.2, is.3)
 
+-- what is in doubt are the first ones of all that wait
+in_doubt : (ledger waiting : List (List ℕ)) (n : ℕ) → Extends (ledger ++ take n waiting) (ledger ++ waiting)
+in_doubt ledger waiting n =
+    subst (λ (l : List (List ℕ)). Extends (ledger ++ take n waiting) l) (append_assoc ledger (take n waiting) (drop n waiting) ∙ ap (λ (l : List (List ℕ)). ledger ++ l) (take-append-drop n waiting))
+    (stays (ledger ++ take n waiting) (drop n waiting))
+
 -- ---- what is owed
 
--- a pending reply: a receipt's entry is committed or waits, and the topic works
-abbrev Awaited : List Sent → List (List ℕ) → List (List ℕ) → Bool → Handed → Type 0
-Awaited sends ledger waiting failed h = Finds sends (ledger ++ waiting) h × (failed ≡ false)
+-- A due receipt has its entry in the ledger, one that a flush was handed there or among the entries in doubt, and another pending
+-- one there or among all that wait. Where something is pending the topic works.
+abbrev Found : List Sent → List (List ℕ) → List (List ℕ) → List (List ℕ) → Bool → ℕ → Debt → Type 0
+Found sends ledger entries waiting fails who (Due r) = Finds sends ledger (handed who r)
+Found sends ledger entries waiting fails who (HandedOn r) = Finds sends (ledger ++ entries) (handed who r) × (fails ≡ false)
+Found sends ledger entries waiting fails who (Pending r) = Finds sends (ledger ++ waiting) (handed who r) × (fails ≡ false)
 
--- between two moves: the entries from one position on are those of the latest SENDs, each due receipt has its entry in the
--- ledger, and each pending one there or among those that wait
-record Owes (base : ℕ) (sends : List Sent) (c : Core) (ledger : List (List ℕ)) : Type 0 where
-  counted : length ledger ≡ c.committed
-  entries : (i : ℕ) (entry : List ℕ) → base ≤ i → slice_get (ledger ++ c.waiting) i ≡ Some entry → IsOf sends i entry
-  queues : AllOwed (Finds sends ledger) (Awaited sends ledger c.waiting c.failed) c.queues
+abbrev FoundIn : List Sent → Topic → ℕ → Debt → Type 0
+FoundIn sends t = Found sends t.ledger (entries_in_doubt t) t.waiting t.failed
+
+-- between two moves: the entries from one position on are those of the latest SENDs, and each receipt has its entry
+record Owes (base : ℕ) (sends : List Sent) (t : Topic) : Type 0 where
+  counted : length t.ledger ≡ t.committed
+  fits : entries_of t.doubt ≤ length t.waiting
+  within : AreWithin t.queues
+  entries : (i : ℕ) (entry : List ℕ) → base ≤ i → slice_get (t.ledger ++ t.waiting) i ≡ Some entry → IsOf sends i entry
+  queues : AllOwed (FoundIn sends t) t.queues
 
 -- a move keeps what is owed, and what was found
 record Keeps (base : ℕ) (before after : List Sent) (t u : Topic) : Type 0 where
-  owes : Owes base after u.core u.ledger
+  owes : Owes base after u
   found : (h : Handed) → Finds before t.ledger h → Finds after u.ledger h
 
 module _ (base : ℕ) (before : List Sent) where
-  abbrev KeepsAll : Topic → Topic → Type 0
-  KeepsAll t u = Keeps base before (before ++ []) t u
-
-  without_send : (t u : Topic) → Keeps base before before t u → KeepsAll t u
-  without_send t u k = subst (λ (l : List Sent). Keeps base before l t u) (sym (append-nil before)) k
+  -- without a SEND
+  abbrev KeepsOn : Topic → Topic → Type 0
+  KeepsOn t u = Keeps base before before t u
 
   -- the ledger stays
-  still : (t u : Topic) (c : Core) → Owes base before c t.ledger → u.core ≡ c → u.ledger ≡ t.ledger → KeepsAll t u
-  still t u c o core ledger =
-      let Q : List (List ℕ) → Type 0 = λ l. Owes base before u.core l in
-      let R : Core → Type 0 = λ x. Owes base before x t.ledger in
-      without_send t u (record {
-        owes = subst Q (sym ledger) (subst R (sym core) o);
-        found = λ h f. subst (λ (l : List (List ℕ)). Finds before l h) (sym ledger) f;
-      })
+  still : (t u : Topic) → Owes base before u → u.ledger ≡ t.ledger → KeepsOn t u
+  still t u o ledger = record { owes = o; found = λ h f. subst (λ (l : List (List ℕ)). Finds before l h) (sym ledger) f }
 
-  same_topic : (t u : Topic) → u ≡ t → Owes base before t.core t.ledger → KeepsAll t u
-  same_topic t u is o = still t u t.core o (ap (λ (x : Topic). x.core) is) (ap (λ (x : Topic). x.ledger) is)
+  same_topic : (t u : Topic) → u ≡ t → Owes base before t → KeepsOn t u
+  same_topic t u is o = subst (λ (x : Topic). KeepsOn t x) (sym is) (still t t o refl)
 
-  -- a SEND is accepted
-  accepts_core : (t : Topic) (who : ℕ) (send : Send) → t.core.failed ≡ false → Owes base before t.core t.ledger
-      → Owes base (before ++ sent_at t.core.per_ledger (next_position t.core) who send ∷ []) (accepted t.core who send.producer_id send.sequence_id (bytes_of send.entry)) t.ledger
-  accepts_core t who send works o =
-      let s = sent_at t.core.per_ledger (next_position t.core) who send in
-      let e = bytes_of send.entry in
-      let after = before ++ s ∷ [] in
-      let waiting = t.core.waiting ++ e ∷ [] in
-      let log = t.ledger ++ t.core.waiting in
-      let more : t.ledger ++ waiting ≡ log ++ e ∷ [] = sym (append_assoc t.ledger t.core.waiting (e ∷ [])) in
-      let size : length log ≡ s.position = omega (arith, o.counted, length-append t.ledger t.core.waiting) in
-      let short : length t.ledger ≤ s.position = omega (arith, size, length-append t.ledger t.core.waiting) in
-      let longer : Extends log (t.ledger ++ waiting) = subst (λ (l : List (List ℕ)). Extends log l) (sym more) (stays log (e ∷ [])) in
-      let P = Finds before t.ledger in
-      let Q = Awaited before t.ledger t.core.waiting t.core.failed in
-      let P' = Finds after t.ledger in
-      let Q' = Awaited after t.ledger waiting t.core.failed in
-      let there : slice_get (t.ledger ++ waiting) s.position ≡ Some e = ap (λ (l : List (List ℕ)). slice_get l s.position) more ∙ last log e s.position (sym size) in
-      record {
+  -- ---- commands
+
+  -- a SEND is accepted: what was found stays so
+  module _ (t : Topic) (who : ℕ) (send : Send) (works : t.failed ≡ false) (o : Owes base before t) where
+    abbrev s : Sent
+    s = sent_at t.per_ledger (next_position t) who send
+
+    abbrev u : Topic
+    u = accepted t who send.producer_id send.sequence_id (bytes_of send.entry)
+
+    abbrev with_sent : List Sent
+    with_sent = before ++ s ∷ []
+
+    abbrev log : List (List ℕ)
+    log = t.ledger ++ t.waiting
+
+    one_behind : t.ledger ++ u.waiting ≡ log ++ bytes_of send.entry ∷ []
+    one_behind = sym (append_assoc t.ledger t.waiting (bytes_of send.entry ∷ []))
+
+    size : length log ≡ s.position
+    size = omega (arith, o.counted, length-append t.ledger t.waiting)
+
+    short : length t.ledger ≤ s.position
+    short = omega (arith, size, length-append t.ledger t.waiting)
+
+    longer : Extends log (t.ledger ++ u.waiting)
+    longer = subst (λ (l : List (List ℕ)). Extends log l) (sym one_behind) (stays log (bytes_of send.entry ∷ []))
+
+    there : slice_get (t.ledger ++ u.waiting) s.position ≡ Some (bytes_of send.entry)
+    there = ap (λ (l : List (List ℕ)). slice_get l s.position) one_behind ∙ last log (bytes_of send.entry) s.position (sym size)
+
+    -- the entries in doubt are the same
+    same_doubt : entries_in_doubt u ≡ entries_in_doubt t
+    same_doubt = take-append-le (entries_of t.doubt) t.waiting (bytes_of send.entry ∷ []) o.fits
+
+    in_log : length (t.ledger ++ entries_in_doubt t) ≤ s.position
+    in_log = omega (arith, o.counted, o.fits, length-append t.ledger (entries_in_doubt t), length-take-le (entries_of t.doubt) t.waiting o.fits)
+
+    stays_found : (other : ℕ) (d : Debt) → FoundIn before t other d → FoundIn with_sent u other d
+    stays_found other (Due r) f = finds_sent before s t.ledger (handed other r) short f
+    stays_found other (HandedOn r) f = (
+      subst (λ (e : List (List ℕ)). Finds with_sent (t.ledger ++ e) (handed other r)) (sym same_doubt) (finds_sent before s (t.ledger ++ entries_in_doubt t) (handed other r) in_log f.0),
+      works,
+    )
+    stays_found other (Pending r) f = (finds_more with_sent log (t.ledger ++ u.waiting) (handed other r) longer (finds_sent before s log (handed other r) (omega (arith, size)) f.0), works)
+
+    accepts : Keeps base before with_sent t u
+    accepts = record {
+      owes = record {
         counted = o.counted;
+        fits = omega (arith, o.fits, length-append t.waiting (bytes_of send.entry ∷ []));
+        within = within-queued who (receipt t send.producer_id send.sequence_id) t.queues o.within;
         entries = λ i entry from stands. ⊎_elim
             (λ old. of_more before s i entry (omega (arith, size, slice_get_within log i entry old)) (o.entries i entry from old))
             (λ new. (s, last_is_latest before s, sym size ∙ new.0, new.1))
-            (there_or_last log e i entry (ap (λ (l : List (List ℕ)). slice_get l i) (sym more) ∙ stands));
+            (there_or_last log (bytes_of send.entry) i entry (ap (λ (l : List (List ℕ)). slice_get l i) (sym one_behind) ∙ stands));
         queues =
-            queued_owed P' Q' who (receipt t.core send.producer_id send.sequence_id) t.core.queues
-            (λ is. record { send = s; sent = last_is_latest before s; promised = refl; stands = there }, works)
-            (each_owed P Q P' Q'
-            (λ h f. finds_sent before s t.ledger h short f)
-            (λ h q. (finds_more after log (t.ledger ++ waiting) h longer (finds_sent before s log h (omega (arith, size)) q.0), works))
-            t.core.queues o.queues);
-      }
+            queued_owed (FoundIn with_sent u) t.queues (each_owed (FoundIn before t) t.queues o.queues (FoundIn with_sent u) stays_found) who (receipt t send.producer_id send.sequence_id) o.within
+            (λ is. record { send = s; sent = last_is_latest before s; promised = refl; stands = there }, works);
+      };
+      found = λ h f. finds_sent before s t.ledger h short f;
+    }
 
-  accepts : (t u : Topic) (who : ℕ) (send : Send) → t.core.failed ≡ false → Owes base before t.core t.ledger
-      → u.core ≡ accepted t.core who send.producer_id send.sequence_id (bytes_of send.entry) → u.ledger ≡ t.ledger
-      → Keeps base before (before ++ sent_at t.core.per_ledger (next_position t.core) who send ∷ []) t u
-  accepts t u who send works o core ledger =
-      let s = sent_at t.core.per_ledger (next_position t.core) who send in
-      let after = before ++ s ∷ [] in
-      let Q : List (List ℕ) → Type 0 = λ l. Owes base after u.core l in
-      let R : Core → Type 0 = λ x. Owes base after x t.ledger in
-      let short : length t.ledger ≤ s.position = omega (arith, o.counted) in
-      record {
-        owes = subst Q (sym ledger) (subst R (sym core) (accepts_core t who send works o));
-        found = λ h f. subst (λ (l : List (List ℕ)). Finds after l h) (sym ledger) (finds_sent before s t.ledger h short f);
-      }
+  -- what is found of a topic is found of one with the same entries
+  alike : (t u : Topic) → u.ledger ≡ t.ledger → u.waiting ≡ t.waiting → u.doubt ≡ t.doubt → u.failed ≡ t.failed → (qs : List SessionReplies) → AllOwed (FoundIn before t) qs → AllOwed (FoundIn before u) qs
+  alike t u ledger waiting doubt fails qs all =
+      let first : entries_in_doubt t ≡ entries_in_doubt u = ap (λ d. take (entries_of d) t.waiting) (sym doubt) ∙ ap (λ (w : List (List ℕ)). take (entries_of u.doubt) w) (sym waiting) in
+      subst (λ (l : List (List ℕ)). AllOwed (Found before l (entries_in_doubt u) u.waiting u.failed) qs) (sym ledger)
+      (subst (λ (e : List (List ℕ)). AllOwed (Found before t.ledger e u.waiting u.failed) qs) first
+      (subst (λ (w : List (List ℕ)). AllOwed (Found before t.ledger (entries_in_doubt t) w u.failed) qs) (sym waiting)
+      (subst (λ (b : Bool). AllOwed (Found before t.ledger (entries_in_doubt t) t.waiting b) qs) (sym fails) all)))
 
   -- one more reply at most is owed, which is no receipt
-  awaits : (t u : Topic) (who : ℕ) → Awaits who t.core u.core → u.ledger ≡ t.ledger → Owes base before t.core t.ledger → KeepsAll t u
-  awaits t u who a ledger o =
-      let P = Finds before t.ledger in
-      let Q = Awaited before t.ledger t.core.waiting t.core.failed in
-      let S : List (List ℕ) → Type 0 = λ w. AllOwed P (Awaited before t.ledger w u.core.failed) u.core.queues in
-      let R : Bool → Type 0 = λ b. AllOwed P (Awaited before t.ledger t.core.waiting b) u.core.queues in
-      still t u u.core (record {
-        counted = o.counted ∙ sym a.committed;
-        entries = λ i entry from stands. o.entries i entry from (ap (λ (w : List (List ℕ)). slice_get (t.ledger ++ w) i) (sym a.waiting) ∙ stands);
-        queues = subst S (sym a.waiting) (subst R (sym a.failed)
-            (⊎_elim
-            (λ same. subst (λ (qs : List SessionReplies). AllOwed P Q qs) (sym same) o.queues)
-            (λ more. subst (λ (qs : List SessionReplies). AllOwed P Q qs) (sym more.3)
-            (queued_owed P Q who more.0 t.core.queues (λ is. absurd (not_receipt more.0 more.1.no_receipt is), more.2) o.queues))
-            a.queues));
-      }) refl ledger
+  awaits : (t u : Topic) (who : ℕ) → Awaits who t u → Owes base before t → KeepsOn t u
+  awaits t u who a o = still t u (record {
+    counted = ap (λ (l : List (List ℕ)). length l) a.ledger ∙ o.counted ∙ sym a.committed;
+    fits = omega (arith, o.fits, ap (λ d. entries_of d) a.doubt, ap (λ (w : List (List ℕ)). length w) a.waiting);
+    within = ⊎_elim
+        (λ same. subst AreWithin (sym same) o.within)
+        (λ more. subst AreWithin (sym more.3) (within-queued who more.0 t.queues o.within))
+        a.queues;
+    entries = λ i entry from stands.
+        o.entries i entry from (ap (λ (w : List (List ℕ)). slice_get (t.ledger ++ w) i) (sym a.waiting) ∙ ap (λ (l : List (List ℕ)). slice_get (l ++ u.waiting) i) (sym a.ledger) ∙ stands);
+    queues = alike t u a.ledger a.waiting a.doubt a.failed u.queues
+        (⊎_elim
+        (λ same. subst (λ (qs : List SessionReplies). AllOwed (FoundIn before t) qs) (sym same) o.queues)
+        (λ more. subst (λ (qs : List SessionReplies). AllOwed (FoundIn before t) qs) (sym more.3)
+        (queued_owed (FoundIn before t) t.queues o.queues who more.0 o.within (λ is. absurd (not_receipt more.0 more.1.no_receipt is), more.2)))
+        a.queues);
+  }) a.ledger
 
-  commanded : (t : Topic) (who : ℕ) (c : TopicCommand) (a : Answer) (u : Topic) → CoreStep t.core who c a u.core → u.ledger ≡ t.ledger → Owes base before t.core t.ledger
-      → Keeps base before (before ++ sent_by t.core.per_ledger (next_position t.core) who c a) t u
-  commanded t who (asked.Producer id request name) a u s ledger o = ⊎_elim
-      (λ same. still t u t.core o same ledger)
-      (λ more. still t u (with_producer t.core who id name) (record { counted = o.counted; entries = o.entries; queues = o.queues }) more ledger)
-      (producer_core a t.core who id request name u.core s)
-  commanded t who (asked.Send send) (Now r) u s ledger o = still t u t.core o (refused_core t.core who send r u.core s) ledger
-  commanded t who (asked.Send send) Later u s ledger o = let went = accepted_core t.core who send u.core s in accepts t u who send went.0 o went.1 ledger
-  commanded t who (asked.Send send) Nothing u s ledger o = still t u t.core o (silent_core t.core who send u.core s) ledger
-  commanded t who (asked.Send send) NoMemory u s ledger o = still t u t.core o s ledger
-  commanded t who (asked.Subscribe subscribe) a u s ledger o = awaits t u who (subscribe_core a t.core who subscribe u.core s) ledger o
-  commanded t who (asked.Ack ack) a u s ledger o = awaits t u who (ack_core a t.core who ack u.core s) ledger o
-  commanded t who (asked.CloseProducer close) a u s ledger o = awaits t u who (close_core a t.core who close u.core s) ledger o
-  commanded t who (asked.Unsubscribe unsubscribe) a u s ledger o = awaits t u who (unsubscribe_core a t.core who unsubscribe u.core s) ledger o
-  commanded t who (asked.CloseConsumer close) a u s ledger o = awaits t u who (detach_core a t.core who close u.core s) ledger o
-  commanded t who (asked.Redeliver redeliver) a u s ledger o = awaits t u who (redeliver_core a t.core who redeliver u.core s) ledger o
+  -- after a SEND that wasn't accepted, or another command
+  none_sent : (t u : Topic) → KeepsOn t u → Keeps base before (before ++ []) t u
+  none_sent t u k = subst (λ (l : List Sent). Keeps base before l t u) (sym (append-nil before)) k
 
-  takes_reply : (t u : Topic) (h : Handed) → Takes t h u → Owes base before t.core t.ledger → KeepsAll t u
-  takes_reply t u h takes o = still t u (collected t.core h.session h.reply)
-      (record { counted = o.counted; entries = o.entries; queues = collected_owed (Finds before t.ledger) (Awaited before t.ledger t.core.waiting t.core.failed) h.session t.core.queues o.queues })
-      (ap (λ (x : Topic). x.core) takes.taken) (ap (λ (x : Topic). x.ledger) takes.taken)
+  sends : (t : Topic) (who : ℕ) (send : Send) (u : Topic) → (t.failed ≡ false) × (u ≡ accepted t who send.producer_id send.sequence_id (bytes_of send.entry)) → Owes base before t
+      → Keeps base before (before ++ sent_at t.per_ledger (next_position t) who send ∷ []) t u
+  sends t who send u went o =
+      subst (λ (x : Topic). Keeps base before (before ++ sent_at t.per_ledger (next_position t) who send ∷ []) t x) (sym went.1) (accepts t who send went.0 o)
 
-  leaves : (t u : Topic) (who : ℕ) → u.core ≡ left t.core who → u.ledger ≡ t.ledger → Owes base before t.core t.ledger → KeepsAll t u
-  leaves t u who core ledger o = still t u (left t.core who)
-      (record {
-        counted = o.counted;
-        entries = o.entries;
-        queues = filter_owed (Finds before t.ledger) (Awaited before t.ledger t.core.waiting t.core.failed) (λ q. not (is_for who q)) t.core.queues o.queues;
-      }) core ledger
+  commanded : (t : Topic) (who : ℕ) (c : TopicCommand) (a : Answer) (u : Topic) → TopicStep t who c a u → Owes base before t
+      → Keeps base before (before ++ sent_by t.per_ledger (next_position t) who c a) t u
+  commanded t who (asked.Producer id request name) a u s o = none_sent t u (⊎_elim
+      (λ same. same_topic t u same o)
+      (λ more. subst (λ (x : Topic). KeepsOn t x) (sym more)
+      (still t (with_producer t who id name) (record { counted = o.counted; fits = o.fits; within = o.within; entries = o.entries; queues = o.queues }) refl))
+      (producer_topic a t who id request name u s))
+  commanded t who (asked.Send send) (Now r) u s o = none_sent t u (same_topic t u (refused_topic t who send r u s) o)
+  commanded t who (asked.Send send) Later u s o = sends t who send u (accepted_topic t who send u s) o
+  commanded t who (asked.Send send) Nothing u s o = none_sent t u (same_topic t u (silent_topic t who send u s) o)
+  commanded t who (asked.Send send) NoMemory u s o = none_sent t u (same_topic t u s o)
+  commanded t who (asked.Subscribe subscribe) a u s o = none_sent t u (awaits t u who (subscribe_topic a t who subscribe u s) o)
+  commanded t who (asked.Ack ack) a u s o = none_sent t u (awaits t u who (ack_topic a t who ack u s) o)
+  commanded t who (asked.CloseProducer close) a u s o = none_sent t u (awaits t u who (close_topic a t who close u s) o)
+  commanded t who (asked.Unsubscribe unsubscribe) a u s o = none_sent t u (awaits t u who (unsubscribe_topic a t who unsubscribe u s) o)
+  commanded t who (asked.CloseConsumer close) a u s o = none_sent t u (awaits t u who (detach_topic a t who close u s) o)
+  commanded t who (asked.Redeliver redeliver) a u s o = none_sent t u (awaits t u who (redeliver_topic a t who redeliver u s) o)
 
-  -- what waits is committed, and each pending reply is due
-  commits : (t : Topic) → Owes base before t.core t.ledger → KeepsAll t (flushed_topic t)
-  commits t o =
-      let log = t.ledger ++ t.core.waiting in
-      let more = λ (h : Handed) (f : Finds before t.ledger h). finds_more before t.ledger log h (stays t.ledger t.core.waiting) f in
-      without_send t (flushed_topic t) (record {
-        owes = record {
-          counted = length-append t.ledger t.core.waiting ∙ ap (λ n. n + length t.core.waiting) o.counted;
-          entries = λ i entry from stands. o.entries i entry from (ap (λ (l : List (List ℕ)). slice_get l i) (sym (append-nil log)) ∙ stands);
-          queues = all_due_owed (Finds before t.ledger) (Awaited before t.ledger t.core.waiting t.core.failed) (Finds before log) more (λ h q. q.0) (Awaited before log [] t.core.failed) t.core.queues o.queues;
-        };
-        found = more;
-      })
+  -- ---- sessions
+
+  takes_reply : (t u : Topic) (h : Handed) → Takes t h u → Owes base before t → KeepsOn t u
+  takes_reply t u h takes o = subst (λ (x : Topic). KeepsOn t x) (sym takes.taken) (still t (collected t h.session h.reply) (record {
+    counted = o.counted;
+    fits = o.fits;
+    within = within-collected h.session t.queues o.within;
+    entries = o.entries;
+    queues = collected_owed (FoundIn before t) t.queues o.queues h.session h.reply (due_to h.session u.queues) takes.first;
+  }) refl)
+
+  leaves : (t u : Topic) (who : ℕ) → u ≡ left t who → Owes base before t → KeepsOn t u
+  leaves t u who is o = subst (λ (x : Topic). KeepsOn t x) (sym is) (still t (left t who) (record {
+    counted = o.counted;
+    fits = o.fits;
+    within = within-left who t.queues o.within;
+    entries = o.entries;
+    queues = left_owed (FoundIn before t) t.queues o.queues who;
+  }) refl)
+
+  -- ---- flushes
+
+  -- all that waits is in doubt
+  on_hands : (t : Topic) (who : ℕ) (d : Debt) → FoundIn before t who d → FoundIn before (handed_on t) who (hands_on d)
+  on_hands t who (Due r) f = f
+  on_hands t who (HandedOn r) f = (
+    subst (λ (e : List (List ℕ)). Finds before (t.ledger ++ e) (handed who r)) (sym (take_all (length t.waiting) t.waiting (omega arith)))
+        (finds_more before (t.ledger ++ entries_in_doubt t) (t.ledger ++ t.waiting) (handed who r) (in_doubt t.ledger t.waiting (entries_of t.doubt)) f.0),
+    f.1,
+  )
+  on_hands t who (Pending r) f = (subst (λ (e : List (List ℕ)). Finds before (t.ledger ++ e) (handed who r)) (sym (take_all (length t.waiting) t.waiting (omega arith))) f.0, f.1)
+
+  takes : (t : Topic) → Owes base before t → KeepsOn t (handed_on t)
+  takes t o = still t (handed_on t) (record {
+    counted = o.counted;
+    fits = omega arith;
+    within = within-mapped (λ q. hand_on q) (λ q. omega arith) t.queues;
+    entries = o.entries;
+    queues = turned_owed (FoundIn before t) t.queues o.queues (FoundIn before (handed_on t)) hands_on (map (λ q. hand_on q) t.queues) (λ who. debts-handed_on who t.queues) (on_hands t);
+  }) refl
+
+  -- what was in doubt is committed
+  more_found : (t : Topic) (h : Handed) → Finds before t.ledger h → Finds before (finished t).ledger h
+  more_found t h f = finds_more before t.ledger (finished t).ledger h (stays t.ledger (entries_in_doubt t)) f
+
+  on_due : (t : Topic) (who : ℕ) (d : Debt) → FoundIn before t who d → FoundIn before (finished t) who (makes_due d)
+  on_due t who (Due r) f = more_found t (handed who r) f
+  on_due t who (HandedOn r) f = f.0
+  on_due t who (Pending r) f = (subst (λ (l : List (List ℕ)). Finds before l (handed who r)) (moved_on t) f.0, f.1)
+
+  finishes : (t : Topic) → Owes base before t → KeepsOn t (finished t)
+  finishes t o = record {
+    owes = record {
+      counted = omega (arith, o.counted, length-append t.ledger (entries_in_doubt t), length-take-le (entries_of t.doubt) t.waiting o.fits);
+      fits = omega arith;
+      within = within-mapped (λ q. make_due q) (λ q. omega arith) t.queues;
+      entries = λ i entry from stands. o.entries i entry from (ap (λ (l : List (List ℕ)). slice_get l i) (moved_on t) ∙ stands);
+      queues = turned_owed (FoundIn before t) t.queues o.queues (FoundIn before (finished t)) makes_due (map (λ q. make_due q) t.queues) (λ who. debts-made_due who t.queues) (on_due t);
+    };
+    found = more_found t;
+  }
+
+  -- it waits again
+  on_back : (t : Topic) (who : ℕ) (d : Debt) → FoundIn before t who d → FoundIn before (taken_back t) who (takes_back d)
+  on_back t who (Due r) f = f
+  on_back t who (HandedOn r) f = (finds_more before (t.ledger ++ entries_in_doubt t) (t.ledger ++ t.waiting) (handed who r) (in_doubt t.ledger t.waiting (entries_of t.doubt)) f.0, f.1)
+  on_back t who (Pending r) f = f
+
+  takes_all_back : (t : Topic) → Owes base before t → KeepsOn t (taken_back t)
+  takes_all_back t o = still t (taken_back t) (record {
+    counted = o.counted;
+    fits = omega arith;
+    within = within-mapped (λ q. take_back q) (λ q. omega arith) t.queues;
+    entries = o.entries;
+    queues = turned_owed (FoundIn before t) t.queues o.queues (FoundIn before (taken_back t)) takes_back (map (λ q. take_back q) t.queues) (λ who. debts-taken_back who t.queues) (on_back t);
+  }) refl
 
   -- the device failed, and each pending reply is due as a refusal
-  fails : (t : Topic) → Owes base before t.core t.ledger → KeepsAll t (failed_topic t)
-  fails t o = without_send t (failed_topic t) (record {
-    owes = record {
-      counted = o.counted;
-      entries = o.entries;
-      queues =
-          all_refused_owed (Finds before t.ledger) (Awaited before t.ledger t.core.waiting t.core.failed) (Finds before t.ledger) (Awaited before t.ledger t.core.waiting true)
-          (λ h f. f) (λ who r q is. absurd (not_receipt (refused r) (refused_plain r) is)) t.core.queues o.queues;
-    };
-    found = λ h f. f;
-  })
+  on_refused : (t : Topic) (who : ℕ) (d : Debt) → FoundIn before t who d → FoundIn before (failed t) who (refuses d)
+  on_refused t who (Due r) f = f
+  on_refused t who (HandedOn r) f = λ is. absurd (not_receipt (refused r) (refused_plain r) is)
+  on_refused t who (Pending r) f = λ is. absurd (not_receipt (refused r) (refused_plain r) is)
 
-  flushes : (t : Topic) (u : Topic) → (u ≡ t) ⊎ ((u ≡ flushed_topic t) ⊎ (u ≡ failed_topic t)) → Owes base before t.core t.ledger → KeepsAll t u
-  flushes t u (inl is) o = same_topic t u is o
-  flushes t u (inr (inl is)) o = subst (λ (x : Topic). KeepsAll t x) (sym is) (commits t o)
-  flushes t u (inr (inr is)) o = subst (λ (x : Topic). KeepsAll t x) (sym is) (fails t o)
+  fails : (t : Topic) → Owes base before t → KeepsOn t (failed t)
+  fails t o = still t (failed t) (record {
+    counted = o.counted;
+    fits = o.fits;
+    within = within-mapped (λ q. refuse_pending q) (λ q. omega arith) t.queues;
+    entries = o.entries;
+    queues = turned_owed (FoundIn before t) t.queues o.queues (FoundIn before (failed t)) refuses (map (λ q. refuse_pending q) t.queues) (λ who. debts-refused who t.queues) (on_refused t);
+  }) refl
 
-  -- a core over a ledger with a front of what waited, where nothing waits now
-  fronted : (t u : Topic) (c : Core) → u.core ≡ c → c.committed ≡ length u.ledger → c.waiting ≡ [] → Front t u.ledger
-      → ((more : (h : Handed) → Finds before t.ledger h → Finds before u.ledger h) → AllOwed (Finds before u.ledger) (Awaited before u.ledger c.waiting c.failed) c.queues)
-      → Owes base before t.core t.ledger → KeepsAll t u
-  fronted t u c core counted none front queues o =
-      let log = t.ledger ++ t.core.waiting in
+  abbrev KeepsOwed : Topic → Topic → Type 0
+  KeepsOwed t u = Owes base before t → KeepsOn t u
+
+  flush_keeps : RespectedByFlushes KeepsOwed
+  flush_keeps = record {
+    same = λ t o. still t t o refl;
+    then = λ t u v first second o. let k = first o in let l = second k.owes in record { owes = l.owes; found = λ h f. l.found h (k.found h f) };
+    take = takes;
+    finish = finishes;
+    take_back = takes_all_back;
+    fail = fails;
+  }
+
+  -- ---- openings and crashes
+
+  -- a topic over a ledger with a front of what waited, where nothing waits now
+  fronted : (t u : Topic) → length u.ledger ≡ u.committed → u.waiting ≡ [] → u.doubt ≡ None → Front t u.ledger → AreWithin u.queues
+      → (((h : Handed) → Finds before t.ledger h → Finds before u.ledger h) → AllOwed (FoundIn before u) u.queues)
+      → Owes base before t → KeepsOn t u
+  fronted t u counted none sure front within queues o =
+      let log = t.ledger ++ t.waiting in
       let longer : Extends t.ledger u.ledger = subst (λ (l : List (List ℕ)). Extends t.ledger l) (sym front.grown) (stays t.ledger front.more) in
       let whole : log ≡ u.ledger ++ front.rest =
       ap (λ (w : List (List ℕ)). t.ledger ++ w) front.waited ∙ sym (append_assoc t.ledger front.more front.rest) ∙ ap (λ (l : List (List ℕ)). l ++ front.rest) (sym front.grown) in
-      let within : Extends u.ledger log = subst (λ (l : List (List ℕ)). Extends u.ledger l) (sym whole) (stays u.ledger front.rest) in
+      let within_log : Extends u.ledger log = subst (λ (l : List (List ℕ)). Extends u.ledger l) (sym whole) (stays u.ledger front.rest) in
       let more = λ (h : Handed) (f : Finds before t.ledger h). finds_more before t.ledger u.ledger h longer f in
-      let new : Owes base before c u.ledger = record {
-        counted = sym counted;
-        entries = λ i entry from stands.
-            o.entries i entry from (within i entry (ap (λ (l : List (List ℕ)). slice_get l i) (sym (ap (λ (w : List (List ℕ)). u.ledger ++ w) none ∙ append-nil u.ledger)) ∙ stands));
-        queues = queues more;
-      } in
-      without_send t u (record { owes = subst (λ (x : Core). Owes base before x u.ledger) (sym core) new; found = more })
+      record {
+        owes = record {
+          counted = counted;
+          fits = omega (arith, ap (λ d. entries_of d) sure);
+          within = within;
+          entries = λ i entry from stands.
+              o.entries i entry from (within_log i entry (ap (λ (l : List (List ℕ)). slice_get l i) (sym (ap (λ (w : List (List ℕ)). u.ledger ++ w) none ∙ append-nil u.ledger)) ∙ stands));
+          queues = queues more;
+        };
+        found = more;
+      }
 
   -- a failed topic is opened again: nothing of it is pending
-  opens_again : (t u : Topic) → Reopened t u → Owes base before t.core t.ledger → KeepsAll t u
-  opens_again t u s o = fronted t u (reopened t.core (length u.ledger) (map slot_of_entry u.ledger) u.kept) s.core refl refl (left_front t u.ledger u.kept s.left)
-      (λ more. each_owed (Finds before t.ledger) (Awaited before t.ledger t.core.waiting t.core.failed) (Finds before u.ledger) (Awaited before u.ledger [] false)
-      more (λ h q. absurd (works_and_failed t.core.failed q.1 s.failed)) t.core.queues o.queues) o
+  on_again : (t u : Topic) → t.failed ≡ true → ((h : Handed) → Finds before t.ledger h → Finds before u.ledger h) → (who : ℕ) (d : Debt) → FoundIn before t who d → FoundIn before u who d
+  on_again t u fails more who (Due r) f = more (handed who r) f
+  on_again t u fails more who (HandedOn r) f = absurd (works_and_failed t.failed f.1 fails)
+  on_again t u fails more who (Pending r) f = absurd (works_and_failed t.failed f.1 fails)
 
-  crashes : (t u : Topic) → TopicCrash t u → Owes base before t.core t.ledger → KeepsAll t u
-  crashes t u s o = fronted t u (opened t.core.per_ledger (length u.ledger) (map slot_of_entry u.ledger) u.kept) s.core refl refl (left_front t u.ledger u.kept s.left) (λ more. tt) o
+  opens_again : (t u : Topic) → Reopened t u → Owes base before t → KeepsOn t u
+  opens_again t u s o =
+      let v : Topic = reopened t u.ledger (map slot_of_entry u.ledger) u.kept in
+      subst (λ (x : Topic). KeepsOn t x) (sym s.again)
+      (fronted t v refl refl refl (left_front t u.ledger u.kept s.left) o.within (λ more. each_owed (FoundIn before t) t.queues o.queues (FoundIn before v) (on_again t v s.failed more)) o)
 
-  moved : (t : Topic) (m : Move) (u : Topic) → MoveStep t m u → Owes base before t.core t.ledger → Keeps base before (before ++ sends_on t.core m) t u
-  moved t (Command who c a) u s o = commanded t who c a u s.core s.ledger o
-  moved t (Tell h) u s o = takes_reply t u h s o
-  moved t (Lose h) u s o = takes_reply t u h s o
-  moved t (Grant who id permits result) u s o = awaits t u who
-      (subst (λ (x : Core). Awaits who t.core x) (sym (ap (λ (x : Topic). x.core) s.rest)) (granted_core result t.core who id permits s.core s.step)) (ap (λ (x : Topic). x.ledger) s.rest) o
-  moved t (Deliver id h) u s o = awaits t u h.session (sent_core h.session t.core _ s.core.0 u.core s.core.1.sent) s.ledger o
-  moved t (Miss id h) u s o = awaits t u h.session (sent_core h.session t.core _ s.core.0 u.core s.core.1.sent) s.ledger o
-  moved t (Leave who) u s o = leaves t u who (ap (λ (x : Topic). x.core) s) (ap (λ (x : Topic). x.ledger) s) o
-  moved t (Flush result) u s o = flushes t u (flush_cases t result u s) o
-  moved t (Reopen result) u s o = ⊎_elim (λ is. same_topic t u is o) (λ again. opens_again t u again o) (reopen_cases t result u s)
-  moved t Crash u s o = crashes t u s o
+  crashes : (t u : Topic) → TopicCrash t u → Owes base before t → KeepsOn t u
+  crashes t u s o =
+      let v : Topic = opened t.per_ledger u.ledger (map slot_of_entry u.ledger) u.kept in
+      subst (λ (x : Topic). KeepsOn t x) (sym s.again) (fronted t v refl refl refl (left_front t u.ledger u.kept s.left) tt (λ more who. tt) o)
+
+  -- ---- moves
+
+  moved : (t : Topic) (m : Move) (u : Topic) → MoveStep t m u → Owes base before t → Keeps base before (before ++ sends_on t m) t u
+  moved t (Command who c a) u s o = commanded t who c a u s o
+  moved t (Tell h) u s o = none_sent t u (takes_reply t u h s o)
+  moved t (Lose h) u s o = none_sent t u (takes_reply t u h s o)
+  moved t (Grant who id permits result) u s o = none_sent t u (awaits t u who (granted_topic result t who id permits u s) o)
+  moved t (Deliver id h) u s o = none_sent t u (awaits t u h.session (sent_topic h.session t _ s.0 u s.1.sent) o)
+  moved t (Miss id h) u s o = none_sent t u (awaits t u h.session (sent_topic h.session t _ s.0 u s.1.sent) o)
+  moved t (Leave who) u s o = none_sent t u (leaves t u who s o)
+  moved t (Flush result) u s o = none_sent t u (flushing KeepsOwed flush_keeps t result u s o)
+  moved t (Take result) u s o = none_sent t u (taking KeepsOwed flush_keeps t result u s o)
+  moved t (Finish written result) u s o = none_sent t u (finishing KeepsOwed flush_keeps t written result u s o)
+  moved t (Reopen result) u s o = none_sent t u (⊎_elim (λ is. same_topic t u is o) (λ again. opens_again t u again o) (reopen_cases t result u s))
+  moved t Crash u s o = none_sent t u (crashes t u s o)
 
   -- what goes out on a move is found before it
-  told_found : (t : Topic) (m : Move) (u : Topic) → MoveStep t m u → Owes base before t.core t.ledger → FindsEach before t.ledger (told_on m)
+  told_found : (t : Topic) (m : Move) (u : Topic) → MoveStep t m u → Owes base before t → FindsEach before t.ledger (told_on m)
   told_found t (Command who c a) u s o = tt
   told_found t (Tell h) u s o = (
-    subst (Finds before t.ledger) (same_handed h s.plain)
-        (due_owed (Finds before t.ledger) (Awaited before t.ledger t.core.waiting t.core.failed) h.session t.core.queues h.reply (due_to h.session u.core.queues) o.queues s.first),
+    subst (Finds before t.ledger) (same_handed h s.plain) (due_owed (FoundIn before t) t.queues o.queues h.session h.reply (due_to h.session u.queues) s.first),
     tt,
   )
   told_found t (Lose h) u s o = tt
   told_found t (Grant who id permits result) u s o = tt
-  told_found t (Deliver id h) u s o = (λ is. absurd (not_receipt h.reply (ap (λ (r : Reply). is_receipt r) s.core.1.reply) is), tt)
+  told_found t (Deliver id h) u s o = (λ is. absurd (not_receipt h.reply (ap (λ (r : Reply). is_receipt r) s.1.reply) is), tt)
   told_found t (Miss id h) u s o = tt
   told_found t (Leave who) u s o = tt
   told_found t (Flush result) u s o = tt
+  told_found t (Take result) u s o = tt
+  told_found t (Finish written result) u s o = tt
   told_found t (Reopen result) u s o = tt
   told_found t Crash u s o = tt
 
@@ -339,11 +462,11 @@ both_found sends ledger (x ∷ xs) ys a b = (a.0, both_found sends ledger xs ys 
 
 -- moves keep what is owed and found, and tell what is found at their end
 record Carried (base : ℕ) (before after : List Sent) (t : Topic) (moves : List Move) (u : Topic) : Type 0 where
-  owes : Owes base after u.core u.ledger
+  owes : Owes base after u
   told : FindsEach after u.ledger (told_by moves)
   found : (h : Handed) → Finds before t.ledger h → Finds after u.ledger h
 
-none_carried : (base : ℕ) (before : List Sent) (t u : Topic) → u ≡ t → Owes base before t.core t.ledger → Carried base before (before ++ []) t [] u
+none_carried : (base : ℕ) (before : List Sent) (t u : Topic) → u ≡ t → Owes base before t → Carried base before (before ++ []) t [] u
 none_carried base before t u is o =
     subst (λ (x : Topic). Carried base before (before ++ []) t [] x) (sym is)
     (subst (λ (l : List Sent). Carried base before l t [] t) (sym (append-nil before)) (record { owes = o; told = tt; found = λ h f. f }))
@@ -360,23 +483,25 @@ one_carried base before sends later t m u ms v k told c =
       found = λ h f. c.found h (k.found h f);
     })
 
-carried : (base : ℕ) (before : List Sent) (t : Topic) (moves : List Move) (u : Topic) (steps : Moves t moves u) → Owes base before t.core t.ledger
+carried : (base : ℕ) (before : List Sent) (t : Topic) (moves : List Move) (u : Topic) (steps : Moves t moves u) → Owes base before t
     → Carried base before (before ++ sends_by t moves u steps) t moves u
 carried base before t [] u steps o = none_carried base before t u steps o
 carried base before t (m ∷ ms) v steps o =
     let u = steps.0 in
     let k = moved base before t m u steps.1 o in
-    one_carried base before (sends_on t.core m) (sends_by u ms v steps.2) t m u ms v k (told_found base before t m u steps.1 o)
-    (carried base (before ++ sends_on t.core m) u ms v steps.2 k.owes)
+    one_carried base before (sends_on t m) (sends_by u ms v steps.2) t m u ms v k (told_found base before t m u steps.1 o)
+    (carried base (before ++ sends_on t m) u ms v steps.2 k.owes)
 
 -- a topic that owes nothing
-quiet_owes : (t : Topic) → IsQuiet t → Owes (length t.ledger) [] t.core t.ledger
+quiet_owes : (t : Topic) → IsQuiet t → Owes (length t.ledger) [] t
 quiet_owes t quiet =
-    let all : t.ledger ++ t.core.waiting ≡ t.ledger = ap (λ (w : List (List ℕ)). t.ledger ++ w) quiet.waiting ∙ append-nil t.ledger in
+    let all : t.ledger ++ t.waiting ≡ t.ledger = ap (λ (w : List (List ℕ)). t.ledger ++ w) quiet.waiting ∙ append-nil t.ledger in
     record {
       counted = quiet.counted;
+      fits = omega (arith, quiet.sure);
+      within = subst AreWithin (sym quiet.queues) tt;
       entries = λ i entry from stands. absurd (omega (arith, from, slice_get_within t.ledger i entry (ap (λ (l : List (List ℕ)). slice_get l i) (sym all) ∙ stands)));
-      queues = subst (λ (qs : List SessionReplies). AllOwed (Finds [] t.ledger) (Awaited [] t.ledger t.core.waiting t.core.failed) qs) (sym quiet.queues) tt;
+      queues = λ who. subst (λ (qs : List SessionReplies). AllByRecursion (FoundIn [] t who) (debts_to who qs)) (sym quiet.queues) tt;
     }
 
 pub moves_found : (t : Topic) (moves : List Move) (u : Topic) (steps : Moves t moves u) → IsQuiet t → FindsEach (sends_by t moves u steps) u.ledger (told_by moves)
@@ -389,5 +514,5 @@ moves_publish t moves u steps quiet =
     record {
       more = g.more;
       grown = g.grown;
-      each = λ i entry from stands. c.owes.entries i entry from (stays u.ledger u.core.waiting i entry stands);
+      each = λ i entry from stands. c.owes.entries i entry from (stays u.ledger u.waiting i entry stands);
     }

@@ -1,5 +1,6 @@
 -- Durable subscriptions keep a promise through records of their form, until one removes its subscription.
-use Rattle.std.proofs.Common.{◌≡◌, ◌∙◌, ℕ, zero, suc, ◌+◌, Bool, true, false, cond, ◌||◌, Some, None, List, [], ◌∷◌, ◌++◌, take, refl, sym, ap, subst}
+use Rattle.std.proofs.Common.{◌≡◌, ◌∙◌, ℕ, zero, suc, ◌+◌, ◌≤◌, Bool, true, false, cond, ◌||◌, Some, None, List, [], ◌∷◌, ◌++◌, length, take, drop, refl, sym, ap, subst, arith}
+use Rattle.std.proofs.lemmas.List.{take_all, drop_all, take-append-le, drop-append-le}
 use Rattle.std.specs.List.{AllByRecursion}
 use Rattle.std.specs.Str.{bytes_eq}
 use Rattle.std.specs.FinSet as set
@@ -9,7 +10,7 @@ use Rattle.records.specs.declared.record.Record.{Record}
 use Rattle.records.specs.declared.record.Record.TheVariants.{Made, Removed, Acknowledged, AcknowledgedThrough, AcknowledgedRange}
 use Rattle.records.specs.Maps.{Kept}
 use Rattle.records.specs.Records.{after, after_all, changed, changed_at, acknowledged, IsFormed, AreFormed}
-use Rattle.subscriptions.proofs.Kept.{same_name, get_insert, get_remove, after_append}
+use Rattle.subscriptions.proofs.Kept.{same_name, get_insert, get_remove, after_append, after_parts}
 use Rattle.node.specs.Promising.{Promise, IsKept}
 
 -- a record that isn't the removal of this subscription
@@ -24,6 +25,10 @@ Spares name (AcknowledgedRange acked first last) = Unit {0}
 abbrev pub Lasts : List Record → Kept → Promise → Type 0
 Lasts [] kept p = IsKept kept p
 Lasts (r ∷ rs) kept p = IsKept kept p × Lasts rs (after r kept) p
+
+-- a promise is kept by what the first n records make of them, and by each front of the others
+abbrev pub LastsBehind : ℕ → List Record → Kept → Promise → Type 0
+LastsBehind n rs kept p = Lasts (drop n rs) (after_all (take n rs) kept) p
 
 -- ---- one record
 
@@ -96,6 +101,20 @@ lasts_front zero rs kept p is = lasts_first rs kept p is
 lasts_front (suc n) [] kept p is = is
 lasts_front (suc n) (r ∷ rs) kept p is = lasts_front n rs (after r kept) p is.1
 
+pub lasts_behind : (n : ℕ) (rs : List Record) (kept : Kept) (p : Promise) → Lasts rs kept p → LastsBehind n rs kept p
+lasts_behind zero rs kept p is = is
+lasts_behind (suc n) [] kept p is = is
+lasts_behind (suc n) (r ∷ rs) kept p is = lasts_behind n rs (after r kept) p is.1
+
+pub behind_last : (n : ℕ) (rs : List Record) (kept : Kept) (p : Promise) → LastsBehind n rs kept p → IsKept (after_all rs kept) p
+behind_last n rs kept p is = subst (λ (k : Kept). IsKept k p) (after_parts n rs kept) (lasts_last (drop n rs) (after_all (take n rs) kept) p is)
+
+-- all records
+pub behind_all : (rs : List Record) (kept : Kept) (p : Promise) → IsKept (after_all rs kept) p → LastsBehind (length rs) rs kept p
+behind_all rs kept p is =
+    subst (λ (l : List Record). Lasts l (after_all (take (length rs) rs) kept) p) (sym (drop_all (length rs) rs (omega arith)))
+    (subst (λ (l : List Record). IsKept (after_all l kept) p) (sym (take_all (length rs) rs (omega arith))) is)
+
 lasts_both : (rs more : List Record) (kept : Kept) (p : Promise) → Lasts rs kept p → Lasts more (after_all rs kept) p → Lasts (rs ++ more) kept p
 lasts_both [] more kept p first second = second
 lasts_both (r ∷ rs) more kept p first second = (first.0, lasts_both rs more (after r kept) p first.1 second)
@@ -113,3 +132,11 @@ module _ (e : ℕ) (rs more : List Record) (kept : Kept) (p : Promise) (formed :
   kept_more is =
       subst (λ (k : Kept). IsKept k p) (sym (after_append rs more kept))
       (lasts_last more (after_all rs kept) p (lasts e more (after_all rs kept) p (formed_rest e rs more kept formed) spares is))
+
+  pub behind_more : (n : ℕ) → n ≤ length rs → LastsBehind n rs kept p → LastsBehind n (rs ++ more) kept p
+  behind_more n fits is =
+      let first : Kept = after_all (take n rs) kept in
+      let formed' : AreFormed e (after_all (drop n rs) first) more = subst (λ (k : Kept). AreFormed e k more) (sym (after_parts n rs kept)) (formed_rest e rs more kept formed) in
+      subst (λ (l : List Record). Lasts l (after_all (take n (rs ++ more)) kept) p) (sym (drop-append-le n rs more fits))
+      (subst (λ (l : List Record). Lasts (drop n rs ++ more) (after_all l kept) p) (sym (take-append-le n rs more fits))
+      (lasts_both (drop n rs) more first p is (lasts e more (after_all (drop n rs) first) p formed' spares (lasts_last (drop n rs) first p is))))

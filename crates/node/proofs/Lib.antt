@@ -1,3 +1,4 @@
+pub mod UnderWay
 pub mod Ports
 pub mod Steps
 pub mod Reaching

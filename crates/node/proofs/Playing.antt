@@ -17,7 +17,7 @@ use Rattle.commands.specs.declared.server_error.ServerError.{ServerError}
 use Rattle.commands.specs.declared.server_error.ServerError.TheVariants.{TooManyRequests, NotAllowedError, ConsumerNotFound}
 use Rattle.frames.specs.declared.frame.Frame.{Frame}
 use Rattle.frames.specs.declared.frame.FrameEntry.{FrameEntry}
-use Rattle.topic_core.specs.Core.{Topic}
+use Rattle.topic_core.specs.State.{Topic}
 use Rattle.std.specs.Ordering.{nat_cmp}
 use Rattle.std.specs.Cmp.Lexicographic.{slice_cmp}
 use Rattle.std.specs.FinMap as kept
@@ -27,7 +27,7 @@ use Rattle.subscriptions.specs.Steps.{opened_all}
 use Rattle.holds.specs.declared.consumer.ConsumerKey.{ConsumerKey}
 use Rattle.topic_core.specs.declared.dispatch.Outgoing.{Outgoing}
 use Rattle.reply_queues.specs.Replies.{due_to}
-use Rattle.topic_core.specs.Steps.{first_standing, collected, key_of, Fits}
+use Rattle.topic_core.specs.Steps.{first_standing, collected, left, key_of, Fits}
 use Rattle.topic_core.specs.Dispatch.{Admits}
 use Rattle.topic_core.specs.declared.command.Answer.{Answer}
 use Rattle.topic_core.specs.declared.command.Answer.TheVariants.{Now, Later, Nothing, NoMemory}
@@ -36,7 +36,7 @@ use Rattle.topic_core.specs.declared.command.TopicCommand.{TopicCommand}
 use Rattle.topic_core.specs.declared.command.TopicCommand.TheVariants as topic_command
 use Rattle.topic_core.proofs.Steps.{step-fits}
 use Rattle.subscriptions.specs.declared.consumer.TooManyPermits.{TooManyPermits}
-use Rattle.session.specs.Broker.{Broker, fresh, topic_at, with_topic, with_core, made, number_of, FindIn, CommandStep, CollectedAt, DispatchAt, left_topic, left_all}
+use Rattle.session.specs.Broker.{Broker, fresh, topic_at, with_topic, made, number_of, FindIn, CommandStep, CollectedAt, DispatchAt, left_all}
 use Rattle.session.specs.Client.{Client, Play, plain, Says, SaysAlone, Answered, Ends, frame_of, left_if, left_if_ended}
 use Rattle.session.specs.Producing.{FoundStep, ProducerIn, own_refusals, with_live_producers, topic_of, sent_entry, send_command, SendIn, producer_command, CloseIn, close_command}
 use Rattle.session.specs.Consuming as consuming
@@ -74,7 +74,7 @@ commanded : (hears : ℕ) (b c : Broker) (at who : ℕ) (asked : TopicCommand) (
 commanded hears b c at who asked answer s = placed hears b c at (topic_at c at) (one_move (topic_at b at) (Commands who asked answer) (topic_at c at) s.step) s.others
 
 pub gone_each : (b : Broker) (who number : ℕ) → Course (topic_at b number) [] (topic_at (left_all b who) number)
-gone_each b who number = map_at (λ x y. Course x [] y) still_course (λ t. left_topic t who) (λ t. one_move t (Leave who) (left_topic t who) refl) b.topics number (fresh b.per_ledger)
+gone_each b who number = map_at (λ x y. Course x [] y) still_course (λ t. left t who) (λ t. one_move t (Leave who) (left t who) refl) b.topics number (fresh b.per_ledger)
 
 gone : (hears : ℕ) (b : Broker) (who : ℕ) → Unfolds hears b [] (left_all b who)
 gone hears b who = silently hears b (left_all b who) (λ number. gone_each b who number)
@@ -149,7 +149,7 @@ answered old new client NoMemory same may b s = stays old new (ap (λ (c : Clien
 asked : (old new : Play) (client : Client) (at who : ℕ) (c : TopicCommand) (a : Answer) → client.number ≡ old.client.number → CommandStep old.broker at who c a new.broker
     → Answered client old.out a new.client new.out → Plays old new
 asked old new client at who c a same step s =
-    answered old new client a same (λ r is. now_is c r (subst (λ (x : Answer). Fits c x) is (step-fits (topic_at old.broker at).core who c a (topic_at new.broker at).core step.step.core)))
+    answered old new client a same (λ r is. now_is c r (subst (λ (x : Answer). Fits c x) is (step-fits (topic_at old.broker at) who c a (topic_at new.broker at) step.step)))
     (commanded old.client.number old.broker new.broker at who c a step) s
 
 ends : (old new : Play) (why : Fault) → Ends old why new → Plays old new
@@ -193,10 +193,10 @@ grants : (topic : Option ℕ) (old : Play) (c : Given) (new : Play) → consumin
 grants None old c new s = still_play old new s
 grants (Some topic) old c new s =
     let t = topic_at old.broker topic in
-    let core = (topic_at new.broker topic).core in
+    let u = topic_at new.broker topic in
     stays old new (ap (λ (x : Client). x.number) s.client ∙ granting_number old.client s.result) s.out
-    (placed old.client.number old.broker new.broker topic (with_core t core)
-    (one_move t (Grant old.client.number c.consumer_id c.message_permits s.result) (with_core t core) (record { core = core; step = s.step.step; rest = refl })) s.step.others)
+    (placed old.client.number old.broker new.broker topic u
+    (one_move t (Grant old.client.number c.consumer_id c.message_permits s.result) u s.step.step) s.step.others)
 
 refuses_ack : (request : Option ℕ) (old : Play) (id : ℕ) (new : Play) → consuming.RefusesAck request old id new → Plays old new
 refuses_ack None old id new s = still_play old new s
@@ -283,27 +283,27 @@ no_reply : (r : Reply) (rs : List Reply) → [] ≡ r ∷ rs → ⊥
 no_reply r rs is = cc
 
 -- a topic that has something due is there
-is_there : (topics : List Topic) (at who n : ℕ) (r : Reply) (rs : List Reply) → due_to who (get_or topics at (fresh n)).core.queues ≡ r ∷ rs → at < length topics
+is_there : (topics : List Topic) (at who n : ℕ) (r : Reply) (rs : List Reply) → due_to who (get_or topics at (fresh n)).queues ≡ r ∷ rs → at < length topics
 is_there [] at who n r rs is = absurd (no_reply r rs is)
 is_there (x ∷ xs) zero who n r rs is = omega arith
 is_there (x ∷ xs) (suc at) who n r rs is = omega (arith, is_there xs at who n r rs is)
 
 -- it is due to the session, which takes it
 takes_due : (b c : Broker) (at who : ℕ) (r : Reply) → CollectedAt b at who (Some r) c
-    → Takes (topic_at b at) (record { session = who; reply = r; entry = [] }) (with_core (topic_at b at) (collected (topic_at b at).core who r))
+    → Takes (topic_at b at) (record { session = who; reply = r; entry = [] }) (collected (topic_at b at) who r)
 takes_due b c at who r s =
     let t = topic_at b at in
-    let u = with_core t (collected t.core who r) in
+    let u = collected t who r in
     let within = is_there b.topics at who b.per_ledger r _ s.0 in
     let there : topic_at c at ≡ u = ap (λ (x : Broker). topic_at x at) s.1 ∙ get_or-set_same b.topics at u (fresh b.per_ledger) within in
-    record { plain = refl; first = s.0 ∙ ap (λ (x : Topic). r ∷ due_to who x.core.queues) there; taken = refl }
+    record { plain = refl; first = s.0 ∙ ap (λ (x : Topic). r ∷ due_to who x.queues) there; taken = refl }
 
 -- the first due reply of a topic goes out, or finds no memory
 collects_from : (at : ℕ) (old new : Play) (r : Reply) → CollectedAt old.broker at old.client.number (Some r) new.broker → Says old.client old.out (plain r) new.client new.out → Plays old new
 collects_from at old new r takes (inl went) =
     let handed : Handed = record { session = old.client.number; reply = r; entry = [] } in
     let t = topic_at old.broker at in
-    let u = with_core t (collected t.core old.client.number r) in
+    let u = collected t old.client.number r in
     let taken : Takes t handed u = takes_due old.broker new.broker at old.client.number r takes in
     record {
       number = ap (λ (c : Client). c.number) went.0;
@@ -322,7 +322,7 @@ collects_from at old new r takes (inl went) =
 collects_from at old new r takes (inr lost) =
     let handed : Handed = record { session = old.client.number; reply = r; entry = [] } in
     let t = topic_at old.broker at in
-    let u = with_core t (collected t.core old.client.number r) in
+    let u = collected t old.client.number r in
     let taken : Takes t handed u = takes_due old.broker new.broker at old.client.number r takes in
     stays old new (ap (λ (c : Client). c.number) lost.0) lost.1 (placed old.client.number old.broker new.broker at u (one_move t (Lose handed) u taken) takes.1)
 
@@ -342,7 +342,7 @@ no_entries : {X : Type 0} → kept.entries (kept.empty {X = X} {R = slice_cmp na
 no_entries {X} = length_none _ (sym (kept.len-entries (kept.empty {X = X} {R = slice_cmp nat_cmp})) ∙ kept.len-empty (slice_cmp nat_cmp) X)
 
 -- a topic that admits something is there
-is_served : (topics : List Topic) (at n : ℕ) (key : ConsumerKey) (i : ℕ) → Admits (get_or topics at (fresh n)).core key i → at < length topics
+is_served : (topics : List Topic) (at n : ℕ) (key : ConsumerKey) (i : ℕ) → Admits (get_or topics at (fresh n)) key i → at < length topics
 is_served [] at n key i admits = absurd (admits_none (kept.entries kept.empty) key i no_entries admits.admitted)
 is_served (x ∷ xs) zero n key i admits = omega arith
 is_served (x ∷ xs) (suc at) n key i admits = omega (arith, is_served xs at n key i admits)
@@ -353,7 +353,7 @@ sends_from at id old new message takes (inl went) =
     let handed : Handed = record { session = old.client.number; reply = message.reply; entry = message.entry } in
     let t = topic_at old.broker at in
     let u = topic_at new.broker at in
-    let sent = takes.step.core in
+    let sent = takes.step in
     record {
       number = ap (λ (c : Client). c.number) went.0;
       bytes = frame_of message;

@@ -1,5 +1,5 @@
 -- Sessions take the answers to their commands in turn, and what was told of subscriptions stands in the durable ones.
-use Rattle.std.proofs.Common.{◌≡◌, ◌⊎◌, inl, inr, ⊎_elim, ◌∙◌, ℕ, Bool, true, false, cond, Option, Some, None, Result, Ok, Err, List, [], ◌∷◌, take, refl, sym, ap, subst}
+use Rattle.std.proofs.Common.{◌≡◌, ◌⊎◌, inl, inr, ⊎_elim, ℕ, Bool, true, false, cond, Option, Some, None, Result, Ok, Err, List, [], ◌∷◌, ◌++◌, take, refl, sym, subst}
 use Rattle.std.specs.List.{AllByRecursion, find}
 use Rattle.commands.specs.declared.reply.Reply.{Reply}
 use Rattle.commands.specs.declared.reply.Reply.TheVariants.{ProducerSuccess, Success, Error, AckResponse}
@@ -7,9 +7,8 @@ use Rattle.commands.specs.declared.server_error.ServerError.{ServerError}
 use Rattle.records.specs.declared.record.Record.{Record}
 use Rattle.records.specs.Maps.{Kept}
 use Rattle.records.specs.Records.{after_all, AreFormed}
-use Rattle.reply_queues.specs.Replies.{SessionReplies, due_to, queued, collected_from}
+use Rattle.reply_queues.specs.Replies.{SessionReplies, due_to, queued}
 use Rattle.subscriptions.specs.State.{Subscriptions}
-use Rattle.subscriptions.specs.Soundness.{HasLimits}
 use Rattle.subscriptions.specs.Steps as subscriptions
 use Rattle.subscriptions.specs.Laws.{IsKept as AreKept}
 use Rattle.subscriptions.specs.declared.consumer.TooManyPermits.{TooManyPermits}
@@ -24,25 +23,25 @@ use Rattle.topic_core.specs.declared.command.CloseConsumer.{CloseConsumer}
 use Rattle.topic_core.specs.declared.command.Redeliver.{Redeliver}
 use Rattle.topic_core.specs.declared.command.TopicCommand.{TopicCommand}
 use Rattle.topic_core.specs.declared.command.TopicCommand.TheVariants as asked
-use Rattle.topic_core.specs.Core.{Core, Topic, changes_of}
-use Rattle.topic_core.specs.Soundness.{IsSoundTopic}
-use Rattle.topic_core.specs.Flush.{flushed_topic, failed_topic}
+use Rattle.topic_core.specs.State.{Topic, changes_of}
+use Rattle.topic_core.specs.Soundness.{IsSound, IsSoundTopic}
 use Rattle.topic_core.specs.Crashes.{IsLeft, TopicCrash}
-use Rattle.topic_core.specs.Steps.{Outcome, CoreStep, Meets, GrantStep, key_of, seat_of, refused_or, first_standing, producer_refusals, subscribe_refusal, subscribed, start_of, ack_refusals, ack_refused, ack_accepted, close_refusals, closing, unsubscribe_refusal, unsubscribed, detach_refusals, detach_outcome, detached, redeliver_outcome, redelivered, asked_back, with_producer, accepted, receipt, bytes_of}
-use Rattle.node.specs.Moves.{Handed, Move, Command, Tell, Lose, Grant, Deliver, Miss, Leave, Flush, Reopen, Crash, MoveStep, Moves, Takes}
+use Rattle.topic_core.specs.Steps.{Outcome, TopicStep, Meets, GrantStep, key_of, seat_of, refused_or, first_standing, producer_refusals, subscribe_refusal, subscribed, start_of, ack_refusals, ack_refused, ack_accepted, close_refusals, closing, unsubscribe_refusal, unsubscribed, detach_refusals, detach_outcome, detached, redeliver_outcome, redelivered, asked_back, with_producer, accepted, receipt, bytes_of}
+use Rattle.topic_core.proofs.Keeps.{step-keeps, grant-keeps}
+use Rattle.node.specs.Moves.{Move, Command, Tell, Lose, Grant, Deliver, Miss, Leave, Flush, Take, Finish, Reopen, Crash, MoveStep, Moves}
 use Rattle.node.specs.Finding.{IsQuiet}
 use Rattle.node.specs.Promising.{Promise, IsKept, Word, nothing_yet, promise_of, positions_of, removed_by, ack_reply, released, with_owed, without_first, promised, told, answered, word_after, word_by, InTurn, AreInTurn}
 use Rattle.node.specs.Laws.{WordIsKept}
-use Rattle.node.proofs.Commands.{producer_core, refused_core, silent_core, accepted_core}
-use Rattle.node.proofs.Endings.{flush_cases, reopen_cases, Reopened}
+use Rattle.node.proofs.Commands.{producer_topic, refused_topic, silent_topic, accepted_topic}
+use Rattle.node.proofs.Endings.{RespectedByFlushes, taking, finishing, flushing, reopen_cases, Reopened}
 use Rattle.node.proofs.Sound.{move_sound}
-use Rattle.node.proofs.Lasting.{Lasts, lasts_first, lasts_more, kept_more}
+use Rattle.node.proofs.Lasting.{Lasts, lasts_first, lasts_more, behind_more, kept_more}
 use Rattle.node.proofs.Turns.{to_each}
-use Rattle.node.proofs.Holding.{Lands, Holds, holds_released, holds_queued, in_turn, holds_lost, holds_told, holds_left, holds_flushed, holds_failed, holds_reopened, holds_crashed}
+use Rattle.node.proofs.Holding.{Lands, Holds, holds_released, holds_queued, in_turn, holds_lost, holds_told, holds_left, holds_handed_on, holds_finished, holds_taken_back, holds_failed, holds_reopened, holds_crashed}
 use Rattle.node.proofs.Accepting.{Adds, adds_nothing, adds_attached, lands_attached, adds_acked, lands_acked, adds_removal}
 
-abbrev HoldsIn : Core → Kept → Word → Type 0
-HoldsIn c kept word = Holds c.subs.changes kept c.queues word
+abbrev HoldsIn : Topic → Kept → Word → Type 0
+HoldsIn t kept word = Holds (changes_of t.doubt) t.subs.changes kept t.queues word
 
 -- ---- commands
 
@@ -56,10 +55,10 @@ later_nothing : Later ≡ Nothing → ⊥
 later_nothing is = cc
 
 -- a refused command changed nothing, and an accepted one had its effect
-either : (o : Option ServerError) (refused : ServerError → Answer) (t : Core) (effect : Outcome) (a : Answer) (u : Core) → a ≡ (refused_or o refused t effect).answer → u ≡ (refused_or o refused t effect).core
-    → ((e : ServerError) × (a ≡ refused e) × (u ≡ t)) ⊎ ((a ≡ effect.answer) × (u ≡ effect.core))
-either None refused t effect a u answer core = inr (answer, core)
-either (Some e) refused t effect a u answer core = inl (e, answer, core)
+either : (o : Option ServerError) (refused : ServerError → Answer) (t : Topic) (effect : Outcome) (a : Answer) (u : Topic) → a ≡ (refused_or o refused t effect).answer → u ≡ (refused_or o refused t effect).topic
+    → ((e : ServerError) × (a ≡ refused e) × (u ≡ t)) ⊎ ((a ≡ effect.answer) × (u ≡ effect.topic))
+either None refused t effect a u answer after = inr (answer, after)
+either (Some e) refused t effect a u answer after = inl (e, answer, after)
 
 -- no refusal of an ACK awaits a flush
 not_awaited : (id : ℕ) (request : Option ℕ) (e : ServerError) → Later ≡ ack_refused id request e → ⊥
@@ -67,119 +66,125 @@ not_awaited id None e is = later_nothing is
 not_awaited id (Some request) e is = now_later (AckResponse id (Some e) request) (sym is)
 
 -- an answer at once is a refusal of an ACK
-not_now : (t : Core) (who : ℕ) (ack : Ack) (request : Option ℕ) (r : Reply) → Now r ≡ (ack_accepted t who ack request).answer → ⊥
+not_now : (t : Topic) (who : ℕ) (ack : Ack) (request : Option ℕ) (r : Reply) → Now r ≡ (ack_accepted t who ack request).answer → ⊥
 not_now t who ack None r is = now_nothing r is
 not_now t who ack (Some request) r is = now_later r is
 
-module _ (t : Core) (kept : Kept) (word : Word) (limits : HasLimits t.subs) (h : HoldsIn t kept word) where
-  same : (u : Core) → u ≡ t → HoldsIn u kept word
-  same u is = subst (λ (x : Core). HoldsIn x kept word) (sym is) h
+module _ (t : Topic) (kept : Kept) (word : Word) (sound : IsSound t) (h : HoldsIn t kept word) where
+  same : (u : Topic) → u ≡ t → HoldsIn u kept word
+  same u is = subst (λ (x : Topic). HoldsIn x kept word) (sym is) h
 
   -- more changes, which spare what remains
-  grows : (e : ℕ) (changes : List Record) (removed : Option (List ℕ)) → AreFormed e kept changes → Adds t.subs.changes removed changes → Holds changes kept t.queues (released removed word)
+  grows : (e : ℕ) (changes : List Record) (removed : Option (List ℕ)) → AreFormed e kept changes → Adds t.subs.changes removed changes
+      → Holds (changes_of t.doubt) changes kept t.queues (released removed word)
   grows e changes removed formed adds =
+      let n : ℕ = changes_of t.doubt in
+      let old : List Record = t.subs.changes in
       let formed' = subst (λ (l : List Record). AreFormed e kept l) adds.behind formed in
-      holds_released removed t.subs.changes changes kept kept t.queues word
-      (λ p remains is. subst (λ (l : List Record). Lasts l kept p) (sym adds.behind) (lasts_more e t.subs.changes adds.added kept p formed' (adds.spares p remains) is))
-      (λ p remains is. subst (λ (l : List Record). Lands l kept p) (sym adds.behind) (kept_more e t.subs.changes adds.added kept p formed' (adds.spares p remains) is))
-      h
+      subst (λ (l : List Record). Holds n l kept t.queues (released removed word)) (sym adds.behind)
+      (holds_released n n old (old ++ adds.added) kept kept removed t.queues word
+      (λ p remains is. lasts_more e old adds.added kept p formed' (adds.spares p remains) is)
+      (λ p remains is. behind_more e old adds.added kept p formed' (adds.spares p remains) n sound.changes is)
+      (λ p remains is. kept_more e old adds.added kept p formed' (adds.spares p remains) is)
+      h)
 
   -- and an answer that awaits a flush
   owes : (e : ℕ) (changes : List Record) (removed : Option (List ℕ)) (who : ℕ) (r : Reply) (promise : Option Promise) → AreFormed e kept changes → Adds t.subs.changes removed changes
       → AllByRecursion (Lands changes kept) (promised promise)
-      → Holds changes kept (queued who r t.queues) (with_owed (record { session = who; reply = Some r; promise = promise }) (released removed word))
-  owes e changes removed who r promise formed adds lands = holds_queued changes kept t.queues (released removed word) (grows e changes removed formed adds) who r promise lands
+      → Holds (changes_of t.doubt) changes kept (queued who r t.queues) (with_owed (record { session = who; reply = Some r; promise = promise }) (released removed word))
+  owes e changes removed who r promise formed adds lands =
+      holds_queued (changes_of t.doubt) changes kept t.queues (released removed word) (grows e changes removed formed adds) who r promise sound.within lands
 
-  -- the subscriptions of a core are kept
-  abbrev AreKeptIn : Core → Type 0
+  -- the subscriptions of a topic are kept
+  abbrev AreKeptIn : Topic → Type 0
   AreKeptIn u = AreKept u.committed kept u.subs
 
-  at_core : (u c : Core) → u ≡ c → AreKeptIn u → AreKeptIn c
-  at_core u c is are = subst (λ (x : Core). AreKeptIn x) is are
+  at_topic : (u c : Topic) → u ≡ c → AreKeptIn u → AreKeptIn c
+  at_topic u c is are = subst (λ (x : Topic). AreKeptIn x) is are
 
-  back : (u c : Core) (w : Word) → u ≡ c → HoldsIn c kept w → HoldsIn u kept w
-  back u c w is holds = subst (λ (x : Core). HoldsIn x kept w) (sym is) holds
+  back : (u c : Topic) (w : Word) → u ≡ c → HoldsIn c kept w → HoldsIn u kept w
+  back u c w is holds = subst (λ (x : Topic). HoldsIn x kept w) (sym is) holds
 
-  sent : (who : ℕ) (send : Send) (u : Core) → u ≡ accepted t who send.producer_id send.sequence_id (bytes_of send.entry) → AreKeptIn t → HoldsIn u kept (answered t who (asked.Send send) Later word)
+  sent : (who : ℕ) (send : Send) (u : Topic) → u ≡ accepted t who send.producer_id send.sequence_id (bytes_of send.entry) → AreKeptIn t → HoldsIn u kept (answered t who (asked.Send send) Later word)
   sent who send u is are =
       back u (accepted t who send.producer_id send.sequence_id (bytes_of send.entry)) (answered t who (asked.Send send) Later word) is
       (owes t.committed t.subs.changes None who (receipt t send.producer_id send.sequence_id) None are.formed (adds_nothing t.subs.changes None) tt)
 
-  subscribes : (who : ℕ) (subscribe : Subscribe) (u : Core) → u ≡ subscribed t who subscribe → AreKeptIn u → HoldsIn u kept (answered t who (asked.Subscribe subscribe) Later word)
+  subscribes : (who : ℕ) (subscribe : Subscribe) (u : Topic) → u ≡ subscribed t who subscribe → AreKeptIn u → HoldsIn u kept (answered t who (asked.Subscribe subscribe) Later word)
   subscribes who subscribe u is are =
       let c = subscribed t who subscribe in
       let seat = seat_of who subscribe in
       let start = subscriptions.start_of (start_of subscribe.initial) t.committed in
-      let are' = at_core u c is are in
+      let are' = at_topic u c is are in
       back u c (answered t who (asked.Subscribe subscribe) Later word) is
       (owes t.committed c.subs.changes None who (Success subscribe.request_id) (promise_of t who (asked.Subscribe subscribe)) are'.formed
       (adds_attached t.subs subscribe.subscription subscribe.mode seat start)
       (lands_attached t.committed kept t.subs subscribe.subscription subscribe.mode seat start are', tt))
 
-  acks_later : (request : Option ℕ) (who : ℕ) (ack : Ack) (u : Core) → Later ≡ (ack_accepted t who ack request).answer → u ≡ (ack_accepted t who ack request).core → AreKeptIn u
+  acks_later : (request : Option ℕ) (who : ℕ) (ack : Ack) (u : Topic) → Later ≡ (ack_accepted t who ack request).answer → u ≡ (ack_accepted t who ack request).topic → AreKeptIn u
       → HoldsIn u kept (with_owed (record { session = who; reply = ack_reply ack.consumer_id request; promise = promise_of t who (asked.Ack ack) }) word)
   acks_later None who ack u answer is are = absurd (later_nothing answer)
   acks_later (Some request) who ack u answer is are =
-      let c = (ack_accepted t who ack (Some request)).core in
+      let c = (ack_accepted t who ack (Some request)).topic in
       let key = key_of who ack.consumer_id in
-      let are' = at_core u c is are in
+      let are' = at_topic u c is are in
       back u c (with_owed (record { session = who; reply = ack_reply ack.consumer_id (Some request); promise = promise_of t who (asked.Ack ack) }) word) is
       (owes t.committed c.subs.changes None who (AckResponse ack.consumer_id None request) (promise_of t who (asked.Ack ack)) are'.formed
       (adds_acked ack.ack_type t.subs key (positions_of t.per_ledger ack))
-      (lands_acked t.committed kept ack.ack_type t.subs key (positions_of t.per_ledger ack) (find (subscriptions.is_on key) t.subs.subs) limits refl are'))
+      (lands_acked t.committed kept ack.ack_type t.subs key (positions_of t.per_ledger ack) (find (subscriptions.is_on key) t.subs.subs) sound.subs.limits refl are'))
 
-  acks_silently : (request : Option ℕ) (who : ℕ) (ack : Ack) (u : Core) → Nothing ≡ (ack_accepted t who ack request).answer → u ≡ (ack_accepted t who ack request).core → AreKeptIn u → HoldsIn u kept word
+  acks_silently : (request : Option ℕ) (who : ℕ) (ack : Ack) (u : Topic) → Nothing ≡ (ack_accepted t who ack request).answer → u ≡ (ack_accepted t who ack request).topic → AreKeptIn u → HoldsIn u kept word
   acks_silently None who ack u answer is are =
-      let c = (ack_accepted t who ack None).core in
-      let are' = at_core u c is are in
+      let c = (ack_accepted t who ack None).topic in
+      let are' = at_topic u c is are in
       back u c word is (grows t.committed c.subs.changes None are'.formed (adds_acked ack.ack_type t.subs (key_of who ack.consumer_id) (positions_of t.per_ledger ack)))
   acks_silently (Some request) who ack u answer is are = absurd (later_nothing (sym answer))
 
-  closes : (who : ℕ) (close : CloseProducer) (u : Core) → u ≡ closing t who close → AreKeptIn t → HoldsIn u kept (answered t who (asked.CloseProducer close) Later word)
+  closes : (who : ℕ) (close : CloseProducer) (u : Topic) → u ≡ closing t who close → AreKeptIn t → HoldsIn u kept (answered t who (asked.CloseProducer close) Later word)
   closes who close u is are =
       back u (closing t who close) (answered t who (asked.CloseProducer close) Later word) is
       (owes t.committed t.subs.changes None who (Success close.request_id) None are.formed (adds_nothing t.subs.changes None) tt)
 
-  unsubscribes : (who : ℕ) (unsubscribe : Unsubscribe) (u : Core) → u ≡ unsubscribed t who unsubscribe → AreKeptIn u → HoldsIn u kept (answered t who (asked.Unsubscribe unsubscribe) Later word)
+  unsubscribes : (who : ℕ) (unsubscribe : Unsubscribe) (u : Topic) → u ≡ unsubscribed t who unsubscribe → AreKeptIn u → HoldsIn u kept (answered t who (asked.Unsubscribe unsubscribe) Later word)
   unsubscribes who unsubscribe u is are =
       let c = unsubscribed t who unsubscribe in
-      let are' = at_core u c is are in
+      let are' = at_topic u c is are in
       back u c (answered t who (asked.Unsubscribe unsubscribe) Later word) is
       (owes t.committed c.subs.changes (removed_by t who (asked.Unsubscribe unsubscribe)) who (Success unsubscribe.request_id) None are'.formed
       (adds_removal t.subs.changes (find (subscriptions.is_on (key_of who unsubscribe.consumer_id)) t.subs.subs)) tt)
 
   -- a command whose refusals are told at once, and whose effect awaits a flush
-  module _ (who : ℕ) (c : TopicCommand) (o : Option ServerError) (f : ServerError → Reply) (effect : Core) (takes : (u : Core) → u ≡ effect → AreKeptIn u → HoldsIn u kept (answered t who c Later word)) where
+  module _ (who : ℕ) (c : TopicCommand) (o : Option ServerError) (f : ServerError → Reply) (effect : Topic) (takes : (u : Topic) → u ≡ effect → AreKeptIn u → HoldsIn u kept (answered t who c Later word)) where
     abbrev outcome : Outcome
-    outcome = refused_or o (λ error. Now (f error)) t (record { answer = Later; core = effect })
+    outcome = refused_or o (λ error. Now (f error)) t (record { answer = Later; topic = effect })
 
-    awaited : (a : Answer) (u : Core) → a ≡ outcome.answer → u ≡ outcome.core → AreKeptIn u → HoldsIn u kept (answered t who c a word)
-    awaited (Now r) u answer core are = ⊎_elim
+    awaited : (a : Answer) (u : Topic) → a ≡ outcome.answer → u ≡ outcome.topic → AreKeptIn u → HoldsIn u kept (answered t who c a word)
+    awaited (Now r) u answer after are = ⊎_elim
         (λ refused. same u refused.2)
         (λ effected. absurd (now_later r effected.0))
-        (either o (λ error. Now (f error)) t (record { answer = Later; core = effect }) (Now r) u answer core)
-    awaited Later u answer core are = ⊎_elim
+        (either o (λ error. Now (f error)) t (record { answer = Later; topic = effect }) (Now r) u answer after)
+    awaited Later u answer after are = ⊎_elim
         (λ refused. absurd (now_later (f refused.0) (sym refused.1)))
         (λ effected. takes u effected.1 are)
-        (either o (λ error. Now (f error)) t (record { answer = Later; core = effect }) Later u answer core)
-    awaited Nothing u answer core are = ⊎_elim
+        (either o (λ error. Now (f error)) t (record { answer = Later; topic = effect }) Later u answer after)
+    awaited Nothing u answer after are = ⊎_elim
         (λ refused. same u refused.2)
         (λ effected. absurd (later_nothing (sym effected.0)))
-        (either o (λ error. Now (f error)) t (record { answer = Later; core = effect }) Nothing u answer core)
-    awaited NoMemory u answer core are = ⊎_elim
+        (either o (λ error. Now (f error)) t (record { answer = Later; topic = effect }) Nothing u answer after)
+    awaited NoMemory u answer after are = ⊎_elim
         (λ refused. same u refused.2)
         (λ effected. let no : ⊥ = cc in absurd no)
-        (either o (λ error. Now (f error)) t (record { answer = Later; core = effect }) NoMemory u answer core)
+        (either o (λ error. Now (f error)) t (record { answer = Later; topic = effect }) NoMemory u answer after)
 
-  produces : (who id request : ℕ) (name : List ℕ) (u : Core) → (u ≡ t) ⊎ (u ≡ with_producer t who id name) → HoldsIn u kept word
+  produces : (who id request : ℕ) (name : List ℕ) (u : Topic) → (u ≡ t) ⊎ (u ≡ with_producer t who id name) → HoldsIn u kept word
   produces who id request name u cases = ⊎_elim (λ is. same u is) (λ is. back u (with_producer t who id name) word is h) cases
 
   -- no PRODUCER awaits a flush
-  no_producer : (o : Option ServerError) (f : ServerError → Reply) (r : Reply) (effect : Core) → Later ≡ (refused_or o (λ error. Now (f error)) t (record { answer = Now r; core = effect })).answer → ⊥
+  no_producer : (o : Option ServerError) (f : ServerError → Reply) (r : Reply) (effect : Topic) → Later ≡ (refused_or o (λ error. Now (f error)) t (record { answer = Now r; topic = effect })).answer → ⊥
   no_producer None f r effect is = now_later r (sym is)
   no_producer (Some e) f r effect is = now_later (f e) (sym is)
 
-  acks : (who : ℕ) (ack : Ack) (a : Answer) (u : Core) → CoreStep t who (asked.Ack ack) a u → AreKeptIn u → HoldsIn u kept (answered t who (asked.Ack ack) a word)
+  acks : (who : ℕ) (ack : Ack) (a : Answer) (u : Topic) → TopicStep t who (asked.Ack ack) a u → AreKeptIn u → HoldsIn u kept (answered t who (asked.Ack ack) a word)
   acks who ack NoMemory u step are = same u step
   acks who ack (Now r) u step are = ⊎_elim
       (λ refused. same u refused.2)
@@ -197,42 +202,42 @@ module _ (t : Core) (kept : Kept) (word : Word) (limits : HasLimits t.subs) (h :
   -- the subscriptions change at most, and their changes stay
   permits : (failed : Bool) (subs : Subscriptions) → subs.changes ≡ t.subs.changes → HoldsIn (cond failed t (record t { subs = subs })) kept word
   permits true subs is = h
-  permits false subs is = subst (λ (l : List Record). Holds l kept t.queues word) (sym is) h
+  permits false subs is = subst (λ (l : List Record). Holds (changes_of t.doubt) l kept t.queues word) (sym is) h
 
   -- a consumer is detached at once
-  detaches : (who : ℕ) (close : CloseConsumer) (o : Option ServerError) (a : Answer) (u : Core)
-      → a ≡ (refused_or o (λ error. Now (Error close.request_id error)) t (record { answer = Now (Success close.request_id); core = detached t who close })).answer
-      → u ≡ (refused_or o (λ error. Now (Error close.request_id error)) t (record { answer = Now (Success close.request_id); core = detached t who close })).core
+  detaches : (who : ℕ) (close : CloseConsumer) (o : Option ServerError) (a : Answer) (u : Topic)
+      → a ≡ (refused_or o (λ error. Now (Error close.request_id error)) t (record { answer = Now (Success close.request_id); topic = detached t who close })).answer
+      → u ≡ (refused_or o (λ error. Now (Error close.request_id error)) t (record { answer = Now (Success close.request_id); topic = detached t who close })).topic
       → AreKeptIn u → HoldsIn u kept (answered t who (asked.CloseConsumer close) a word)
-  detaches who close (Some e) a u answer core are =
-      subst (λ (b : Answer). HoldsIn u kept (answered t who (asked.CloseConsumer close) b word)) (sym answer) (same u core)
-  detaches who close None a u answer core are =
+  detaches who close (Some e) a u answer after are =
+      subst (λ (b : Answer). HoldsIn u kept (answered t who (asked.CloseConsumer close) b word)) (sym answer) (same u after)
+  detaches who close None a u answer after are =
       subst (λ (b : Answer). HoldsIn u kept (answered t who (asked.CloseConsumer close) b word)) (sym answer)
-      (back u (detached t who close) word core h)
+      (back u (detached t who close) word after h)
 
-  redelivers : (who : ℕ) (redeliver : Redeliver) (a : Answer) (u : Core) → a ≡ Nothing → u ≡ redelivered t who redeliver → AreKeptIn u → HoldsIn u kept (answered t who (asked.Redeliver redeliver) a word)
-  redelivers who redeliver a u answer core are =
+  redelivers : (who : ℕ) (redeliver : Redeliver) (a : Answer) (u : Topic) → a ≡ Nothing → u ≡ redelivered t who redeliver → AreKeptIn u → HoldsIn u kept (answered t who (asked.Redeliver redeliver) a word)
+  redelivers who redeliver a u answer after are =
       subst (λ (b : Answer). HoldsIn u kept (answered t who (asked.Redeliver redeliver) b word)) (sym answer)
-      (back u (redelivered t who redeliver) word core
+      (back u (redelivered t who redeliver) word after
       (permits t.failed (subscriptions.redelivered t.subs (key_of who redeliver.consumer_id) (asked_back t.per_ledger t.committed redeliver.ids)) refl))
 
   -- an outcome that was met
-  meets : (o : Outcome) (w : Answer → Word) → ((a : Answer) (u : Core) → a ≡ o.answer → u ≡ o.core → AreKeptIn u → HoldsIn u kept (w a)) → w NoMemory ≡ word → (a : Answer) (u : Core) → Meets o t a u → AreKeptIn u → HoldsIn u kept (w a)
+  meets : (o : Outcome) (w : Answer → Word) → ((a : Answer) (u : Topic) → a ≡ o.answer → u ≡ o.topic → AreKeptIn u → HoldsIn u kept (w a)) → w NoMemory ≡ word → (a : Answer) (u : Topic) → Meets o t a u → AreKeptIn u → HoldsIn u kept (w a)
   meets o w by none NoMemory u step are = subst (λ (x : Word). HoldsIn u kept x) (sym none) (same u step)
   meets o w by none Nothing u step are = by Nothing u step.0 step.1 are
   meets o w by none (Now r) u step are = by (Now r) u step.0 step.1 are
   meets o w by none Later u step are = by Later u step.0 step.1 are
 
-  commanded : (who : ℕ) (c : TopicCommand) (a : Answer) (u : Core) → CoreStep t who c a u → AreKeptIn t → AreKeptIn u → HoldsIn u kept (answered t who c a word)
+  commanded : (who : ℕ) (c : TopicCommand) (a : Answer) (u : Topic) → TopicStep t who c a u → AreKeptIn t → AreKeptIn u → HoldsIn u kept (answered t who c a word)
   commanded who (asked.Producer id request name) NoMemory u step are are' = same u step
-  commanded who (asked.Producer id request name) (Now r) u step are are' = produces who id request name u (producer_core (Now r) t who id request name u step)
-  commanded who (asked.Producer id request name) Nothing u step are are' = produces who id request name u (producer_core Nothing t who id request name u step)
+  commanded who (asked.Producer id request name) (Now r) u step are are' = produces who id request name u (producer_topic (Now r) t who id request name u step)
+  commanded who (asked.Producer id request name) Nothing u step are are' = produces who id request name u (producer_topic Nothing t who id request name u step)
   commanded who (asked.Producer id request name) Later u step are are' =
       absurd (no_producer (first_standing (producer_refusals t name)) (λ error. Error request error) (ProducerSuccess request name) (with_producer t who id name) step.0)
   commanded who (asked.Send send) NoMemory u step are are' = same u step
-  commanded who (asked.Send send) (Now r) u step are are' = same u (refused_core t who send r u step)
-  commanded who (asked.Send send) Nothing u step are are' = same u (silent_core t who send u step)
-  commanded who (asked.Send send) Later u step are are' = sent who send u (accepted_core t who send u step).1 are
+  commanded who (asked.Send send) (Now r) u step are are' = same u (refused_topic t who send r u step)
+  commanded who (asked.Send send) Nothing u step are are' = same u (silent_topic t who send u step)
+  commanded who (asked.Send send) Later u step are are' = sent who send u (accepted_topic t who send u step).1 are
   commanded who (asked.Subscribe subscribe) a u step are are' =
       meets _ (λ b. answered t who (asked.Subscribe subscribe) b word)
       (awaited who (asked.Subscribe subscribe) (subscribe_refusal t subscribe) (λ error. Error subscribe.request_id error) (subscribed t who subscribe) (λ x is kept_x. subscribes who subscribe x is kept_x))
@@ -255,76 +260,90 @@ module _ (t : Core) (kept : Kept) (word : Word) (limits : HasLimits t.subs) (h :
       (redelivers who redeliver)
       refl a u step are'
 
-  granted : (result : Result (Unit {0}) TooManyPermits) (who id count : ℕ) (u : Core) → GrantStep t who id count result u → HoldsIn u kept word
+  granted : (result : Result (Unit {0}) TooManyPermits) (who id count : ℕ) (u : Topic) → GrantStep t who id count result u → HoldsIn u kept word
   granted (Ok done) who id count u step = back u _ word step.1 (permits t.failed (subscriptions.granted t.subs (key_of who id) count) refl)
   granted (Err why) who id count u step = same u step.1
 
 -- ---- moves
 
 abbrev HoldsAt : Topic → Word → Type 0
-HoldsAt t word = HoldsIn t.core t.kept word
+HoldsAt t word = HoldsIn t t.kept word
 
 -- what a crash leaves is what a front of the changes makes of the durable subscriptions
-left_front : (t : Topic) (ledger : List (List ℕ)) (kept : Kept) → IsLeft t ledger kept → (n : ℕ) × (kept ≡ after_all (take n t.core.subs.changes) t.kept)
+left_front : (t : Topic) (ledger : List (List ℕ)) (kept : Kept) → IsLeft t ledger kept → (n : ℕ) × (kept ≡ after_all (take n t.subs.changes) t.kept)
 left_front t ledger kept (inl s) = (0, s.1)
 left_front t ledger kept (inr (inl s)) = (0, s.1)
-left_front t ledger kept (inr (inr s)) = (changes_of t.core.doubt, s.1)
+left_front t ledger kept (inr (inr s)) = (changes_of t.doubt, s.1)
 
 module _ (word : Word) where
   same_topic : (t u : Topic) → u ≡ t → HoldsAt t word → HoldsAt u word
   same_topic t u is h = subst (λ (x : Topic). HoldsAt x word) (sym is) h
 
-  flushes : (t u : Topic) → (u ≡ t) ⊎ ((u ≡ flushed_topic t) ⊎ (u ≡ failed_topic t)) → HoldsAt t word → HoldsAt u word
-  flushes t u (inl is) h = same_topic t u is h
-  flushes t u (inr (inl is)) h = subst (λ (x : Topic). HoldsAt x word) (sym is) (holds_flushed t.core.subs.changes t.kept t.core.queues word h)
-  flushes t u (inr (inr is)) h = subst (λ (x : Topic). HoldsAt x word) (sym is) (holds_failed t.core.subs.changes t.kept t.core.queues word h)
+  abbrev KeepsHeld : Topic → Topic → Type 0
+  KeepsHeld t u = HoldsAt t word → HoldsAt u word
+
+  flush_holds : RespectedByFlushes KeepsHeld
+  flush_holds = record {
+    same = λ t h. h;
+    then = λ t u v first second h. second (first h);
+    take = λ t h. holds_handed_on (changes_of t.doubt) t.subs.changes t.kept t.queues word h;
+    finish = λ t h. holds_finished (changes_of t.doubt) t.subs.changes t.kept t.queues word h;
+    take_back = λ t h. holds_taken_back (changes_of t.doubt) t.subs.changes t.kept t.queues word h;
+    fail = λ t h. holds_failed (changes_of t.doubt) t.subs.changes t.kept t.queues word h;
+  }
 
   opens_again : (t u : Topic) → Reopened t u → IsSoundTopic t → HoldsAt t word → HoldsAt u word
   opens_again t u again s h =
       let front = left_front t u.ledger u.kept again.left in
-      subst (λ (c : Core). HoldsIn c u.kept word) (sym again.core)
-      (subst (λ (k : Kept). Holds [] k t.core.queues word) (sym front.1) (holds_reopened t.core.subs.changes t.kept t.core.queues word h front.0 (s.core.told again.failed)))
+      subst (λ (x : Topic). HoldsAt x word) (sym again.again)
+      (subst (λ (k : Kept). Holds 0 [] k t.queues word) (sym front.1) (holds_reopened (changes_of t.doubt) t.subs.changes t.kept t.queues word h front.0 (s.state.told again.failed)))
 
   crashes : (t u : Topic) → TopicCrash t u → HoldsAt t word → HoldsAt u (record word { owed = [] })
   crashes t u s h =
       let front = left_front t u.ledger u.kept s.left in
-      subst (λ (c : Core). HoldsIn c u.kept (record word { owed = [] })) (sym s.core)
-      (subst (λ (k : Kept). Holds [] k [] (record word { owed = [] })) (sym front.1) (holds_crashed t.core.subs.changes t.kept t.core.queues word h front.0))
+      subst (λ (x : Topic). HoldsAt x (record word { owed = [] })) (sym s.again)
+      (subst (λ (k : Kept). Holds 0 [] k [] (record word { owed = [] })) (sym front.1) (holds_crashed (changes_of t.doubt) t.subs.changes t.kept t.queues word h front.0))
 
-  -- the first due reply, of the queues without it
-  first_taken : (t u : Topic) (handed : Handed) → Takes t handed u → due_to handed.session t.core.queues ≡ handed.reply ∷ due_to handed.session (collected_from handed.session t.core.queues)
-  first_taken t u handed takes = takes.first ∙ ap (λ (x : Topic). handed.reply ∷ due_to handed.session x.core.queues) takes.taken
+  -- the durable subscriptions stay
+  at_kept : (t u : Topic) (w : Word) → u.kept ≡ t.kept → HoldsIn u t.kept w → HoldsAt u w
+  at_kept t u w same h = subst (λ (k : Kept). HoldsIn u k w) (sym same) h
 
-  moved : (t : Topic) (m : Move) (u : Topic) → MoveStep t m u → IsSoundTopic t → IsSoundTopic u → HoldsAt t word → HoldsAt u (word_after t.core m word)
-  moved t (Command who c a) u s sound sound' h =
-      subst (λ (k : Kept). HoldsIn u.core k (answered t.core who c a word)) (sym s.kept)
-      (commanded t.core t.kept word sound.core.subs.limits h who c a u.core s.core sound.kept (subst (λ (k : Kept). AreKept u.core.committed k u.core.subs) s.kept sound'.kept))
+  commands : (t : Topic) (who : ℕ) (c : TopicCommand) (a : Answer) (u : Topic) → TopicStep t who c a u → IsSoundTopic t → IsSoundTopic u → HoldsAt t word → HoldsAt u (answered t who c a word)
+  commands t who c a u s sound sound' h =
+      let durable = (step-keeps t who c a u s sound.state sound.receipts).durable in
+      at_kept t u (answered t who c a word) durable
+      (commanded t t.kept word sound.state h who c a u s sound.kept (subst (λ (k : Kept). AreKept u.committed k u.subs) durable sound'.kept))
+
+  moved : (t : Topic) (m : Move) (u : Topic) → MoveStep t m u → IsSoundTopic t → IsSoundTopic u → HoldsAt t word → HoldsAt u (word_after t m word)
+  moved t (Command who c a) u s sound sound' h = commands t who c a u s sound sound' h
   moved t (Tell handed) u s sound sound' h =
-      subst (λ (x : Topic). HoldsAt x (told handed word)) (sym s.taken) (holds_told t.core.subs.changes t.kept t.core.queues word h handed (first_taken t u handed s))
+      subst (λ (x : Topic). HoldsAt x (told handed word)) (sym s.taken) (holds_told (changes_of t.doubt) t.subs.changes t.kept t.queues word h handed (due_to handed.session u.queues) s.first)
   moved t (Lose handed) u s sound sound' h =
       subst (λ (x : Topic). HoldsAt x (record word { owed = without_first handed.session word.owed })) (sym s.taken)
-      (holds_lost t.core.subs.changes t.kept t.core.queues word h handed (first_taken t u handed s))
+      (holds_lost (changes_of t.doubt) t.subs.changes t.kept t.queues word h handed (due_to handed.session u.queues) s.first)
   moved t (Grant who id permits result) u s sound sound' h =
-      subst (λ (x : Topic). HoldsAt x word) (sym s.rest) (granted t.core t.kept word sound.core.subs.limits h result who id permits s.core s.step)
-  moved t (Deliver id handed) u s sound sound' h =
-      subst (λ (k : Kept). HoldsIn u.core k word) (sym s.kept) (subst (λ (c : Core). HoldsIn c t.kept word) (sym s.core.1.sent) h)
-  moved t (Miss id handed) u s sound sound' h =
-      subst (λ (k : Kept). HoldsIn u.core k word) (sym s.kept) (subst (λ (c : Core). HoldsIn c t.kept word) (sym s.core.1.sent) h)
+      at_kept t u word (grant-keeps t who id permits result u s sound.state sound.receipts).durable (granted t t.kept word sound.state h result who id permits u s)
+  moved t (Deliver id handed) u s sound sound' h = subst (λ (x : Topic). HoldsAt x word) (sym s.1.sent) h
+  moved t (Miss id handed) u s sound sound' h = subst (λ (x : Topic). HoldsAt x word) (sym s.1.sent) h
   moved t (Leave who) u s sound sound' h =
-      subst (λ (x : Topic). HoldsAt x (word_after t.core (Leave who) word)) (sym s) (holds_left t.core.subs.changes t.kept t.core.queues word h who)
-  moved t (Flush result) u s sound sound' h = flushes t u (flush_cases t result u s) h
+      subst (λ (x : Topic). HoldsAt x (word_after t (Leave who) word)) (sym s) (holds_left (changes_of t.doubt) t.subs.changes t.kept t.queues word h who)
+  moved t (Flush result) u s sound sound' h = flushing KeepsHeld flush_holds t result u s h
+  moved t (Take result) u s sound sound' h = taking KeepsHeld flush_holds t result u s h
+  moved t (Finish written result) u s sound sound' h = finishing KeepsHeld flush_holds t written result u s h
   moved t (Reopen result) u s sound sound' h = ⊎_elim (λ is. same_topic t u is h) (λ again. opens_again t u again sound h) (reopen_cases t result u s)
   moved t Crash u s sound sound' h = crashes t u s h
 
   turn : (t : Topic) (m : Move) (u : Topic) → MoveStep t m u → HoldsAt t word → InTurn word m
   turn t (Command who c a) u s h = tt
-  turn t (Tell handed) u s h = in_turn t.core.subs.changes t.kept t.core.queues word h handed (first_taken t u handed s)
-  turn t (Lose handed) u s h = in_turn t.core.subs.changes t.kept t.core.queues word h handed (first_taken t u handed s)
+  turn t (Tell handed) u s h = in_turn (changes_of t.doubt) t.subs.changes t.kept t.queues word h handed (due_to handed.session u.queues) s.first
+  turn t (Lose handed) u s h = in_turn (changes_of t.doubt) t.subs.changes t.kept t.queues word h handed (due_to handed.session u.queues) s.first
   turn t (Grant who id permits result) u s h = tt
   turn t (Deliver id handed) u s h = tt
   turn t (Miss id handed) u s h = tt
   turn t (Leave who) u s h = tt
   turn t (Flush result) u s h = tt
+  turn t (Take result) u s h = tt
+  turn t (Finish written result) u s h = tt
   turn t (Reopen result) u s h = tt
   turn t Crash u s h = tt
 
@@ -333,17 +352,17 @@ turns t [] u steps word sound h = tt
 turns t (m ∷ ms) v steps word sound h =
     let u = steps.0 in
     let sound' = move_sound t m u steps.1 sound in
-    (turn word t m u steps.1 h, turns u ms v steps.2 (word_after t.core m word) sound' (moved word t m u steps.1 sound sound' h))
+    (turn word t m u steps.1 h, turns u ms v steps.2 (word_after t m word) sound' (moved word t m u steps.1 sound sound' h))
 
 holds : (t : Topic) (moves : List Move) (u : Topic) (steps : Moves t moves u) (word : Word) → IsSoundTopic t → HoldsAt t word → HoldsAt u (word_by t moves u steps word)
 holds t [] u steps word sound h = same_topic word t u steps h
 holds t (m ∷ ms) v steps word sound h =
     let u = steps.0 in
     let sound' = move_sound t m u steps.1 sound in
-    holds u ms v steps.2 (word_after t.core m word) sound' (moved word t m u steps.1 sound sound' h)
+    holds u ms v steps.2 (word_after t m word) sound' (moved word t m u steps.1 sound sound' h)
 
 quiet_holds : (t : Topic) → IsQuiet t → HoldsAt t nothing_yet
-quiet_holds t quiet = subst (λ (qs : List SessionReplies). Holds t.core.subs.changes t.kept qs nothing_yet) (sym quiet.queues) (record { turns = λ who. tt; given = tt })
+quiet_holds t quiet = subst (λ (qs : List SessionReplies). Holds (changes_of t.doubt) t.subs.changes t.kept qs nothing_yet) (sym quiet.queues) (record { turns = λ who. tt; given = tt })
 
 pub word_kept : (t : Topic) (moves : List Move) (u : Topic) (steps : Moves t moves u) → IsQuiet t → IsSoundTopic t → WordIsKept t moves u steps
 word_kept t moves u steps quiet sound =
@@ -351,5 +370,5 @@ word_kept t moves u steps quiet sound =
     let end = holds t moves u steps nothing_yet sound h in
     record {
       in_turn = turns t moves u steps nothing_yet sound h;
-      kept = to_each (Lasts u.core.subs.changes u.kept) (IsKept u.kept) (λ p is. lasts_first u.core.subs.changes u.kept p is) (word_by t moves u steps nothing_yet).given end.given;
+      kept = to_each (Lasts u.subs.changes u.kept) (IsKept u.kept) (λ p is. lasts_first u.subs.changes u.kept p is) (word_by t moves u steps nothing_yet).given end.given;
     }

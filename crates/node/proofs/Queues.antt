@@ -1,8 +1,36 @@
--- What is due to each session and what awaits a flush for it, after each change of the queues.
-use Rattle.std.proofs.Common.{◌≡◌, ◌∙◌, ℕ, true, false, cond, not, nat_eq, List, [], ◌∷◌, ◌++◌, map, filter, drop, refl, sym, ap}
+-- What each session is owed, after each change of the queues.
+use Rattle.std.proofs.Common.{◌≡◌, ◌∙◌, ℕ, zero, suc, ◌≤◌, true, false, cond, not, nat_eq, List, [], ◌∷◌, ◌++◌, length, map, filter, take, drop, refl, sym, ap, subst, arith, length-append, append-nil, append_assoc}
 use Rattle.std.proofs.lemmas.Bool.{eqb-true, eq-eqb}
+use Rattle.std.proofs.lemmas.List.{take_all, drop_all, take-append-drop, take-append-le, drop-append-le}
+use Rattle.std.specs.List.{AllByRecursion}
 use Rattle.commands.specs.declared.reply.Reply.{Reply}
-use Rattle.reply_queues.specs.Replies.{SessionReplies, is_for, due_to, pending_to, with_pending, queued, without_first, collected_from, hand_on, make_all_due, refused, refuse_pending}
+use Rattle.reply_queues.specs.Replies.{SessionReplies, is_for, due_to, with_pending, queued, without_first, collected_from, hand_on, make_due, take_back, refused, refuse_pending}
+use Rattle.std.proofs.lemmas.List.{map-append}
+use Rattle.topic_core.proofs.Queues.{all-queued, all-collected, all-filter}
+
+-- a reply that a topic owes to a session
+pub data Debt : Type 0 where
+  Due : Reply → Debt
+  HandedOn : Reply → Debt  -- it was handed to a flush that hasn't ended
+  Pending : Reply → Debt  -- it awaits the next flush
+
+abbrev pub debts_of : List Reply → List Reply → List Reply → List Debt
+debts_of due on pending = map (λ r. Due r) due ++ (map (λ r. HandedOn r) on ++ map (λ r. Pending r) pending)
+
+abbrev pub debts_in : SessionReplies → List Debt
+debts_in q = debts_of q.due (take q.handed_on q.pending) (drop q.handed_on q.pending)
+
+-- what a session is owed, in order
+abbrev pub debts_to : ℕ → List SessionReplies → List Debt
+debts_to who [] = []
+debts_to who (q ∷ qs) = cond (is_for who q) (debts_in q) (debts_to who qs)
+
+-- one session, and each other one
+pub by_session : (R : ℕ → Type 0) (who other : ℕ) → R who → (nat_eq who other ≡ false → R other) → R other
+by_session R who other here there = elim (nat_eq who other) as (λ b. nat_eq who other ≡ b → R other) [
+  | true ↦ λ same. subst R (eqb-true who other same) here
+  | false ↦ λ apart. there apart
+] refl
 
 -- one session's queue isn't another's
 apart_at : (who other session : ℕ) → nat_eq who other ≡ false → nat_eq session who ≡ true → nat_eq session other ≡ false
@@ -10,51 +38,79 @@ apart_at who other session apart here = ap (λ n. nat_eq n other) (eqb-true sess
 
 -- ---- one more reply
 
-pub due-queued : (who other : ℕ) (r : Reply) (qs : List SessionReplies) → due_to other (queued who r qs) ≡ due_to other qs
-due-queued who other r [] = elim (nat_eq who other) as (λ b. cond {A = List Reply} b [] [] ≡ []) [ true ↦ refl | false ↦ refl ]
-due-queued who other r (q ∷ qs) =
-    elim (is_for who q) as (λ b. due_to other (cond b (with_pending r q ∷ qs) (q ∷ queued who r qs)) ≡ cond (is_for other q) q.due (due_to other qs)) [
-      | true ↦ refl
-      | false ↦ ap (λ (l : List Reply). cond (is_for other q) q.due l) (due-queued who other r qs)
-    ]
+behind : (due on pending : List Reply) (r : Reply) → debts_of due on (pending ++ r ∷ []) ≡ debts_of due on pending ++ Pending r ∷ []
+behind due on pending r =
+    let first : List Debt = map (λ x. Due x) due in
+    let second : List Debt = map (λ x. HandedOn x) on in
+    let third : List Debt = map (λ x. Pending x) pending in
+    ap (λ (l : List Debt). first ++ (second ++ l)) (map-append (λ x. Pending x) pending (r ∷ []))
+    ∙ ap (λ (l : List Debt). first ++ l) (sym (append_assoc second third (Pending r ∷ [])))
+    ∙ sym (append_assoc first (second ++ third) (Pending r ∷ []))
 
-pub pending-queued : (who : ℕ) (r : Reply) (qs : List SessionReplies) → pending_to who (queued who r qs) ≡ pending_to who qs ++ r ∷ []
-pending-queued who r [] = ap (λ b. cond b (r ∷ []) []) (eq-eqb who who refl)
-pending-queued who r (q ∷ qs) =
-    elim (is_for who q) as (λ b. is_for who q ≡ b → pending_to who (cond b (with_pending r q ∷ qs) (q ∷ queued who r qs)) ≡ cond b q.pending (pending_to who qs) ++ r ∷ []) [
-      | true ↦ λ here. ap (λ b. cond b (q.pending ++ r ∷ []) (pending_to who qs)) here
-      | false ↦ λ other. ap (λ b. cond b q.pending (pending_to who (queued who r qs))) other ∙ pending-queued who r qs
+one_more : (q : SessionReplies) (r : Reply) → q.handed_on ≤ length q.pending → debts_in (with_pending r q) ≡ debts_in q ++ Pending r ∷ []
+one_more q r fits =
+    ap (λ (l : List Reply). debts_of q.due l (drop q.handed_on (q.pending ++ r ∷ []))) (take-append-le q.handed_on q.pending (r ∷ []) fits)
+    ∙ ap (λ (l : List Reply). debts_of q.due (take q.handed_on q.pending) l) (drop-append-le q.handed_on q.pending (r ∷ []) fits)
+    ∙ behind q.due (take q.handed_on q.pending) (drop q.handed_on q.pending) r
+
+-- no flush was handed more than what is pending
+abbrev pub AreWithin : List SessionReplies → Type 0
+AreWithin qs = AllByRecursion (λ q. q.handed_on ≤ length q.pending) qs
+
+pub debts-queued : (who : ℕ) (r : Reply) (qs : List SessionReplies) → AreWithin qs → debts_to who (queued who r qs) ≡ debts_to who qs ++ Pending r ∷ []
+debts-queued who r [] within = ap (λ b. cond b (Pending r ∷ []) []) (eq-eqb who who refl)
+debts-queued who r (q ∷ qs) within =
+    elim (is_for who q) as (λ b. is_for who q ≡ b → debts_to who (cond b (with_pending r q ∷ qs) (q ∷ queued who r qs)) ≡ cond b (debts_in q) (debts_to who qs) ++ Pending r ∷ []) [
+      | true ↦ λ here. ap (λ b. cond b (debts_in (with_pending r q)) (debts_to who qs)) here ∙ one_more q r within.0
+      | false ↦ λ other. ap (λ b. cond b (debts_in q) (debts_to who (queued who r qs))) other ∙ debts-queued who r qs within.1
     ] refl
 
-pub others-queued : (who other : ℕ) (r : Reply) (qs : List SessionReplies) → nat_eq who other ≡ false → pending_to other (queued who r qs) ≡ pending_to other qs
-others-queued who other r [] apart = ap (λ b. cond b (r ∷ []) []) apart
+pub others-queued : (who other : ℕ) (r : Reply) (qs : List SessionReplies) → nat_eq who other ≡ false → debts_to other (queued who r qs) ≡ debts_to other qs
+others-queued who other r [] apart = ap (λ b. cond b (Pending r ∷ []) []) apart
 others-queued who other r (q ∷ qs) apart =
-    elim (is_for who q) as (λ b. is_for who q ≡ b → pending_to other (cond b (with_pending r q ∷ qs) (q ∷ queued who r qs)) ≡ cond (is_for other q) q.pending (pending_to other qs)) [
+    elim (is_for who q) as (λ b. is_for who q ≡ b → debts_to other (cond b (with_pending r q ∷ qs) (q ∷ queued who r qs)) ≡ cond (is_for other q) (debts_in q) (debts_to other qs)) [
       | true ↦ λ here.
-          ap (λ b. cond b (q.pending ++ r ∷ []) (pending_to other qs)) (apart_at who other q.session apart here)
-          ∙ sym (ap (λ b. cond b q.pending (pending_to other qs)) (apart_at who other q.session apart here))
-      | false ↦ λ _. ap (λ (l : List Reply). cond (is_for other q) q.pending l) (others-queued who other r qs apart)
+          ap (λ b. cond b (debts_in (with_pending r q)) (debts_to other qs)) (apart_at who other q.session apart here)
+          ∙ sym (ap (λ b. cond b (debts_in q) (debts_to other qs)) (apart_at who other q.session apart here))
+      | false ↦ λ _. ap (λ (l : List Debt). cond (is_for other q) (debts_in q) l) (others-queued who other r qs apart)
     ] refl
+
+pub within-queued : (who : ℕ) (r : Reply) (qs : List SessionReplies) → AreWithin qs → AreWithin (queued who r qs)
+within-queued who r qs within =
+    all-queued (λ q. q.handed_on ≤ length q.pending) (λ q. q.handed_on ≤ length q.pending) who r qs (λ q h. h) (λ q h. omega (arith, h, length-append q.pending (r ∷ []))) (omega arith) within
 
 -- ---- a due reply leaves
 
-pub pending-collected : (who other : ℕ) (qs : List SessionReplies) → pending_to other (collected_from who qs) ≡ pending_to other qs
-pending-collected who other [] = refl
-pending-collected who other (q ∷ qs) =
-    elim (is_for who q) as (λ b. pending_to other (cond b (without_first q ∷ qs) (q ∷ collected_from who qs)) ≡ cond (is_for other q) q.pending (pending_to other qs)) [
-      | true ↦ refl
-      | false ↦ ap (λ (l : List Reply). cond (is_for other q) q.pending l) (pending-collected who other qs)
-    ]
+no_reply : (r : Reply) (rs : List Reply) → [] ≡ r ∷ rs → ⊥
+no_reply r rs is = cc
 
-pub others-collected : (who other : ℕ) (qs : List SessionReplies) → nat_eq who other ≡ false → due_to other (collected_from who qs) ≡ due_to other qs
+first_due : (q : SessionReplies) (r : Reply) (rs : List Reply) → q.due ≡ r ∷ rs → debts_in q ≡ Due r ∷ debts_in (without_first q)
+first_due q r rs is =
+    let on : List Reply = take q.handed_on q.pending in
+    let pending : List Reply = drop q.handed_on q.pending in
+    ap (λ (l : List Reply). debts_of l on pending) is ∙ ap (λ (l : List Reply). Due r ∷ debts_of (drop 1 l) on pending) (sym is)
+
+pub debts-collected : (who : ℕ) (qs : List SessionReplies) (r : Reply) (rs : List Reply) → due_to who qs ≡ r ∷ rs → debts_to who qs ≡ Due r ∷ debts_to who (collected_from who qs)
+debts-collected who [] r rs is = absurd (no_reply r rs is)
+debts-collected who (q ∷ qs) r rs is =
+    elim (is_for who q) as (λ b. is_for who q ≡ b → cond b q.due (due_to who qs) ≡ r ∷ rs
+    → cond b (debts_in q) (debts_to who qs) ≡ Due r ∷ debts_to who (cond b (without_first q ∷ qs) (q ∷ collected_from who qs))) [
+      | true ↦ λ here due. first_due q r rs due ∙ ap (λ b. Due r ∷ cond b (debts_in (without_first q)) (debts_to who qs)) (sym here)
+      | false ↦ λ other due. debts-collected who qs r rs due ∙ ap (λ b. Due r ∷ cond b (debts_in q) (debts_to who (collected_from who qs))) (sym other)
+    ] refl is
+
+pub others-collected : (who other : ℕ) (qs : List SessionReplies) → nat_eq who other ≡ false → debts_to other (collected_from who qs) ≡ debts_to other qs
 others-collected who other [] apart = refl
 others-collected who other (q ∷ qs) apart =
-    elim (is_for who q) as (λ b. is_for who q ≡ b → due_to other (cond b (without_first q ∷ qs) (q ∷ collected_from who qs)) ≡ cond (is_for other q) q.due (due_to other qs)) [
+    elim (is_for who q) as (λ b. is_for who q ≡ b → debts_to other (cond b (without_first q ∷ qs) (q ∷ collected_from who qs)) ≡ cond (is_for other q) (debts_in q) (debts_to other qs)) [
       | true ↦ λ here.
-          ap (λ b. cond b (drop 1 q.due) (due_to other qs)) (apart_at who other q.session apart here)
-          ∙ sym (ap (λ b. cond b q.due (due_to other qs)) (apart_at who other q.session apart here))
-      | false ↦ λ _. ap (λ (l : List Reply). cond (is_for other q) q.due l) (others-collected who other qs apart)
+          ap (λ b. cond b (debts_in (without_first q)) (debts_to other qs)) (apart_at who other q.session apart here)
+          ∙ sym (ap (λ b. cond b (debts_in q) (debts_to other qs)) (apart_at who other q.session apart here))
+      | false ↦ λ _. ap (λ (l : List Debt). cond (is_for other q) (debts_in q) l) (others-collected who other qs apart)
     ] refl
+
+pub within-collected : (who : ℕ) (qs : List SessionReplies) → AreWithin qs → AreWithin (collected_from who qs)
+within-collected who qs within = all-collected (λ q. q.handed_on ≤ length q.pending) (λ q. q.handed_on ≤ length q.pending) who qs (λ q h. h) (λ q h. h) within
 
 -- ---- a session leaves
 
@@ -62,62 +118,157 @@ module _ (who : ℕ) where
   abbrev without : List SessionReplies → List SessionReplies
   without qs = filter (λ q. not (is_for who q)) qs
 
-  pub due-left : (qs : List SessionReplies) → due_to who (without qs) ≡ []
-  due-left [] = refl
-  due-left (q ∷ qs) =
-      elim (is_for who q) as (λ b. is_for who q ≡ b → due_to who (cond (not b) (q ∷ without qs) (without qs)) ≡ []) [
-        | true ↦ λ _. due-left qs
-        | false ↦ λ other. ap (λ b. cond b q.due (due_to who (without qs))) other ∙ due-left qs
+  pub debts-left : (qs : List SessionReplies) → debts_to who (without qs) ≡ []
+  debts-left [] = refl
+  debts-left (q ∷ qs) =
+      elim (is_for who q) as (λ b. is_for who q ≡ b → debts_to who (cond (not b) (q ∷ without qs) (without qs)) ≡ []) [
+        | true ↦ λ _. debts-left qs
+        | false ↦ λ other. ap (λ b. cond b (debts_in q) (debts_to who (without qs))) other ∙ debts-left qs
       ] refl
 
-  pub pending-left : (qs : List SessionReplies) → pending_to who (without qs) ≡ []
-  pending-left [] = refl
-  pending-left (q ∷ qs) =
-      elim (is_for who q) as (λ b. is_for who q ≡ b → pending_to who (cond (not b) (q ∷ without qs) (without qs)) ≡ []) [
-        | true ↦ λ _. pending-left qs
-        | false ↦ λ other. ap (λ b. cond b q.pending (pending_to who (without qs))) other ∙ pending-left qs
+  pub others-left : (other : ℕ) (qs : List SessionReplies) → nat_eq who other ≡ false → debts_to other (without qs) ≡ debts_to other qs
+  others-left other [] apart = refl
+  others-left other (q ∷ qs) apart =
+      elim (is_for who q) as (λ b. is_for who q ≡ b → debts_to other (cond (not b) (q ∷ without qs) (without qs)) ≡ cond (is_for other q) (debts_in q) (debts_to other qs)) [
+        | true ↦ λ here. others-left other qs apart ∙ sym (ap (λ b. cond b (debts_in q) (debts_to other qs)) (apart_at who other q.session apart here))
+        | false ↦ λ _. ap (λ (l : List Debt). cond (is_for other q) (debts_in q) l) (others-left other qs apart)
       ] refl
 
-  module _ (other : ℕ) (apart : nat_eq who other ≡ false) where
-    pub others-due-left : (qs : List SessionReplies) → due_to other (without qs) ≡ due_to other qs
-    others-due-left [] = refl
-    others-due-left (q ∷ qs) =
-        elim (is_for who q) as (λ b. is_for who q ≡ b → due_to other (cond (not b) (q ∷ without qs) (without qs)) ≡ cond (is_for other q) q.due (due_to other qs)) [
-          | true ↦ λ here. others-due-left qs ∙ sym (ap (λ b. cond b q.due (due_to other qs)) (apart_at who other q.session apart here))
-          | false ↦ λ _. ap (λ (l : List Reply). cond (is_for other q) q.due l) (others-due-left qs)
-        ] refl
+  pub within-left : (qs : List SessionReplies) → AreWithin qs → AreWithin (without qs)
+  within-left qs within = all-filter (λ q. q.handed_on ≤ length q.pending) (λ q. not (is_for who q)) qs within
 
-    pub others-pending-left : (qs : List SessionReplies) → pending_to other (without qs) ≡ pending_to other qs
-    others-pending-left [] = refl
-    others-pending-left (q ∷ qs) =
-        elim (is_for who q) as (λ b. is_for who q ≡ b → pending_to other (cond (not b) (q ∷ without qs) (without qs)) ≡ cond (is_for other q) q.pending (pending_to other qs)) [
-          | true ↦ λ here. others-pending-left qs ∙ sym (ap (λ b. cond b q.pending (pending_to other qs)) (apart_at who other q.session apart here))
-          | false ↦ λ _. ap (λ (l : List Reply). cond (is_for other q) q.pending l) (others-pending-left qs)
-        ] refl
+-- ---- a flush and its ends
 
--- ---- a flush ends
+-- what each makes of a debt
+abbrev pub hands_on : Debt → Debt
+hands_on (Due r) = Due r
+hands_on (HandedOn r) = HandedOn r
+hands_on (Pending r) = HandedOn r
 
-module _ (who : ℕ) where
-  pub due-all : (qs : List SessionReplies) → due_to who (map (λ q. make_all_due q) qs) ≡ due_to who qs ++ pending_to who qs
-  due-all [] = refl
-  due-all (q ∷ qs) =
-      elim (is_for who q) as (λ b. cond b (q.due ++ q.pending) (due_to who (map (λ x. make_all_due x) qs)) ≡ cond b q.due (due_to who qs) ++ cond b q.pending (pending_to who qs)) [
-        | true ↦ refl
-        | false ↦ due-all qs
+abbrev pub makes_due : Debt → Debt
+makes_due (Due r) = Due r
+makes_due (HandedOn r) = Due r
+makes_due (Pending r) = Pending r
+
+abbrev pub takes_back : Debt → Debt
+takes_back (Due r) = Due r
+takes_back (HandedOn r) = Pending r
+takes_back (Pending r) = Pending r
+
+abbrev pub refuses : Debt → Debt
+refuses (Due r) = Due r
+refuses (HandedOn r) = Due (refused r)
+refuses (Pending r) = Due (refused r)
+
+twice : {A B : Type 0} (g : A → B) (c : Reply → A) (c' : Reply → B) → ((r : Reply) → g (c r) ≡ c' r) → (xs : List Reply) → map (λ a. g a) (map (λ r. c r) xs) ≡ map (λ r. c' r) xs
+twice g c c' same [] = refl
+twice g c c' same (x ∷ xs) = ap (λ b. b ∷ map (λ a. g a) (map (λ r. c r) xs)) (same x) ∙ ap (λ bs. c' x ∷ bs) (twice g c c' same xs)
+
+-- of all that one queue has
+turned : (g : Debt → Debt) (first second third : Reply → Debt) → ((r : Reply) → g (Due r) ≡ first r) → ((r : Reply) → g (HandedOn r) ≡ second r) → ((r : Reply) → g (Pending r) ≡ third r)
+    → (due on pending : List Reply) → map (λ d. g d) (debts_of due on pending) ≡ map (λ r. first r) due ++ (map (λ r. second r) on ++ map (λ r. third r) pending)
+turned g first second third f s t due on pending =
+    let a : List Debt = map (λ r. Due r) due in
+    let b : List Debt = map (λ r. HandedOn r) on in
+    let c : List Debt = map (λ r. Pending r) pending in
+    map-append (λ d. g d) a (b ++ c)
+    ∙ ap (λ (l : List Debt). l ++ map (λ d. g d) (b ++ c)) (twice g (λ r. Due r) first f due)
+    ∙ ap (λ (l : List Debt). map (λ r. first r) due ++ l)
+    (map-append (λ d. g d) b c
+    ∙ ap (λ (l : List Debt). l ++ map (λ d. g d) c) (twice g (λ r. HandedOn r) second s on)
+    ∙ ap (λ (l : List Debt). map (λ r. second r) on ++ l) (twice g (λ r. Pending r) third t pending))
+
+handed_on-in : (q : SessionReplies) → debts_in (hand_on q) ≡ map (λ d. hands_on d) (debts_in q)
+handed_on-in q =
+    let n : ℕ = q.handed_on in
+    let p : List Reply = q.pending in
+    let due : List Debt = map (λ r. Due r) q.due in
+    ap (λ (l : List Reply). debts_of q.due l (drop (length p) p)) (take_all (length p) p (omega arith))
+    ∙ ap (λ (l : List Reply). debts_of q.due p l) (drop_all (length p) p (omega arith))
+    ∙ ap (λ (l : List Debt). due ++ l)
+    (append-nil (map (λ r. HandedOn r) p)
+    ∙ ap (λ (l : List Reply). map (λ r. HandedOn r) l) (sym (take-append-drop n p))
+    ∙ map-append (λ r. HandedOn r) (take n p) (drop n p))
+    ∙ sym (turned hands_on (λ r. Due r) (λ r. HandedOn r) (λ r. HandedOn r) (λ r. refl) (λ r. refl) (λ r. refl) q.due (take n p) (drop n p))
+
+made_due-in : (q : SessionReplies) → debts_in (make_due q) ≡ map (λ d. makes_due d) (debts_in q)
+made_due-in q =
+    let on : List Reply = take q.handed_on q.pending in
+    let rest : List Reply = drop q.handed_on q.pending in
+    ap (λ (l : List Debt). l ++ map (λ r. Pending r) rest) (map-append (λ r. Due r) q.due on)
+    ∙ append_assoc (map (λ r. Due r) q.due) (map (λ r. Due r) on) (map (λ r. Pending r) rest)
+    ∙ sym (turned makes_due (λ r. Due r) (λ r. Due r) (λ r. Pending r) (λ r. refl) (λ r. refl) (λ r. refl) q.due on rest)
+
+taken_back-in : (q : SessionReplies) → debts_in (take_back q) ≡ map (λ d. takes_back d) (debts_in q)
+taken_back-in q =
+    let n : ℕ = q.handed_on in
+    let p : List Reply = q.pending in
+    ap (λ (l : List Debt). map (λ r. Due r) q.due ++ l) (ap (λ (l : List Reply). map (λ r. Pending r) l) (sym (take-append-drop n p)) ∙ map-append (λ r. Pending r) (take n p) (drop n p))
+    ∙ sym (turned takes_back (λ r. Due r) (λ r. Pending r) (λ r. Pending r) (λ r. refl) (λ r. refl) (λ r. refl) q.due (take n p) (drop n p))
+
+refused-in : (q : SessionReplies) → debts_in (refuse_pending q) ≡ map (λ d. refuses d) (debts_in q)
+refused-in q =
+    let n : ℕ = q.handed_on in
+    let p : List Reply = q.pending in
+    let due : List Debt = map (λ r. Due r) q.due in
+    append-nil (map (λ r. Due r) (q.due ++ map (λ r. refused r) p))
+    ∙ map-append (λ r. Due r) q.due (map (λ r. refused r) p)
+    ∙ ap (λ (l : List Debt). due ++ l)
+    (twice (λ r. Due r) (λ r. refused r) (λ r. Due (refused r)) (λ r. refl) p
+    ∙ ap (λ (l : List Reply). map (λ r. Due (refused r)) l) (sym (take-append-drop n p))
+    ∙ map-append (λ r. Due (refused r)) (take n p) (drop n p))
+    ∙ sym (turned refuses (λ r. Due r) (λ r. Due (refused r)) (λ r. Due (refused r)) (λ r. refl) (λ r. refl) (λ r. refl) q.due (take n p) (drop n p))
+
+-- of all queues
+module _ (f : SessionReplies → SessionReplies) (g : Debt → Debt) (same : (q : SessionReplies) → (f q).session ≡ q.session) (turns : (q : SessionReplies) → debts_in (f q) ≡ map (λ d. g d) (debts_in q)) where
+  debts-mapped : (who : ℕ) (qs : List SessionReplies) → debts_to who (map (λ q. f q) qs) ≡ map (λ d. g d) (debts_to who qs)
+  debts-mapped who [] = refl
+  debts-mapped who (q ∷ qs) =
+      ap (λ n. cond (nat_eq n who) (debts_in (f q)) (debts_to who (map (λ x. f x) qs))) (same q)
+      ∙ elim (is_for who q) as (λ b. cond b (debts_in (f q)) (debts_to who (map (λ x. f x) qs)) ≡ map (λ d. g d) (cond b (debts_in q) (debts_to who qs))) [
+        | true ↦ turns q
+        | false ↦ debts-mapped who qs
       ]
 
-  pub pending-none : (qs : List SessionReplies) → pending_to who (map (λ q. make_all_due q) qs) ≡ []
-  pending-none [] = refl
-  pending-none (q ∷ qs) = elim (is_for who q) as (λ b. cond {A = List Reply} b [] (pending_to who (map (λ x. make_all_due x) qs)) ≡ []) [ true ↦ refl | false ↦ pending-none qs ]
+pub debts-handed_on : (who : ℕ) (qs : List SessionReplies) → debts_to who (map (λ q. hand_on q) qs) ≡ map (λ d. hands_on d) (debts_to who qs)
+debts-handed_on who qs = debts-mapped (λ q. hand_on q) hands_on (λ q. refl) handed_on-in who qs
 
-  pub due-refused : (qs : List SessionReplies) → due_to who (map (λ q. refuse_pending q) (map (λ q. hand_on q) qs)) ≡ due_to who qs ++ map (λ r. refused r) (pending_to who qs)
-  due-refused [] = refl
-  due-refused (q ∷ qs) =
-      elim (is_for who q) as (λ b. cond b (q.due ++ map (λ r. refused r) q.pending) (due_to who (map (λ x. refuse_pending x) (map (λ x. hand_on x) qs))) ≡ cond b q.due (due_to who qs) ++ map (λ r. refused r) (cond b q.pending (pending_to who qs))) [
-        | true ↦ refl
-        | false ↦ due-refused qs
-      ]
+pub debts-made_due : (who : ℕ) (qs : List SessionReplies) → debts_to who (map (λ q. make_due q) qs) ≡ map (λ d. makes_due d) (debts_to who qs)
+debts-made_due who qs = debts-mapped (λ q. make_due q) makes_due (λ q. refl) made_due-in who qs
 
-  pub none-refused : (qs : List SessionReplies) → pending_to who (map (λ q. refuse_pending q) (map (λ q. hand_on q) qs)) ≡ []
-  none-refused [] = refl
-  none-refused (q ∷ qs) = elim (is_for who q) as (λ b. cond {A = List Reply} b [] (pending_to who (map (λ x. refuse_pending x) (map (λ x. hand_on x) qs))) ≡ []) [ true ↦ refl | false ↦ none-refused qs ]
+pub debts-taken_back : (who : ℕ) (qs : List SessionReplies) → debts_to who (map (λ q. take_back q) qs) ≡ map (λ d. takes_back d) (debts_to who qs)
+debts-taken_back who qs = debts-mapped (λ q. take_back q) takes_back (λ q. refl) taken_back-in who qs
+
+pub debts-refused : (who : ℕ) (qs : List SessionReplies) → debts_to who (map (λ q. refuse_pending q) qs) ≡ map (λ d. refuses d) (debts_to who qs)
+debts-refused who qs = debts-mapped (λ q. refuse_pending q) refuses (λ q. refl) refused-in who qs
+
+-- a flush is handed what is pending, and none is under way after its end
+module _ (f : SessionReplies → SessionReplies) (fits : (q : SessionReplies) → (f q).handed_on ≤ length (f q).pending) where
+  pub within-mapped : (qs : List SessionReplies) → AreWithin (map (λ q. f q) qs)
+  within-mapped [] = tt
+  within-mapped (q ∷ qs) = (fits q, within-mapped qs)
+
+-- ---- nothing is pending
+
+none_taken : (n : ℕ) (rs : List Reply) → rs ≡ [] → take n rs ≡ []
+none_taken zero rs none = refl
+none_taken (suc n) [] none = refl
+none_taken (suc n) (r ∷ rs) none = absurd (no_reply r rs (sym none))
+
+none_dropped : (n : ℕ) (rs : List Reply) → rs ≡ [] → drop n rs ≡ []
+none_dropped zero rs none = none
+none_dropped (suc n) [] none = refl
+none_dropped (suc n) (r ∷ rs) none = absurd (no_reply r rs (sym none))
+
+due_alone : (q : SessionReplies) → q.pending ≡ [] → debts_in q ≡ map (λ r. Due r) q.due
+due_alone q none =
+    ap (λ (l : List Reply). debts_of q.due l (drop q.handed_on q.pending)) (none_taken q.handed_on q.pending none)
+    ∙ ap (λ (l : List Reply). debts_of q.due [] l) (none_dropped q.handed_on q.pending none)
+    ∙ append-nil (map (λ r. Due r) q.due)
+
+pub debts-due : (who : ℕ) (qs : List SessionReplies) → AllByRecursion (λ q. q.pending ≡ []) qs → debts_to who qs ≡ map (λ r. Due r) (due_to who qs)
+debts-due who [] none = refl
+debts-due who (q ∷ qs) none = elim (is_for who q) as (λ b. cond b (debts_in q) (debts_to who qs) ≡ map (λ r. Due r) (cond b q.due (due_to who qs))) [
+  | true ↦ due_alone q none.0
+  | false ↦ debts-due who qs none.1
+]

@@ -35,18 +35,18 @@ pub front_of : {A B : Type 0} (all done rest : List A) (answers : List B) → al
 front_of all done rest answers is same = ap (λ n. take n all) same ∙ ap (λ xs. take (length done) xs) is ∙ take-append_seam done rest
 
 -- the files stand for what a crash leaves of a broker that a front of the events reaches
-abbrev pub Crashed : (ℕ → Image → Entries → Type 0) → (ℕ → ℕ → Image → Kept → Type 0) → State → List Event → Image → Type 0
-Crashed entries_stand subscriptions_stand old events files = (broker : Broker) × Reached old events broker × StandsForBroker entries_stand subscriptions_stand broker files
+abbrev pub Crashed : (ℕ → Image → Entries → Kept → Type 0) → State → List Event → Image → Type 0
+Crashed files_stand old events files = (broker : Broker) × Reached old events broker × StandsForBroker files_stand broker files
 
-module _ (es : ℕ → Image → Entries → Type 0) (ss : ℕ → ℕ → Image → Kept → Type 0) (old : State) (events : List Event) where
+module _ (files_stand : ℕ → Image → Entries → Kept → Type 0) (old : State) (events : List Event) where
   -- before the first event
-  pub crash_first : (disk : Disk) → ((files : Image) → disk.may_leave files → StandsForBroker es ss old.broker files) → Leaves (Crashed es ss old events) disk disk
-  crash_first disk left = starts (Crashed es ss old events) disk (λ files may.
+  pub crash_first : (disk : Disk) → ((files : Image) → disk.may_leave files → StandsForBroker files_stand old.broker files) → Leaves (Crashed files_stand old events) disk disk
+  crash_first disk left = starts (Crashed files_stand old events) disk (λ files may.
       (old.broker, record { worked = []; rest = events; outputs = []; between = old; run = refl; front = refl; here = inl refl }, left files may))
 
   -- while one event more goes on
   pub crash_more : (worked : List Event) (outputs : List Output) (between : State) (event : Event) (rest later : List Event) (d0 d1 d2 : Disk) → Run old worked outputs between → events ≡ worked ++ rest → rest ≡ event ∷ later
-      → Leaves (Crashed es ss old events) d0 d1 → Leaves (StandsForBroker es ss (during between.broker event)) d1 d2 → Leaves (Crashed es ss old events) d0 d2
+      → Leaves (Crashed files_stand old events) d0 d1 → Leaves (StandsForBroker files_stand (during between.broker event)) d1 d2 → Leaves (Crashed files_stand old events) d0 d2
   crash_more worked outputs between event rest later d0 d1 d2 run front next first second =
-      joins (Crashed es ss old events) (StandsForBroker es ss (during between.broker event)) (Crashed es ss old events) d0 d1 d2 first second (λ files is. is)
+      joins (Crashed files_stand old events) (StandsForBroker files_stand (during between.broker event)) (Crashed files_stand old events) d0 d1 d2 first second (λ files is. is)
       (λ files is. (during between.broker event, record { worked = worked; rest = rest; outputs = outputs; between = between; run = run; front = front; here = inr (event, later, next, refl) }, is))

@@ -1,13 +1,13 @@
 -- The power is cut, and comes again.
-use Rattle.std.proofs.Common.{◌≡◌, ◌⊎◌, ⊎_elim, ℕ, ◌≤◌, refl, subst, sym, ap, ◌∙◌, false, [], arith}
-use Rattle.disk.specs.Disk.{Disk, Image, Same, Advances, Kept, Failed}
+use Rattle.std.proofs.Common.{◌≡◌, ◌⊎◌, inl, ⊎_elim, ℕ, ◌≤◌, refl, subst, sym, ap, ◌∙◌, false, [], arith}
+use Rattle.disk.specs.Disk.{Disk, Image, Same, Advances, Stays, Kept, Failed}
 use Rattle.managed_ledger.specs.Entries.{Entries}
-use Rattle.managed_ledger.specs.declared.entry_store.EntryStore.{Ghosts as EntryMembers}
-use Rattle.cursor_store.specs.declared.sub_store.SubStore.{Ghosts as SubMembers}
 use Rattle.records.specs.Maps.{Kept as Cursors}
+use Rattle.topic_stores.specs.declared.store.TopicStore.{Ghosts as StoreMembers}
 use Rattle.gated_log.specs.declared.refusal.Refusal.{Refusal}
 use Rattle.gated_log.specs.declared.refusal.Refusal.TheVariants as refusal
-use Rattle.topic_core.specs.Core.{Topic}
+use Rattle.topic_core.specs.State.{Topic}
+use Rattle.topic_core.proofs.Filling.{OnlyReads}
 use Rattle.session.specs.Broker.{Broker}
 use Rattle.node.specs.State.{State, broker_with}
 use Rattle.node.specs.Standing.{StandsForBroker, AtRest}
@@ -34,14 +34,14 @@ refused_opening old before disk why output was more cause is =
     cause)
 
 -- a device that has failed more often is the device of the same files
-pub rests_later : (stands : ℕ → Image → Entries → Type 0) (keeps : ℕ → ℕ → Image → Cursors → Type 0) (old : State) (disk : Disk) → AtRest stands keeps old disk → AtRest stands keeps (record old { faults = disk.faults }) disk
-rests_later stands keeps old disk r = record { honest = r.honest; left = r.left; faults = omega arith }
+pub rests_later : (stands : ℕ → Image → Entries → Cursors → Type 0) (old : State) (disk : Disk) → AtRest stands old disk → AtRest stands (record old { faults = disk.faults }) disk
+rests_later stands old disk r = record { honest = r.honest; left = r.left; faults = omega arith }
 
 pub served_later : (per_ledger : ℕ) (old : State) (disk : Disk) → IsServed per_ledger old → IsServed per_ledger (record old { faults = disk.faults })
 served_later per_ledger old disk served = record { topic = served.topic; broker = served.broker; numbered = served.numbered }
 
 -- a node whose topic has so many entry ids a ledger id
-pub serves : (per_ledger : ℕ) (state : State) (n : ℕ) (topic : Topic) → state.broker ≡ broker_with n topic → topic.core.per_ledger ≡ n → n ≡ per_ledger → IsServed per_ledger state
+pub serves : (per_ledger : ℕ) (state : State) (n : ℕ) (topic : Topic) → state.broker ≡ broker_with n topic → topic.per_ledger ≡ n → n ≡ per_ledger → IsServed per_ledger state
 serves per_ledger state n topic is core numbered = record {
   topic = topic;
   broker = is ∙ ap (λ m. broker_with m topic) numbered;
@@ -49,19 +49,27 @@ serves per_ledger state n topic is core numbered = record {
 }
 
 -- a crash leaves the number of entry ids
-pub crash_serves : (per_ledger : ℕ) (old new : State) (n : ℕ) (topic : Topic) → IsServed per_ledger old → StateCrash old new → new.broker ≡ broker_with n topic → topic.core.per_ledger ≡ n → IsServed per_ledger new
+pub crash_serves : (per_ledger : ℕ) (old new : State) (n : ℕ) (topic : Topic) → IsServed per_ledger old → StateCrash old new → new.broker ≡ broker_with n topic → topic.per_ledger ≡ n → IsServed per_ledger new
 crash_serves per_ledger old new n topic served crash is core =
     serves per_ledger new n topic is core (sym (ap (λ (b : Broker). b.per_ledger) is) ∙ crash.per_ledger ∙ ap (λ (b : Broker). b.per_ledger) served.broker)
 
+-- a device in which nothing changed
+pub armed : (old new : Disk) → Stays old new → OnlyReads old new
+armed old new stays = record {
+  seen = λ h. stays.seen;
+  any_moment = λ h. record { later = omega (arith, stays.moment); now = stays.nothing_else; since = λ t c le left. inl (stays.nothing_since t c left) };
+  kept = record { faults = omega (arith, stays.faults); honest = stays.honest; not_honest = stays.not_honest };
+}
+
 -- what a crash leaves is left by the next one
-pub after_crash : (stands : ℕ → Image → Entries → Type 0) (keeps : ℕ → ℕ → Image → Cursors → Type 0) (s : State) (old new : Disk) → AtRest stands keeps s old → Advances Same old new → Kept old new → AtRest stands keeps s new
-after_crash stands keeps s old new r time kept = record {
+pub after_crash : (stands : ℕ → Image → Entries → Cursors → Type 0) (s : State) (old new : Disk) → AtRest stands s old → Advances Same old new → Kept old new → AtRest stands s new
+after_crash stands s old new r time kept = record {
   honest = kept.honest r.honest;
-  left = λ c may. let was = time.crash c may in subst (λ (i : Image). StandsForBroker stands keeps s.broker i) (sym was.2) (r.left was.0 was.1);
+  left = λ c may. let was = time.crash c may in subst (λ (i : Image). StandsForBroker stands s.broker i) (sym was.2) (r.left was.0 was.1);
   faults = omega (arith, r.faults, kept.faults);
 }
 
-module _ {E C S P Q : Type 0} {entries : EntryMembers E P} {subscriptions : SubMembers C Q} (disk : S → Disk) where
-  pub holds_served : (per_ledger : ℕ) (m : Machine E C S P Q entries subscriptions) (life : Life) → Holds disk per_ledger m life → IsServed per_ledger life.state
+module _ {T S : Type 0} {store : StoreMembers T} (disk : S → Disk) where
+  pub holds_served : (per_ledger : ℕ) (m : Machine T S store) (life : Life) → Holds disk per_ledger m life → IsServed per_ledger life.state
   holds_served per_ledger (machine.Up node) life h = h.2
   holds_served per_ledger (machine.Down shelf) life h = h.2

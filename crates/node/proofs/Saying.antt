@@ -4,7 +4,7 @@ use Rattle.std.proofs.lemmas.Bool.Decides.{eqb_tells}
 use Rattle.std.proofs.lemmas.Grind.{flat_map-append}
 use Rattle.commands.specs.declared.reply.Reply.{Reply}
 use Rattle.topic_core.specs.declared.dispatch.Outgoing.{Outgoing}
-use Rattle.topic_core.specs.Core.{Topic}
+use Rattle.topic_core.specs.State.{Topic}
 use Rattle.session.specs.Broker.{Broker, topic_at}
 use Rattle.session.specs.Client.{plain, frame_of, frames_of}
 use Rattle.node.specs.Moves.{Handed, Move, MoveStep, Moves, told_on, told_by}

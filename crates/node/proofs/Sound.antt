@@ -3,11 +3,11 @@ use Rattle.std.proofs.Common.{◌≡◌, ◌∙◌, ℕ, ◌<◌, zero, suc, tru
 use Rattle.std.specs.Ordering.{nat_cmp}
 use Rattle.std.specs.Cmp.Lexicographic.{slice_cmp}
 use Rattle.std.specs.FinMap as map
-use Rattle.topic_core.specs.Core.{Topic}
+use Rattle.topic_core.specs.State.{Topic}
 use Rattle.reply_queues.specs.Replies.{due_to}
 use Rattle.topic_core.specs.Steps.{Collects, collected}
 use Rattle.topic_core.specs.Soundness.{IsSoundTopic}
-use Rattle.topic_core.proofs.Keeps.{command-sound, grant-sound, dispatch-sound, flush-sound, reopen-sound, crash-sound, collected-sound, leave-sound}
+use Rattle.topic_core.proofs.Keeps.{command-sound, grant-sound, dispatch-sound, flush-sound, take-sound, finish-sound, reopen-sound, crash-sound, collected-sound, leave-sound}
 use Rattle.topic_core.proofs.Openings.{sound-opened, receipts-opened}
 use Rattle.session.specs.Broker.{Broker, fresh, topic_at}
 use Rattle.subscriptions.specs.Steps as subscriptions
@@ -20,7 +20,7 @@ use Rattle.node.specs.declared.event.Event.{Event}
 use Rattle.node.specs.declared.event.Happening.{Happening}
 use Rattle.node.specs.declared.event.Output.{Output}
 use Rattle.node.proofs.Unfolding.{run_unfolds, life_unfolds}
-use Rattle.node.specs.Moves.{Handed, outgoing, Move, Command, Tell, Lose, Grant, Deliver, Miss, Leave, Flush, Reopen, Crash, MoveStep, Moves, Takes}
+use Rattle.node.specs.Moves.{Handed, outgoing, Move, Command, Tell, Lose, Grant, Deliver, Miss, Leave, Flush, Take, Finish, Reopen, Crash, MoveStep, Moves, Takes}
 use Rattle.node.specs.Telling.{RunUnfolds}
 use Rattle.node.specs.Laws.{IsSoundBroker}
 use Rattle.node.proofs.Carrying.{Respected, respects}
@@ -30,19 +30,21 @@ KeepsSound t moves u = IsSoundTopic t → IsSoundTopic u
 
 takes_sound : (t u : Topic) (h : Handed) → Takes t h u → IsSoundTopic t → IsSoundTopic u
 takes_sound t u h takes s =
-    let c = collected t.core h.session h.reply in
-    let step : Collects t.core h.session (Some h.reply) c = (takes.first ∙ ap (λ (x : Topic). h.reply ∷ due_to h.session x.core.queues) takes.taken, refl) in
+    let c = collected t h.session h.reply in
+    let step : Collects t h.session (Some h.reply) c = (takes.first ∙ ap (λ (x : Topic). h.reply ∷ due_to h.session x.queues) takes.taken, refl) in
     subst (λ (x : Topic). IsSoundTopic x) (sym takes.taken) (collected-sound t h.session (Some h.reply) c step s)
 
 pub move_sound : (t : Topic) (m : Move) (u : Topic) → MoveStep t m u → IsSoundTopic t → IsSoundTopic u
 move_sound t (Command who command answer) u step s = command-sound t who command answer u step s
 move_sound t (Tell h) u step s = takes_sound t u h step s
 move_sound t (Lose h) u step s = takes_sound t u h step s
-move_sound t (Grant who id permits result) u step s = subst (λ (x : Topic). IsSoundTopic x) (sym step.rest) (grant-sound t who id permits result step.core step.step s)
+move_sound t (Grant who id permits result) u step s = grant-sound t who id permits result u step s
 move_sound t (Deliver id h) u step s = dispatch-sound t h.session id (Ok (Some (outgoing h))) u step s
 move_sound t (Miss id h) u step s = dispatch-sound t h.session id (Ok (Some (outgoing h))) u step s
 move_sound t (Leave who) u step s = subst (λ (x : Topic). IsSoundTopic x) (sym step) (leave-sound t who s)
 move_sound t (Flush result) u step s = flush-sound t result u step s
+move_sound t (Take result) u step s = take-sound t result u step s
+move_sound t (Finish written result) u step s = finish-sound t written result u step s
 move_sound t (Reopen result) u step s = reopen-sound t result u step s
 move_sound t Crash u step s = crash-sound t u step s
 
@@ -68,8 +70,8 @@ durable_empty = record {
 
 pub fresh_sound : (n : ℕ) → 0 < n → IsSoundTopic (fresh n)
 fresh_sound n some = record {
-  core = sound-opened n 0 [] map.empty some (omega arith) refl durable_empty;
-  receipts = receipts-opened n 0 [] map.empty;
+  state = sound-opened n [] [] map.empty some (omega arith) refl durable_empty;
+  receipts = receipts-opened n [] [] map.empty;
   counted = refl;
   kept = are_kept.slot 0 map.empty (subscriptions.opened map.empty) [] (are_kept.opened 0 map.empty durable_empty);
   slots = refl;

@@ -1,12 +1,12 @@
--- Which of the answers that a session is owed each due and each pending reply is.
-use Rattle.std.proofs.Common.{◌≡◌, ◌⊎◌, inl, inr, ◌∙◌, ℕ, Bool, true, false, cond, not, nat_eq, Some, List, [], ◌∷◌, ◌++◌, map, filter, refl, sym, ap, subst}
+-- Which of the answers that a session is owed each reply is that its topic owes it.
+use Rattle.std.proofs.Common.{◌≡◌, ◌⊎◌, inl, inr, ◌∙◌, ℕ, Bool, true, false, cond, not, nat_eq, Some, List, [], ◌∷◌, ◌++◌, map, filter, refl, sym, ap}
 use Rattle.std.proofs.lemmas.Bool.{eqb-true}
-use Rattle.std.proofs.lemmas.List.{map-id}
 use Rattle.std.specs.List.{AllByRecursion, find}
 use Rattle.commands.specs.declared.reply.Reply.{Reply}
 use Rattle.commands.specs.declared.reply.Reply.TheVariants.{Connected, ProducerSuccess, SendReceipt, SendError, Message, Success, Error, AckResponse, Pong}
 use Rattle.reply_queues.specs.Replies.{refused}
 use Rattle.node.specs.Promising.{Promise, Owed, is_to, first_owed, without_first, is_acceptance, promised}
+use Rattle.node.proofs.Queues.{Debt, Due, HandedOn, Pending}
 
 -- a due reply is the owed one, or what a failure made of it; where it tells that the command was accepted, what it promises has P
 pub record IsDue (P : Promise → Type 0) (o : Owed) (due : Reply) : Type 0 where
@@ -20,17 +20,18 @@ pub record IsPending (Q : Promise → Type 0) (o : Owed) (pending : Reply) : Typ
   pub answers : o.reply ≡ Some pending
   pub kept : AllByRecursion Q (promised o.promise)
 
-abbrev pub Await : (Promise → Type 0) → List Reply → List Owed → Type 0
-Await Q [] [] = Unit {0}
-Await Q [] (o ∷ os) = ⊥
-Await Q (r ∷ rs) [] = ⊥
-Await Q (r ∷ rs) (o ∷ os) = IsPending Q o r × Await Q rs os
+-- as a topic owes it: what a due reply promises has P, what one does that a flush was handed has A, and what another pending one does has Q
+abbrev pub IsOwed : (Promise → Type 0) → (Promise → Type 0) → (Promise → Type 0) → Owed → Debt → Type 0
+IsOwed P A Q o (Due r) = IsDue P o r
+IsOwed P A Q o (HandedOn r) = IsPending A o r
+IsOwed P A Q o (Pending r) = IsPending Q o r
 
--- the due replies are the first owed ones, and the pending replies the others
-abbrev pub Matches : (Promise → Type 0) → (Promise → Type 0) → List Reply → List Reply → List Owed → Type 0
-Matches P Q [] pending os = Await Q pending os
-Matches P Q (d ∷ due) pending [] = ⊥
-Matches P Q (d ∷ due) pending (o ∷ os) = IsDue P o d × Matches P Q due pending os
+-- the replies that a topic owes are the owed ones, one for one
+abbrev pub Matches : (Owed → Debt → Type 0) → List Debt → List Owed → Type 0
+Matches R [] [] = Unit {0}
+Matches R [] (o ∷ os) = ⊥
+Matches R (d ∷ ds) [] = ⊥
+Matches R (d ∷ ds) (o ∷ os) = R o d × Matches R ds os
 
 -- what a failure makes of a reply tells of no acceptance
 refused_no_acceptance : (r : Reply) → is_acceptance (refused r) ≡ false
@@ -51,89 +52,73 @@ pub to_each : (P P' : Promise → Type 0) → ((p : Promise) → P p → P' p) �
 to_each P P' f [] all = tt
 to_each P P' f (p ∷ ps) all = (f p all.0, to_each P P' f ps all.1)
 
--- one more is owed
-await_more : (Q : Promise → Type 0) (rs : List Reply) (os : List Owed) (r : Reply) (o : Owed) → IsPending Q o r → Await Q rs os → Await Q (rs ++ r ∷ []) (os ++ o ∷ [])
-await_more Q [] [] r o one all = (one, tt)
-await_more Q [] (x ∷ os) r o one all = absurd all
-await_more Q (y ∷ rs) [] r o one all = absurd all
-await_more Q (y ∷ rs) (x ∷ os) r o one all = (all.0, await_more Q rs os r o one all.1)
+-- ---- what is promised
 
-pub matches_more : (P Q : Promise → Type 0) (due pending : List Reply) (os : List Owed) (r : Reply) (o : Owed) → IsPending Q o r → Matches P Q due pending os → Matches P Q due (pending ++ r ∷ []) (os ++ o ∷ [])
-matches_more P Q [] pending os r o one all = await_more Q pending os r o one all
-matches_more P Q (d ∷ due) pending [] r o one all = absurd all
-matches_more P Q (d ∷ due) pending (x ∷ os) r o one all = (all.0, matches_more P Q due pending os r o one all.1)
+module _ (P P' : Promise → Type 0) (f : (p : Promise) → P p → P' p) where
+  pub due_more : (o : Owed) (r : Reply) → IsDue P o r → IsDue P' o r
+  due_more o r is = record { reply = is.reply; answers = is.answers; same = is.same; kept = λ accepted. to_each P P' f (promised o.promise) (is.kept accepted) }
 
--- each owed one is changed
-module _ (P Q P' Q' : Promise → Type 0) (f : Owed → Owed) (due_to_due : (o : Owed) (d : Reply) → IsDue P o d → IsDue P' (f o) d) (to_pending : (o : Owed) (r : Reply) → IsPending Q o r → IsPending Q' (f o) r) where
-  await_each : (rs : List Reply) (os : List Owed) → Await Q rs os → Await Q' rs (map (λ o. f o) os)
-  await_each [] [] all = tt
-  await_each [] (o ∷ os) all = absurd all
-  await_each (r ∷ rs) [] all = absurd all
-  await_each (r ∷ rs) (o ∷ os) all = (to_pending o r all.0, await_each rs os all.1)
+  pub pending_more : (o : Owed) (r : Reply) → IsPending P o r → IsPending P' o r
+  pending_more o r is = record { answers = is.answers; kept = to_each P P' f (promised o.promise) is.kept }
 
-  pub matches_each : (due pending : List Reply) (os : List Owed) → Matches P Q due pending os → Matches P' Q' due pending (map (λ o. f o) os)
-  matches_each [] pending os all = await_each pending os all
-  matches_each (d ∷ due) pending [] all = absurd all
-  matches_each (d ∷ due) pending (o ∷ os) all = (due_to_due o d all.0, matches_each due pending os all.1)
-
--- what is promised has more
-pub matches_to : (P Q P' Q' : Promise → Type 0) → ((p : Promise) → P p → P' p) → ((p : Promise) → Q p → Q' p) → (due pending : List Reply) (os : List Owed) → Matches P Q due pending os → Matches P' Q' due pending os
-matches_to P Q P' Q' f g due pending os all =
-    subst (λ (l : List Owed). Matches P' Q' due pending l) (map-id os)
-    (matches_each P Q P' Q' (λ o. o)
-    (λ o d is. record { reply = is.reply; answers = is.answers; same = is.same; kept = λ accepted. to_each P P' f (promised o.promise) (is.kept accepted) })
-    (λ o r is. record { answers = is.answers; kept = to_each Q Q' g (promised o.promise) is.kept })
-    due pending os all)
-
--- all that was pending is due, as g makes it
-module _ (P Q P' Q' : Promise → Type 0) (g : Reply → Reply) (f : (p : Promise) → P p → P' p) (turns : (o : Owed) (r : Reply) → IsPending Q o r → IsDue P' o (g r)) where
-  await_turned : (rs : List Reply) (os : List Owed) → Await Q rs os → Matches P' Q' (map (λ r. g r) rs) [] os
-  await_turned [] [] all = tt
-  await_turned [] (o ∷ os) all = absurd all
-  await_turned (r ∷ rs) [] all = absurd all
-  await_turned (r ∷ rs) (o ∷ os) all = (turns o r all.0, await_turned rs os all.1)
-
-  matches_turned : (due pending : List Reply) (os : List Owed) → Matches P Q due pending os → Matches P' Q' (due ++ map (λ r. g r) pending) [] os
-  matches_turned [] pending os all = await_turned pending os all
-  matches_turned (d ∷ due) pending [] all = absurd all
-  matches_turned (d ∷ due) pending (o ∷ os) all = (
-    record { reply = all.0.reply; answers = all.0.answers; same = all.0.same; kept = λ accepted. to_each P P' f (promised o.promise) (all.0.kept accepted) },
-    matches_turned due pending os all.1,
-  )
-
--- it is committed
-pub matches_due : (P Q P' Q' : Promise → Type 0) → ((p : Promise) → P p → P' p) → ((p : Promise) → Q p → P' p) → (due pending : List Reply) (os : List Owed) → Matches P Q due pending os → Matches P' Q' (due ++ pending) [] os
-matches_due P Q P' Q' f g due pending os all =
-    subst (λ (l : List Reply). Matches P' Q' (due ++ l) [] os) (map-id pending)
-    (matches_turned P Q P' Q' (λ r. r) f
-    (λ o r is. record { reply = r; answers = is.answers; same = inl refl; kept = λ accepted. to_each Q P' g (promised o.promise) is.kept })
-    due pending os all)
+  -- the flush that a pending reply was handed to has ended well
+  pub now_due : (o : Owed) (r : Reply) → IsPending P o r → IsDue P' o r
+  now_due o r is = record { reply = r; answers = is.answers; same = inl refl; kept = λ accepted. to_each P P' f (promised o.promise) is.kept }
 
 -- the device failed
-pub matches_refused : (P Q Q' : Promise → Type 0) (due pending : List Reply) (os : List Owed) → Matches P Q due pending os → Matches P Q' (due ++ map (λ r. refused r) pending) [] os
-matches_refused P Q Q' due pending os all =
-    matches_turned P Q P Q' (λ r. refused r) (λ p h. h)
-    (λ o r is. record { reply = r; answers = is.answers; same = inr refl; kept = λ accepted. absurd (false_true (is_acceptance (refused r)) (refused_no_acceptance r) accepted) })
-    due pending os all
+pub now_refused : (P Q : Promise → Type 0) (o : Owed) (r : Reply) → IsPending Q o r → IsDue P o (refused r)
+now_refused P Q o r is = record { reply = r; answers = is.answers; same = inr refl; kept = λ accepted. absurd (false_true (is_acceptance (refused r)) (refused_no_acceptance r) accepted) }
 
--- the first due reply is the first owed one
-pub record HasFirst (P Q : Promise → Type 0) (d : Reply) (due pending : List Reply) (os : List Owed) : Type 0 where
-  pub owed : Owed
-  pub others : List Owed
-  pub splits : os ≡ owed ∷ others
-  pub is_due : IsDue P owed d
-  pub rest : Matches P Q due pending others
+-- ---- all that is owed
 
-pub matches_first : (P Q : Promise → Type 0) (d : Reply) (due pending : List Reply) (os : List Owed) → Matches P Q (d ∷ due) pending os → HasFirst P Q d due pending os
-matches_first P Q d due pending [] all = absurd all
-matches_first P Q d due pending (o ∷ os) all = record { owed = o; others = os; splits = refl; is_due = all.0; rest = all.1 }
+module _ (R : Owed → Debt → Type 0) where
+  -- one more
+  pub matches_more : (ds : List Debt) (os : List Owed) (d : Debt) (o : Owed) → R o d → Matches R ds os → Matches R (ds ++ d ∷ []) (os ++ o ∷ [])
+  matches_more [] [] d o one all = (one, tt)
+  matches_more [] (x ∷ os) d o one all = absurd all
+  matches_more (y ∷ ds) [] d o one all = absurd all
+  matches_more (y ∷ ds) (x ∷ os) d o one all = (all.0, matches_more ds os d o one all.1)
 
--- nothing is pending: Q says nothing
-pub matches_none : (P Q Q' : Promise → Type 0) (due : List Reply) (os : List Owed) → Matches P Q due [] os → Matches P Q' due [] os
-matches_none P Q Q' [] [] all = tt
-matches_none P Q Q' [] (o ∷ os) all = absurd all
-matches_none P Q Q' (d ∷ due) [] all = absurd all
-matches_none P Q Q' (d ∷ due) (o ∷ os) all = (all.0, matches_none P Q Q' due os all.1)
+  -- the first one
+  pub record HasFirst (d : Debt) (ds : List Debt) (os : List Owed) : Type 0 where
+    pub owed : Owed
+    pub others : List Owed
+    pub splits : os ≡ owed ∷ others
+    pub is_first : R owed d
+    pub rest : Matches R ds others
+
+  pub matches_first : (d : Debt) (ds : List Debt) (os : List Owed) → Matches R (d ∷ ds) os → HasFirst d ds os
+  matches_first d ds [] all = absurd all
+  matches_first d ds (o ∷ os) all = record { owed = o; others = os; splits = refl; is_first = all.0; rest = all.1 }
+
+module _ (R R' : Owed → Debt → Type 0) where
+  -- each has more
+  pub matches_to : ((o : Owed) (d : Debt) → R o d → R' o d) → (ds : List Debt) (os : List Owed) → Matches R ds os → Matches R' ds os
+  matches_to f [] [] all = tt
+  matches_to f [] (o ∷ os) all = absurd all
+  matches_to f (d ∷ ds) [] all = absurd all
+  matches_to f (d ∷ ds) (o ∷ os) all = (f o d all.0, matches_to f ds os all.1)
+
+  -- each owed one is changed
+  pub matches_each : (g : Owed → Owed) → ((o : Owed) (d : Debt) → R o d → R' (g o) d) → (ds : List Debt) (os : List Owed) → Matches R ds os → Matches R' ds (map (λ o. g o) os)
+  matches_each g f [] [] all = tt
+  matches_each g f [] (o ∷ os) all = absurd all
+  matches_each g f (d ∷ ds) [] all = absurd all
+  matches_each g f (d ∷ ds) (o ∷ os) all = (f o d all.0, matches_each g f ds os all.1)
+
+  -- each reply is changed
+  pub matches_turned : (g : Debt → Debt) → ((o : Owed) (d : Debt) → R o d → R' o (g d)) → (ds : List Debt) (os : List Owed) → Matches R ds os → Matches R' (map (λ d. g d) ds) os
+  matches_turned g f [] [] all = tt
+  matches_turned g f [] (o ∷ os) all = absurd all
+  matches_turned g f (d ∷ ds) [] all = absurd all
+  matches_turned g f (d ∷ ds) (o ∷ os) all = (f o d all.0, matches_turned g f ds os all.1)
+
+  -- all are due
+  pub matches_due : ((o : Owed) (r : Reply) → R o (Due r) → R' o (Due r)) → (rs : List Reply) (os : List Owed) → Matches R (map (λ r. Due r) rs) os → Matches R' (map (λ r. Due r) rs) os
+  matches_due f [] [] all = tt
+  matches_due f [] (o ∷ os) all = absurd all
+  matches_due f (r ∷ rs) [] all = absurd all
+  matches_due f (r ∷ rs) (o ∷ os) all = (f o r all.0, matches_due f rs os all.1)
 
 -- ---- those that a session is owed
 

@@ -4,13 +4,13 @@ use Rattle.std.proofs.lemmas.Bool.{eqb-true}
 use Rattle.std.proofs.lemmas.List.Quantifiers.{position-Some}
 use Rattle.std.proofs.lemmas.Option.{get_or_from_slice_get}
 use Rattle.gated_log.specs.declared.refusal.Refusal.TheVariants as refusal
-use Rattle.topic_core.specs.Core.{Topic}
+use Rattle.topic_core.specs.State.{Topic}
 use Rattle.session.specs.Broker.{Broker, topic_at}
 use Rattle.session.specs.Client.{Client, Play, play, frames_of}
-use Rattle.node.specs.State.{State, place_in, place_of, is_full}
+use Rattle.node.specs.State.{State, Stage, Resting, Taken, Written, place_in, place_of, is_full}
 use Rattle.node.specs.Steps as steps
 use Rattle.node.specs.Runs.{Run, Life, OpeningEnds, EventIn, HappeningStep, AllowedRun}
-use Rattle.node.specs.Moves.{Handed, Move, Flush, Reopen, Crash}
+use Rattle.node.specs.Moves.{Handed, Flush, Take, Finish, Reopen, Crash}
 use Rattle.node.specs.Telling.{Said, all_outgoing, from_topic, AnswersAreAtOnce, hearer, hearer_of, AreHeard, Course, Unfolds, RunUnfolds}
 use Rattle.node.specs.declared.event.Event.{Event}
 use Rattle.node.specs.declared.event.Event.TheVariants as event
@@ -98,17 +98,41 @@ closes (Some place) old output new s =
     unheard old.broker output.bytes new.broker (no_bytes verdict.Done output s.answer)
     (λ number. subst (λ (x : Broker). Course (topic_at old.broker number) [] (topic_at x number)) (sym s.broker) (gone_each old.broker s.client.number number))
 
-moves_one : (old : State) (at : ℕ) (t : Topic) (m : Move) (answer : Verdict) (output : Output) (new : State) → Course (topic_at old.broker at) [] t → output ≡ record { bytes = []; result = answer }
-    → steps.Moves old at t new → Utters None old.broker output.bytes new.broker
-moves_one old at t m answer output new course is s = unheard old.broker output.bytes new.broker (no_bytes answer output is) (placed_each old.broker new.broker at t course s.broker)
+moves_one : (old : State) (at : ℕ) (t : Topic) (stage : Stage) (answer : Verdict) (output : Output) (new : State) → Course (topic_at old.broker at) [] t → output ≡ record { bytes = []; result = answer }
+    → steps.Moves old at t stage new → Utters None old.broker output.bytes new.broker
+moves_one old at t stage answer output new course is s = unheard old.broker output.bytes new.broker (no_bytes answer output is) (placed_each old.broker new.broker at t course s.broker)
 
 flushes : (place : Option ℕ) (old : State) (output : Output) (new : State) → steps.FlushStep place old output new → Utters None old.broker output.bytes new.broker
 flushes None old output new s = only None verdict.Unknown old output new s
-flushes (Some at) old output new s = moves_one old at s.flushed (Flush s.result) _ output new (one_move (topic_at old.broker at) (Flush s.result) s.flushed s.step) s.answer s.moves
+flushes (Some at) old output new s = moves_one old at s.flushed _ _ output new (one_move (topic_at old.broker at) (Flush s.result) s.flushed s.step) s.answer s.moves
+
+takes : (place : Option ℕ) (old : State) (output : Output) (new : State) → steps.TakeStep place old output new → Utters None old.broker output.bytes new.broker
+takes None old output new s = only None verdict.Unknown old output new s
+takes (Some at) old output new s = moves_one old at s.taken _ _ output new (one_move (topic_at old.broker at) (Take s.result) s.taken s.step) s.answer s.moves
+
+-- a write is no move of the topic
+writes_in : (stage : Stage) (old : State) (at : ℕ) (output : Output) (new : State) → steps.WritesIn stage old at output new → Utters None old.broker output.bytes new.broker
+writes_in Resting old at output new s = only None verdict.Unknown old output new s
+writes_in Taken old at output new s = moves_one old at (topic_at old.broker at) _ _ output new (still_course (topic_at old.broker at)) s.answer s.moves
+writes_in (Written result) old at output new s = only None verdict.Unknown old output new s
+
+writes : (place : Option ℕ) (old : State) (output : Output) (new : State) → steps.WriteStep place old output new → Utters None old.broker output.bytes new.broker
+writes None old output new s = only None verdict.Unknown old output new s
+writes (Some at) old output new s = writes_in old.stage old at output new s
+
+finishes_in : (stage : Stage) (old : State) (at : ℕ) (output : Output) (new : State) → steps.FinishesIn stage old at output new → Utters None old.broker output.bytes new.broker
+finishes_in Resting old at output new s = only None verdict.Unknown old output new s
+finishes_in Taken old at output new s = only None verdict.Unknown old output new s
+finishes_in (Written written) old at output new s =
+    moves_one old at s.finished _ _ output new (one_move (topic_at old.broker at) (Finish written s.result) s.finished s.step) s.answer s.moves
+
+finishes : (place : Option ℕ) (old : State) (output : Output) (new : State) → steps.FinishStep place old output new → Utters None old.broker output.bytes new.broker
+finishes None old output new s = only None verdict.Unknown old output new s
+finishes (Some at) old output new s = finishes_in old.stage old at output new s
 
 reopens : (place : Option ℕ) (old : State) (output : Output) (new : State) → steps.ReopenStep place old output new → Utters None old.broker output.bytes new.broker
 reopens None old output new s = only None verdict.Unknown old output new s
-reopens (Some at) old output new s = moves_one old at s.again (Reopen s.result) _ output new (one_move (topic_at old.broker at) (Reopen s.result) s.again s.step) s.answer s.moves
+reopens (Some at) old output new s = moves_one old at s.again _ _ output new (one_move (topic_at old.broker at) (Reopen s.result) s.again s.step) s.answer s.moves
 
 pub event_utters : (old : State) (e : Event) (output : Output) (new : State) → steps.BrokerStep old e output new → Utters (hearer e) old.broker output.bytes new.broker
 event_utters old event.Open output new s = opens_session None (is_full old) old output new s
@@ -116,6 +140,9 @@ event_utters old (event.Bytes who bytes) output new s = bytes_come who (place_of
 event_utters old (event.Pump who) output new s = pumps who (place_of old.sessions who) old output new refl s
 event_utters old (event.Close who) output new s = closes (place_of old.sessions who) old output new s
 event_utters old (event.Flush topic) output new s = flushes (place_in old.broker.topics topic) old output new s
+event_utters old (event.Take topic) output new s = takes (place_in old.broker.topics topic) old output new s
+event_utters old (event.Write topic) output new s = writes (place_in old.broker.topics topic) old output new s
+event_utters old (event.Finish topic) output new s = finishes (place_in old.broker.topics topic) old output new s
 event_utters old (event.Reopen topic) output new s = reopens (place_in old.broker.topics topic) old output new s
 
 -- nothing happens

@@ -1,6 +1,6 @@
 -- Which messages go out.
 use Rattle.std.specs.Prelude.{◌≡◌, ℕ, true, Some, List, [], ◌∷◌, ◌++◌, slice_get}
-use Rattle.topic_core.specs.Core.{Topic}
+use Rattle.topic_core.specs.State.{Topic}
 use Rattle.topic_core.specs.Laws.{IsAdmitted}
 use Rattle.node.specs.Moves.{Handed, outgoing, Move, Deliver, Moves}
 use Rattle.node.specs.Telling.{is_message}

@@ -2,10 +2,9 @@
 use Rattle.std.specs.Prelude.{◌≡◌, ℕ, suc, Bool, true, false, Option, Some, None, Result, IfOk, List, ◌∷◌, ◌++◌, length, take}
 use Rattle.std.specs.declared.alloc.AllocError.{AllocError}
 use Rattle.disk.specs.Disk.{Disk}
-use Rattle.managed_ledger.specs.declared.entry_store.EntryStore.{Ghosts as EntryMembers}
-use Rattle.cursor_store.specs.declared.sub_store.SubStore.{Ghosts as SubMembers}
+use Rattle.topic_stores.specs.declared.store.TopicStore.{Ghosts as StoreMembers}
 use Rattle.subscriptions.specs.Statuses.{AreStatuses}
-use Rattle.topic_core.specs.Core.{Topic}
+use Rattle.topic_core.specs.State.{Topic}
 use Rattle.session.specs.Broker.{topic_at}
 use Rattle.node.specs.State.{State, broker_with}
 use Rattle.node.specs.Standing.{state_of, Stands, AtRest}
@@ -22,23 +21,23 @@ use Rattle.node.specs.declared.power.Machine.TheVariants as machine
 pub record IsServed (per_ledger : ℕ) (state : State) : Type 0 where
   pub topic : Topic
   pub broker : state.broker ≡ broker_with per_ledger topic
-  pub numbered : topic.core.per_ledger ≡ per_ledger
+  pub numbered : topic.per_ledger ≡ per_ledger
 
 -- what is told of the topic: where the node is down nothing, and else how many entries its ledger has, and the statuses of its subscriptions
 abbrev pub StatusOf : Bool → State → Option TopicStatus → Type 0
-StatusOf true state (Some status) = (status.number ≡ 0) × (status.entries ≡ length (topic_at state.broker 0).ledger) × AreStatuses (topic_at state.broker 0).core.subs.subs status.subscriptions.items
+StatusOf true state (Some status) = (status.number ≡ 0) × (status.entries ≡ length (topic_at state.broker 0).ledger) × AreStatuses (topic_at state.broker 0).subs.subs status.subscriptions.items
 StatusOf true state None = ⊥
 StatusOf false state told = told ≡ None
 
-module _ {E C S P Q : Type 0} {entries : EntryMembers E P} {subscriptions : SubMembers C Q} (disk : S → Disk) where
+module _ {T S : Type 0} {store : StoreMembers T} (disk : S → Disk) where
   -- The machine holds this life: a node that works, or the device alone, which stands for what a crash leaves of the state.
-  abbrev pub Holds : ℕ → Machine E C S P Q entries subscriptions → Life → Type 0
+  abbrev pub Holds : ℕ → Machine T S store → Life → Type 0
   Holds per_ledger (machine.Up node) life = Stands disk node × (life ≡ record { up = true; state = state_of disk node }) × IsServed per_ledger life.state
-  Holds per_ledger (machine.Down shelf) life = AtRest entries.stands subscriptions.stands life.state (disk shelf) × (life.up ≡ false) × IsServed per_ledger life.state
+  Holds per_ledger (machine.Down shelf) life = AtRest store.stands life.state (disk shelf) × (life.up ≡ false) × IsServed per_ledger life.state
 
   -- The node was opened, and then a front of the happenings was worked, as long as the outputs that were added; all of them
   -- where no memory was refused for an output. From a start where nothing is owed, what the sessions were told is accounted for.
-  pub record Drove (per_ledger : ℕ) (first : State) (happenings : List Happening) (before : List Output) (result : Result (Machine E C S P Q entries subscriptions) AllocError) (after : List Output) : Type 0 where
+  pub record Drove (per_ledger : ℕ) (first : State) (happenings : List Happening) (before : List Output) (result : Result (Machine T S store) AllocError) (after : List Output) : Type 0 where
     pub answers : List Output
     pub last : Life
     pub added : after ≡ before ++ answers

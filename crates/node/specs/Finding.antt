@@ -7,11 +7,11 @@ use Rattle.topic_core.specs.declared.command.Answer.TheVariants.{Now, Later, Not
 use Rattle.topic_core.specs.declared.command.Send.{Send}
 use Rattle.topic_core.specs.declared.command.TopicCommand.{TopicCommand}
 use Rattle.topic_core.specs.declared.command.TopicCommand.TheVariants as asked
-use Rattle.topic_core.specs.Core.{Core, Topic, next_position}
+use Rattle.topic_core.specs.State.{Topic, next_position, entries_of}
 use Rattle.ids.specs.Ids.{message_id_at}
 use Rattle.reply_queues.specs.Replies.{is_receipt}
 use Rattle.topic_core.specs.Steps.{bytes_of}
-use Rattle.node.specs.Moves.{Handed, Move, Command, Tell, Lose, Grant, Deliver, Miss, Leave, Flush, Reopen, Crash, Moves}
+use Rattle.node.specs.Moves.{Handed, Move, Command, Tell, Lose, Grant, Deliver, Miss, Leave, Flush, Take, Finish, Reopen, Crash, Moves}
 
 -- an accepted SEND: where its entry will stand, and the receipt that its session is promised
 pub record Sent : Type 0 where
@@ -42,7 +42,7 @@ sent_by per_ledger position who (asked.CloseConsumer close) answer = []
 sent_by per_ledger position who (asked.Redeliver redeliver) answer = []
 
 -- a SEND that a topic accepts gets the next position
-abbrev pub sends_on : Core → Move → List Sent
+abbrev pub sends_on : Topic → Move → List Sent
 sends_on t (Command who command answer) = sent_by t.per_ledger (next_position t) who command answer
 sends_on t (Tell handed) = []
 sends_on t (Lose handed) = []
@@ -51,13 +51,15 @@ sends_on t (Deliver id handed) = []
 sends_on t (Miss id handed) = []
 sends_on t (Leave who) = []
 sends_on t (Flush result) = []
+sends_on t (Take result) = []
+sends_on t (Finish written result) = []
 sends_on t (Reopen result) = []
 sends_on t Crash = []
 
 -- The accepted SENDs of a topic's moves, in order. A position comes again where the entry that had it was lost in a crash.
 abbrev pub sends_by : (old : Topic) (moves : List Move) (new : Topic) → Moves old moves new → List Sent
 sends_by old [] new steps = []
-sends_by old (move ∷ moves) new steps = sends_on old.core move ++ sends_by steps.0 moves new steps.2
+sends_by old (move ∷ moves) new steps = sends_on old move ++ sends_by steps.0 moves new steps.2
 
 -- the latest of these SENDs for a position is this one
 pub record IsLatest (sends : List Sent) (send : Sent) : Type 0 where
@@ -87,8 +89,9 @@ pub record IsPublished (sends : List Sent) (old new : List (List ℕ)) : Type 0 
   pub grown : new ≡ old ++ more
   pub each : (i : ℕ) (entry : List ℕ) → length old ≤ i → slice_get new i ≡ Some entry → (send : Sent) × IsLatest sends send × (send.position ≡ i) × (send.entry ≡ entry)
 
--- a topic that owes no reply, with no entry that waits, whose core counts its ledger
+-- a topic that owes no reply, with no entry that waits and none in doubt, which counts its ledger
 pub record IsQuiet (t : Topic) : Type 0 where
-  pub queues : t.core.queues ≡ []
-  pub waiting : t.core.waiting ≡ []
-  pub counted : length t.ledger ≡ t.core.committed
+  pub queues : t.queues ≡ []
+  pub waiting : t.waiting ≡ []
+  pub sure : entries_of t.doubt ≡ 0
+  pub counted : length t.ledger ≡ t.committed

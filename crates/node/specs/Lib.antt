@@ -1,4 +1,5 @@
 pub mod State
+pub mod Flights
 pub mod Matching
 pub mod Steps
 pub mod Standing

@@ -1,18 +1,21 @@
--- That a core matches its stores is known in one way at most.
-use Rattle.std.specs.Prelude.{◌≡◌, ℕ, List, [], ◌∷◌, refl}
-use Rattle.std.specs.Coded.{Coded-set, coded_ℕ, coded_bool, coded_option, ×_prop, Π_prop, →_prop, Unit-prop, le_prop}
+-- That a topic matches its store, and its flush, is known in one way at most.
+use Rattle.std.specs.Prelude.{◌≡◌, ℕ, Option, Some, None, List, [], ◌∷◌, refl}
+use Rattle.std.specs.Coded.{Coded, Coded-set, codes, coded_ℕ, coded_bool, coded_list, coded_option, ×_prop, Π_prop, →_prop, Unit-prop, le_prop}
 use mathlib.Core.HLevel.{×₃_prop}
 use Rattle.std.proofs.Common.{sym, ap, ◌∙◌}
 use Rattle.cursor.specs.Positions.{positions_code}
 use Rattle.records.specs.declared.record.Record.{Record}
 use Rattle.records.specs.declared.record.Record.TheVariants.{Made, Removed, Acknowledged, AcknowledgedThrough, AcknowledgedRange}
-use Rattle.records.specs.Maps.{Kept}
+use Rattle.records.specs.Maps.{Kept, kept_code}
 use Rattle.records.specs.Records.{IsNew, IsPlaced, IsFormed, AreFormed, after}
 use Rattle.subscriptions.specs.State.{Subscriptions}
 use Rattle.subscriptions.specs.Laws.{AreDurable, IsKept}
-use Rattle.topic_core.specs.Core.{Core}
-use Rattle.topic_core.specs.Views.{Views}
-use Rattle.topic_core.specs.Standing.{Match}
+use Rattle.topic_stores.specs.declared.batch.Batch.{Batch}
+use Rattle.topic_stores.specs.Views.{StoreView}
+use Rattle.topic_core.specs.State.{Topic}
+use Rattle.topic_core.specs.Standing.{Phase, Before, Written, Lost, IsBefore, IsWritten, IsLost, IsFor, Remembers, Match}
+use Rattle.node.specs.Flights.{batch_of, IsUnderWay}
+use Rattle.node.specs.declared.flight.Flight.{Flight}
 
 -- a record of facts, as the product of them
 as_product : {A B : Type 0} (to : A → B) (back : B → A) → ((a : A) → back (to a) ≡ a) → IsProp B → IsProp A
@@ -43,7 +46,28 @@ is_kept-prop entries kept t =
     as_product (λ x. (x.same, (x.count, (x.durable, x.formed)))) (λ x. record { same = x.0; count = x.1.0; durable = x.1.1.0; formed = x.1.1.1 }) (λ _. refl)
     (×_prop (Π_prop (λ name. Coded-set (coded_option positions_code) _ _)) (×_prop (Coded-set coded_ℕ _ _) (×_prop (are_durable-prop kept) (are_formed-prop entries kept t.changes))))
 
-pub Match-prop : (core : Core) (stores : Views) → IsProp (Match core stores)
-Match-prop core stores =
-    as_product (λ x. (x.one_topic, (x.counted, (x.entries_work, (x.subscriptions_work, x.kept))))) (λ x. record { one_topic = x.0; counted = x.1.0; entries_work = x.1.1.0; subscriptions_work = x.1.1.1.0; kept = x.1.1.1.1 }) (λ _. refl)
-    (×_prop (Coded-set coded_ℕ _ _) (×_prop (→_prop (Coded-set coded_ℕ _ _)) (×_prop (→_prop (Coded-set coded_bool _ _)) (×_prop (→_prop (Coded-set coded_bool _ _)) (is_kept-prop core.committed stores.subscriptions.kept core.subs)))))
+remembers-prop : (phase : Phase) (t : Topic) (v : StoreView) → IsProp (Remembers phase t v)
+remembers-prop Before t v =
+    as_product (λ x. (x.core_works, (x.works, (x.counted, x.kept)))) (λ x. record { core_works = x.0; works = x.1.0; counted = x.1.1.0; kept = x.1.1.1 }) (λ _. refl)
+    (×_prop (Coded-set coded_bool _ _) (×_prop (Coded-set coded_bool _ _) (×_prop (Coded-set coded_ℕ _ _) (Coded-set kept_code _ _))))
+remembers-prop Written t v =
+    as_product (λ x. (x.core_works, (x.under_way, (x.works, (x.counted, x.kept))))) (λ x. record { core_works = x.0; under_way = x.1.0; works = x.1.1.0; counted = x.1.1.1.0; kept = x.1.1.1.1 }) (λ _. refl)
+    (×_prop (Coded-set coded_bool _ _) (×_prop (Coded-set coded_bool _ _) (×_prop (Coded-set coded_bool _ _) (×_prop (Coded-set coded_ℕ _ _) (Coded-set kept_code _ _)))))
+remembers-prop Lost t v =
+    as_product (λ x. (x.told, x.failed)) (λ x. record { told = x.0; failed = x.1 }) (λ _. refl) (×_prop (Coded-set coded_bool _ _) (Coded-set coded_bool _ _))
+
+pub Match-prop : (phase : Phase) (t : Topic) (v : StoreView) → IsProp (Match phase t v)
+Match-prop phase t v =
+    as_product (λ x. (x.kept, x.remembers)) (λ x. record { kept = x.0; remembers = x.1 }) (λ _. refl) (×_prop (is_kept-prop t.committed t.kept t.subs) (remembers-prop phase t v))
+
+record_code : Coded Record
+record_code = Prim.hlevel codes
+
+is_for-prop : (t : Topic) (batch : Batch) → IsProp (IsFor t batch)
+is_for-prop t batch =
+    as_product (λ x. (x.awaited, (x.entries, (x.changes, x.numbered)))) (λ x. record { awaited = x.0; entries = x.1.0; changes = x.1.1.0; numbered = x.1.1.1 }) (λ _. refl)
+    (×_prop (Coded-set coded_bool _ _) (×_prop (Coded-set (coded_list (coded_list coded_ℕ)) _ _) (×_prop (Coded-set (coded_list record_code) _ _) le_prop)))
+
+pub IsUnderWay-prop : (t : Topic) (flight : Option Flight) → IsProp (IsUnderWay t flight)
+IsUnderWay-prop t None = Unit-prop
+IsUnderWay-prop t (Some flight) = is_for-prop t (batch_of flight)

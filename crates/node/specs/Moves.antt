@@ -1,18 +1,19 @@
 -- The moves of a topic, and what it hands to sessions on them.
-use Rattle.std.specs.Prelude.{◌≡◌, ℕ, Bool, true, false, Result, Ok, Some, List, [], ◌∷◌, ◌++◌}
+use Rattle.std.specs.Prelude.{◌≡◌, ℕ, Bool, true, false, Option, Result, Ok, Some, List, [], ◌∷◌, ◌++◌}
 use Rattle.commands.specs.declared.reply.Reply.{Reply}
 use Rattle.topic_core.specs.declared.command.Answer.{Answer}
 use Rattle.topic_core.specs.declared.command.TopicCommand.{TopicCommand}
 use Rattle.topic_core.specs.declared.dispatch.Outgoing.{Outgoing}
 use Rattle.gated_log.specs.declared.refusal.Refusal.{Refusal}
+use Rattle.topic_stores.specs.declared.batch.Batch.{Batch}
+use Rattle.topic_stores.specs.declared.error.WriteError.{WriteError}
 use Rattle.subscriptions.specs.declared.consumer.TooManyPermits.{TooManyPermits}
-use Rattle.topic_core.specs.Core.{Core, Topic}
+use Rattle.topic_core.specs.State.{Topic}
 use Rattle.reply_queues.specs.Replies.{due_to}
-use Rattle.topic_core.specs.Steps.{TopicStep, GrantStep, collected}
+use Rattle.topic_core.specs.Steps.{TopicStep, GrantStep, collected, left}
 use Rattle.topic_core.specs.Dispatch.{DispatchStep}
-use Rattle.topic_core.specs.Flush.{FlushStep}
+use Rattle.topic_core.specs.Flush.{TakeStep, FinishStep, FlushStep}
 use Rattle.topic_core.specs.Crashes.{ReopenStep, TopicCrash}
-use Rattle.session.specs.Broker.{with_core, left_topic}
 
 -- what a session takes from a topic: a reply, and behind a MESSAGE its entry
 pub record Handed : Type 0 where
@@ -31,21 +32,17 @@ pub data Move : Type 0 where
   Deliver : ℕ → Handed → Move  -- a session's consumer gets a message, which goes out
   Miss : ℕ → Handed → Move  -- it gets it, and there is no memory to write it
   Leave : ℕ → Move
-  Flush : Result ℕ Refusal → Move
+  Flush : Result ℕ WriteError → Move
+  Take : Result (Option Batch) WriteError → Move  -- a flush in parts begins
+  Finish : Result (Unit {0}) WriteError → Result ℕ WriteError → Move  -- it ends as its write did
   Reopen : Result (Unit {0}) Refusal → Move
   Crash : Move  -- the power was cut, and the topic was opened again
 
 -- a session takes its first due reply, behind which nothing stands
 pub record Takes (old : Topic) (handed : Handed) (new : Topic) : Type 0 where
   pub plain : handed.entry ≡ []
-  pub first : due_to handed.session old.core.queues ≡ handed.reply ∷ due_to handed.session new.core.queues
-  pub taken : new ≡ with_core old (collected old.core handed.session handed.reply)
-
--- the topic counts the permits of a session's consumer
-pub record Grants (old : Topic) (who id permits : ℕ) (result : Result (Unit {0}) TooManyPermits) (new : Topic) : Type 0 where
-  pub core : Core
-  pub step : GrantStep old.core who id permits result core
-  pub rest : new ≡ with_core old core
+  pub first : due_to handed.session old.queues ≡ handed.reply ∷ due_to handed.session new.queues
+  pub taken : new ≡ collected old handed.session handed.reply
 
 -- a session's consumer gets a message
 abbrev pub Sends : Topic → ℕ → Handed → Topic → Type 0
@@ -55,11 +52,13 @@ abbrev pub MoveStep : Topic → Move → Topic → Type 0
 MoveStep old (Command who command answer) new = TopicStep old who command answer new
 MoveStep old (Tell handed) new = Takes old handed new
 MoveStep old (Lose handed) new = Takes old handed new
-MoveStep old (Grant who id permits result) new = Grants old who id permits result new
+MoveStep old (Grant who id permits result) new = GrantStep old who id permits result new
 MoveStep old (Deliver id handed) new = Sends old id handed new
 MoveStep old (Miss id handed) new = Sends old id handed new
-MoveStep old (Leave who) new = new ≡ left_topic old who
+MoveStep old (Leave who) new = new ≡ left old who
 MoveStep old (Flush result) new = FlushStep old result new
+MoveStep old (Take result) new = TakeStep old result new
+MoveStep old (Finish written result) new = FinishStep old written result new
 MoveStep old (Reopen result) new = ReopenStep old result new
 MoveStep old Crash new = TopicCrash old new
 
@@ -78,6 +77,8 @@ told_on (Deliver id handed) = handed ∷ []
 told_on (Miss id handed) = []
 told_on (Leave who) = []
 told_on (Flush result) = []
+told_on (Take result) = []
+told_on (Finish written result) = []
 told_on (Reopen result) = []
 told_on Crash = []
 
@@ -94,5 +95,7 @@ is_crash (Deliver id handed) = false
 is_crash (Miss id handed) = false
 is_crash (Leave who) = false
 is_crash (Flush result) = false
+is_crash (Take result) = false
+is_crash (Finish written result) = false
 is_crash (Reopen result) = false
 is_crash Crash = true

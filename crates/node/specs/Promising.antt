@@ -20,9 +20,9 @@ use Rattle.topic_core.specs.declared.command.Answer.{Answer}
 use Rattle.topic_core.specs.declared.command.Answer.TheVariants.{Now, Later, Nothing, NoMemory}
 use Rattle.topic_core.specs.declared.command.TopicCommand.{TopicCommand}
 use Rattle.topic_core.specs.declared.command.TopicCommand.TheVariants as asked
-use Rattle.topic_core.specs.Core.{Core, Topic}
+use Rattle.topic_core.specs.State.{Topic}
 use Rattle.topic_core.specs.Steps.{key_of, position_at, receipt}
-use Rattle.node.specs.Moves.{Handed, Move, Command, Tell, Lose, Grant, Deliver, Miss, Leave, Flush, Reopen, Crash, Moves}
+use Rattle.node.specs.Moves.{Handed, Move, Command, Tell, Lose, Grant, Deliver, Miss, Leave, Flush, Take, Finish, Reopen, Crash, Moves}
 
 -- the subscription of this name is there, and these positions are acknowledged on it
 pub record Promise : Type 0 where
@@ -46,7 +46,7 @@ positions_of per_ledger ack = map (λ id. position_at per_ledger id) ack.ids
 
 -- What an accepted command's answer promises: of a SUBSCRIBE that the subscription is there, of an ACK that its positions
 -- are acknowledged on the consumer's subscription, and of other commands nothing.
-abbrev pub promise_of : Core → ℕ → TopicCommand → Option Promise
+abbrev pub promise_of : Topic → ℕ → TopicCommand → Option Promise
 promise_of t who (asked.Producer id request name) = None
 promise_of t who (asked.Send send) = None
 promise_of t who (asked.Subscribe subscribe) = Some (record { name = subscribe.subscription; acked = set.empty })
@@ -59,7 +59,7 @@ promise_of t who (asked.CloseConsumer close) = None
 promise_of t who (asked.Redeliver redeliver) = None
 
 -- the subscription that an accepted command removes
-abbrev pub removed_by : Core → ℕ → TopicCommand → Option (List ℕ)
+abbrev pub removed_by : Topic → ℕ → TopicCommand → Option (List ℕ)
 removed_by t who (asked.Producer id request name) = None
 removed_by t who (asked.Send send) = None
 removed_by t who (asked.Subscribe subscribe) = None
@@ -74,7 +74,7 @@ abbrev pub ack_reply : ℕ → Option ℕ → Option Reply
 ack_reply consumer None = None
 ack_reply consumer (Some request) = Some (AckResponse consumer None request)
 
-abbrev pub reply_to : Core → TopicCommand → Option Reply
+abbrev pub reply_to : Topic → TopicCommand → Option Reply
 reply_to t (asked.Producer id request name) = None
 reply_to t (asked.Send send) = Some (receipt t send.producer_id send.sequence_id)
 reply_to t (asked.Subscribe subscribe) = Some (Success subscribe.request_id)
@@ -156,13 +156,13 @@ told handed word = record {
 }
 
 -- what a command's answer adds
-abbrev pub answered : Core → ℕ → TopicCommand → Answer → Word → Word
+abbrev pub answered : Topic → ℕ → TopicCommand → Answer → Word → Word
 answered t who command (Now reply) word = word
 answered t who command Later word = with_owed (record { session = who; reply = reply_to t command; promise = promise_of t who command }) (released (removed_by t who command) word)
 answered t who command Nothing word = word
 answered t who command NoMemory word = word
 
-abbrev pub word_after : Core → Move → Word → Word
+abbrev pub word_after : Topic → Move → Word → Word
 word_after t (Command who command answer) word = answered t who command answer word
 word_after t (Tell handed) word = told handed word
 word_after t (Lose handed) word = record word { owed = without_first handed.session word.owed }
@@ -171,13 +171,15 @@ word_after t (Deliver id handed) word = word
 word_after t (Miss id handed) word = word
 word_after t (Leave who) word = record word { owed = filter (λ o. not (is_to who o)) word.owed }
 word_after t (Flush result) word = word
+word_after t (Take result) word = word
+word_after t (Finish written result) word = word
 word_after t (Reopen result) word = word
 word_after t Crash word = record word { owed = [] }
 
 -- what was told on moves, and what is owed after them
 abbrev pub word_by : (old : Topic) (moves : List Move) (new : Topic) → Moves old moves new → Word → Word
 word_by old [] new steps word = word
-word_by old (move ∷ moves) new steps word = word_by steps.0 moves new steps.2 (word_after old.core move word)
+word_by old (move ∷ moves) new steps word = word_by steps.0 moves new steps.2 (word_after old move word)
 
 -- a reply that a session takes is the first that it is owed: as it was promised, or as a failure makes it
 pub record IsInTurn (word : Word) (handed : Handed) : Type 0 where
@@ -196,10 +198,12 @@ InTurn word (Deliver id handed) = Unit {0}
 InTurn word (Miss id handed) = Unit {0}
 InTurn word (Leave who) = Unit {0}
 InTurn word (Flush result) = Unit {0}
+InTurn word (Take result) = Unit {0}
+InTurn word (Finish written result) = Unit {0}
 InTurn word (Reopen result) = Unit {0}
 InTurn word Crash = Unit {0}
 
 -- each reply of a topic's moves comes in its turn
 abbrev pub AreInTurn : (old : Topic) (moves : List Move) (new : Topic) → Moves old moves new → Word → Type 0
 AreInTurn old [] new steps word = Unit {0}
-AreInTurn old (move ∷ moves) new steps word = InTurn word move × AreInTurn steps.0 moves new steps.2 (word_after old.core move word)
+AreInTurn old (move ∷ moves) new steps word = InTurn word move × AreInTurn steps.0 moves new steps.2 (word_after old move word)

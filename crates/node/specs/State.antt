@@ -2,7 +2,10 @@
 use Rattle.std.specs.Prelude.{ℕ, ◌+◌, ◌^◌, ◌||◌, Option, Some, None, Result, Ok, Err, Bool, List, [], ◌∷◌, ◌++◌, length, nat_lt, nat_le, nat_eq, cond, remove, position, codes}
 use Rattle.gated_log.specs.declared.refusal.Refusal.{Refusal}
 use Rattle.gated_log.specs.declared.refusal.Refusal.TheVariants as refusal
-use Rattle.topic_core.specs.Core.{Topic}
+use Rattle.topic_stores.specs.declared.batch.Batch.{Batch}
+use Rattle.topic_stores.specs.declared.error.WriteError.{WriteError}
+use Rattle.topic_stores.specs.Writing.{refusal_of}
+use Rattle.topic_core.specs.State.{Topic}
 use Rattle.session.specs.declared.fault.Fault.{Fault}
 use Rattle.session.specs.declared.pumping.More.{More}
 use Rattle.session.specs.declared.pumping.PumpFault.{PumpFault}
@@ -12,8 +15,15 @@ use Rattle.session.specs.Client.{Client, new_client}
 use Rattle.node.specs.declared.event.Verdict.{Verdict}
 use Rattle.node.specs.declared.event.Verdict.TheVariants as verdict
 
+-- how far the parts of a flush are that comes in parts
+pub data Stage : Type 0 where
+  Resting : Stage  -- no such flush is under way
+  Taken : Stage  -- its batch is taken, and not written
+  Written : Result (Unit {0}) WriteError → Stage  -- it is written, and its write ended so
+
 pub record State : Type 0 where
   pub broker : Broker
+  pub stage : Stage  -- of a flush of its topic
   pub sessions : List Client  -- those that are open
   pub used : ℕ  -- how many numbers of sessions were given out
   pub faults : ℕ  -- how often the device has failed
@@ -57,7 +67,18 @@ verdict_of_pump (Err (Ended why)) = verdict.Ended why
 verdict_of_pump (Err Device) = verdict.Refused refusal.Device
 verdict_of_pump (Err (Damaged file offset)) = verdict.Refused (refusal.Damaged file offset)
 
--- what the end of a topic's flush or opening makes of an event
+-- what the end of a topic's opening makes of an event
 abbrev pub verdict_for : {A : Type 0} → Result A Refusal → Verdict
 verdict_for (Ok done) = verdict.Done
 verdict_for (Err why) = verdict.Refused why
+
+-- what the end of a flush, or of a part of one, makes of an event
+abbrev pub verdict_of_flush : {A : Type 0} → Result A WriteError → Verdict
+verdict_of_flush (Ok done) = verdict.Done
+verdict_of_flush (Err why) = verdict.Refused (refusal_of why)
+
+-- a flush whose batch was taken now, where there was one
+abbrev pub stage_after : Result (Option Batch) WriteError → Stage → Stage
+stage_after (Ok None) stage = stage
+stage_after (Ok (Some batch)) stage = Taken
+stage_after (Err why) stage = stage

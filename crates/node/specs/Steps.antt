@@ -2,7 +2,10 @@
 use Rattle.std.specs.Prelude.{◌≡◌, ◌<◌, ◌≤◌, ℕ, Option, Some, None, Result, Err, Bool, true, false, List, [], slice_get, slice_set, remove}
 use Rattle.gated_log.specs.declared.refusal.Refusal.{Refusal}
 use Rattle.gated_log.specs.declared.refusal.Refusal.TheVariants as refusal
-use Rattle.topic_core.specs.Core.{Topic}
+use Rattle.topic_stores.specs.declared.batch.Batch.{Batch}
+use Rattle.topic_stores.specs.declared.error.WriteError.{WriteError}
+use Rattle.topic_stores.specs.declared.error.WriteError.TheVariants.{Device}
+use Rattle.topic_core.specs.State.{Topic}
 use Rattle.topic_core.specs.Flush as topics
 use Rattle.topic_core.specs.Crashes as topics_again
 use Rattle.session.specs.declared.fault.Fault.{Fault}
@@ -12,9 +15,9 @@ use Rattle.session.specs.Broker.{Broker, topic_at, with_topic, left_all}
 use Rattle.session.specs.Client.{Client, Play, play}
 use Rattle.session.specs.Working.{FeedStep}
 use Rattle.session.specs.Pumping as pumping
-use Rattle.node.specs.State.{State, place_in, place_of, is_full, with_session, verdict_of, verdict_of_pump, verdict_for, settled}
+use Rattle.node.specs.State.{State, Stage, Resting, Taken, Written, place_in, place_of, is_full, with_session, verdict_of, verdict_of_pump, verdict_for, verdict_of_flush, stage_after, settled}
 use Rattle.node.specs.declared.event.Event.{Event}
-use Rattle.node.specs.declared.event.Event.TheVariants.{Open, Bytes, Pump, Close, Flush, Reopen}
+use Rattle.node.specs.declared.event.Event.TheVariants.{Open, Bytes, Pump, Close, Flush, Take, Write, Finish, Reopen}
 use Rattle.node.specs.declared.event.Verdict.{Verdict}
 use Rattle.node.specs.declared.event.Verdict.TheVariants as verdict
 use Rattle.node.specs.declared.event.Output.{Output}
@@ -44,6 +47,7 @@ OpenStep false old output new = OpensAs output.result old output new
 pub record Settles (old : State) (place : ℕ) (played : Play) (result : Verdict) (output : Output) (new : State) : Type 0 where
   pub answer : output ≡ record { bytes = played.out; result = result }
   pub broker : new.broker ≡ played.broker
+  pub stage : new.stage ≡ old.stage
   pub sessions : new.sessions ≡ settled played.client.fault (slice_set old.sessions place played.client) place
   pub used : new.used ≡ old.used
   pub faults : old.faults ≤ new.faults
@@ -72,13 +76,15 @@ pub record Closes (old : State) (place : ℕ) (output : Output) (new : State) : 
   pub stands : slice_get old.sessions place ≡ Some client
   pub answer : output ≡ record { bytes = []; result = verdict.Done }
   pub broker : new.broker ≡ left_all old.broker client.number
+  pub stage : new.stage ≡ old.stage
   pub sessions : new.sessions ≡ remove old.sessions place
   pub used : new.used ≡ old.used
   pub faults : old.faults ≤ new.faults
 
--- one topic becomes another, and the device may have failed in between
-pub record Moves (old : State) (topic : ℕ) (next : Topic) (new : State) : Type 0 where
+-- one topic becomes another, its flush is at this stage, and the device may have failed in between
+pub record Moves (old : State) (topic : ℕ) (next : Topic) (reached : Stage) (new : State) : Type 0 where
   pub broker : new.broker ≡ with_topic old.broker topic next
+  pub stage : new.stage ≡ reached
   pub sessions : new.sessions ≡ old.sessions
   pub used : new.used ≡ old.used
   pub faults : old.faults ≤ new.faults
@@ -86,11 +92,45 @@ pub record Moves (old : State) (topic : ℕ) (next : Topic) (new : State) : Type
 -- a topic is flushed; a failure of one that worked is told only where the device failed
 pub record Flushes (old : State) (topic : ℕ) (output : Output) (new : State) : Type 0 where
   pub flushed : Topic
-  pub result : Result ℕ Refusal
+  pub result : Result ℕ WriteError
   pub step : topics.FlushStep (topic_at old.broker topic) result flushed
-  pub answer : output ≡ record { bytes = []; result = verdict_for result }
-  pub moves : Moves old topic flushed new
-  pub cause : (topic_at old.broker topic).core.failed ≡ false → result ≡ Err refusal.Device → old.faults < new.faults
+  pub answer : output ≡ record { bytes = []; result = verdict_of_flush result }
+  pub moves : Moves old topic flushed old.stage new
+  pub cause : (topic_at old.broker topic).failed ≡ false → result ≡ Err Device → old.faults < new.faults
+
+-- a flush in parts begins: a batch is taken of all that waits, where there is something and no flush is under way
+pub record Takes (old : State) (topic : ℕ) (output : Output) (new : State) : Type 0 where
+  pub taken : Topic
+  pub result : Result (Option Batch) WriteError
+  pub step : topics.TakeStep (topic_at old.broker topic) result taken
+  pub answer : output ≡ record { bytes = []; result = verdict_of_flush result }
+  pub moves : Moves old topic taken (stage_after result old.stage) new
+
+-- the batch is written, which changes nothing of the topic; a failure is told only where the device failed
+pub record Writes (old : State) (topic : ℕ) (output : Output) (new : State) : Type 0 where
+  pub result : Result (Unit {0}) WriteError
+  pub answer : output ≡ record { bytes = []; result = verdict_of_flush result }
+  pub moves : Moves old topic (topic_at old.broker topic) (Written result) new
+  pub cause : result ≡ Err Device → old.faults < new.faults
+
+-- a flush in parts ends as its write did
+pub record Finishes (written : Result (Unit {0}) WriteError) (old : State) (topic : ℕ) (output : Output) (new : State) : Type 0 where
+  pub finished : Topic
+  pub result : Result ℕ WriteError
+  pub step : topics.FinishStep (topic_at old.broker topic) written result finished
+  pub answer : output ≡ record { bytes = []; result = verdict_of_flush result }
+  pub moves : Moves old topic finished Resting new
+
+-- only a batch that is taken and not written is written, and only one that is written is finished
+abbrev pub WritesIn : Stage → State → ℕ → Output → State → Type 0
+WritesIn Resting old topic output new = Only verdict.Unknown old output new
+WritesIn Taken old topic output new = Writes old topic output new
+WritesIn (Written result) old topic output new = Only verdict.Unknown old output new
+
+abbrev pub FinishesIn : Stage → State → ℕ → Output → State → Type 0
+FinishesIn Resting old topic output new = Only verdict.Unknown old output new
+FinishesIn Taken old topic output new = Only verdict.Unknown old output new
+FinishesIn (Written result) old topic output new = Finishes result old topic output new
 
 -- a failed topic is opened again; a failure is told only where the device failed
 pub record Reopens (old : State) (topic : ℕ) (output : Output) (new : State) : Type 0 where
@@ -98,7 +138,7 @@ pub record Reopens (old : State) (topic : ℕ) (output : Output) (new : State) :
   pub result : Result (Unit {0}) Refusal
   pub step : topics_again.ReopenStep (topic_at old.broker topic) result again
   pub answer : output ≡ record { bytes = []; result = verdict_for result }
-  pub moves : Moves old topic again new
+  pub moves : Moves old topic again old.stage new
   pub cause : result ≡ Err refusal.Device → old.faults < new.faults
 
 abbrev pub BytesStep : Option ℕ → State → List ℕ → Output → State → Type 0
@@ -117,6 +157,18 @@ abbrev pub FlushStep : Option ℕ → State → Output → State → Type 0
 FlushStep None old output new = Only verdict.Unknown old output new
 FlushStep (Some topic) old output new = Flushes old topic output new
 
+abbrev pub TakeStep : Option ℕ → State → Output → State → Type 0
+TakeStep None old output new = Only verdict.Unknown old output new
+TakeStep (Some topic) old output new = Takes old topic output new
+
+abbrev pub WriteStep : Option ℕ → State → Output → State → Type 0
+WriteStep None old output new = Only verdict.Unknown old output new
+WriteStep (Some topic) old output new = WritesIn old.stage old topic output new
+
+abbrev pub FinishStep : Option ℕ → State → Output → State → Type 0
+FinishStep None old output new = Only verdict.Unknown old output new
+FinishStep (Some topic) old output new = FinishesIn old.stage old topic output new
+
 abbrev pub ReopenStep : Option ℕ → State → Output → State → Type 0
 ReopenStep None old output new = Only verdict.Unknown old output new
 ReopenStep (Some topic) old output new = Reopens old topic output new
@@ -128,12 +180,19 @@ BrokerStep old (Bytes who bytes) output new = BytesStep (place_of old.sessions w
 BrokerStep old (Pump who) output new = PumpStep (place_of old.sessions who) old output new
 BrokerStep old (Close who) output new = CloseStep (place_of old.sessions who) old output new
 BrokerStep old (Flush topic) output new = FlushStep (place_in old.broker.topics topic) old output new
+BrokerStep old (Take topic) output new = TakeStep (place_in old.broker.topics topic) old output new
+BrokerStep old (Write topic) output new = WriteStep (place_in old.broker.topics topic) old output new
+BrokerStep old (Finish topic) output new = FinishStep (place_in old.broker.topics topic) old output new
 BrokerStep old (Reopen topic) output new = ReopenStep (place_in old.broker.topics topic) old output new
 
--- a topic while a flush of it goes on: all that waits is in doubt; one that has failed isn't written
-abbrev pub flushing : Bool → Topic → Topic
-flushing true t = t
-flushing false t = topics.in_flush t
+-- a topic while a flush of it goes on: all that waits is in doubt, where the flush has something to do; one that has failed isn't written
+abbrev pub flushing : Bool → Bool → Topic → Topic
+flushing true nothing t = t
+flushing false true t = t
+flushing false false t = topics.handed_on t
+
+abbrev pub in_flush : Topic → Topic
+in_flush t = flushing t.failed (topics.has_no_flush t) t
 
 -- the broker while an event goes on
 abbrev pub during : Broker → Event → Broker
@@ -141,5 +200,8 @@ during old Open = old
 during old (Bytes who bytes) = old
 during old (Pump who) = old
 during old (Close who) = old
-during old (Flush topic) = with_topic old topic (flushing (topic_at old topic).core.failed (topic_at old topic))
+during old (Flush topic) = with_topic old topic (in_flush (topic_at old topic))
+during old (Take topic) = old
+during old (Write topic) = old
+during old (Finish topic) = old
 during old (Reopen topic) = old

@@ -3,14 +3,14 @@ use Rattle.std.specs.Prelude.{◌≡◌, ℕ, ◌+◌, cond, nat_eq, Bool, true,
 use Rattle.commands.specs.declared.reply.Reply.{Reply}
 use Rattle.commands.specs.declared.reply.Reply.TheVariants.{Connected, ProducerSuccess, SendReceipt, SendError, Message, Success, Error, AckResponse, Pong}
 use Rattle.topic_core.specs.declared.dispatch.Outgoing.{Outgoing}
-use Rattle.topic_core.specs.Core.{Topic}
+use Rattle.topic_core.specs.State.{Topic}
 use Rattle.reply_queues.specs.Replies.{is_receipt}
 use Rattle.topic_core.specs.Steps.{receipts_of}
 use Rattle.session.specs.Broker.{Broker, topic_at}
 use Rattle.session.specs.Client.{plain, frames_of}
 use Rattle.node.specs.Moves.{Handed, outgoing, Move, Moves, told_by}
 use Rattle.node.specs.declared.event.Event.{Event}
-use Rattle.node.specs.declared.event.Event.TheVariants.{Open, Bytes, Pump, Close, Flush, Reopen}
+use Rattle.node.specs.declared.event.Event.TheVariants.{Open, Bytes, Pump, Close, Flush, Take, Write, Finish, Reopen}
 use Rattle.node.specs.declared.event.Happening.{Happening}
 use Rattle.node.specs.declared.event.Happening.TheVariants as happening
 use Rattle.node.specs.declared.event.Output.{Output}
@@ -73,6 +73,9 @@ hearer (Bytes who bytes) = Some who
 hearer (Pump who) = Some who
 hearer (Close who) = None
 hearer (Flush topic) = None
+hearer (Take topic) = None
+hearer (Write topic) = None
+hearer (Finish topic) = None
 hearer (Reopen topic) = None
 
 abbrev pub hearer_of : Happening → Option ℕ

@@ -15,6 +15,12 @@ pub enum Event {
     Close(u64),
     /// What waits on a topic is to be committed.
     Flush(u64),
+    /// A flush in parts begins: a batch of what waits on a topic is taken, where no flush of it is under way.
+    Take(u64),
+    /// The batch that was taken of a topic is to be written.
+    Write(u64),
+    /// The flush of a topic whose batch was written ends as its write did.
+    Finish(u64),
     /// A failed topic is to be opened again.
     Reopen(u64),
 }
@@ -29,7 +35,7 @@ pub enum Verdict {
     Refused(Refusal),
     /// No session can be opened, and nothing changed.
     Full,
-    /// There is no such session or topic, and nothing changed.
+    /// There is no such session, topic or batch, and nothing changed.
     Unknown,
 }
 

@@ -4,6 +4,7 @@
 #![tactic(auto)]
 
 mod event;
+mod flight;
 mod laws;
 mod node;
 mod octets;

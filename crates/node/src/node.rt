@@ -1,22 +1,21 @@
 ghost use Rattle.std.specs.Prelude.{◌≡◌, ◌<◌, ◌≤◌, [], length, IfSome, vec_len};
 ghost use Rattle.disk.specs.Disk.{Leaves};
 ghost use Rattle.session.specs.Broker.{Broker};
-ghost use Rattle.node.specs.State.{is_full, place_in, place_of, verdict_of, verdict_of_pump, settled};
+ghost use Rattle.node.specs.State.{is_full, place_in, place_of, verdict_of, verdict_of_pump, verdict_of_flush, settled};
 ghost use Rattle.node.specs.Standing.{state_of, disk_of, Stands, StandsForBroker, Passes};
-ghost use Rattle.node.specs.Steps.{OpenStep, BytesStep, PumpStep, CloseStep, FlushStep, ReopenStep, BrokerStep, during};
+ghost use Rattle.node.specs.Steps.{OpenStep, BytesStep, PumpStep, CloseStep, FlushStep, TakeStep, WriteStep, FinishStep, ReopenStep, BrokerStep, during};
 ghost use Rattle.node.specs.Runs.{Ran, Reached};
 ghost use Rattle.node.specs.declared.event.Event.TheVariants as event;
 
 use crate::event::{Event, Output, Verdict};
+use crate::flight::Flight;
 use crate::octets::Octets;
 use crate::topics::Topics;
-use cursor_store::SubStore;
 use disk::Shelf;
 use gated_log::Refusal;
-use managed_ledger::EntryStore;
 use session::{Fault, More, PumpFault, Session};
 use std::alloc::{AllocError, Global};
-use topic_core::{Stores, TopicStores};
+use topic_core::{TopicStore, WriteError};
 
 /// The most sessions that are open. Our own rule.
 const MOST_SESSIONS: usize = 256;
@@ -26,9 +25,9 @@ const MOST_NUMBERS: u64 = 1 << 62;
 
 /// A broker of one node, over its device.
 #[derive(Drop)]
-pub struct Node<E: EntryStore, C: SubStore, S> {
+pub struct Node<T: TopicStore, S> {
     pub(crate) alloc: Global,
-    pub(crate) topics: Topics<E, C, S>,
+    pub(crate) topics: Topics<T, S>,
     pub(crate) sessions: Vec<Session>,
     pub(crate) used: u64,
 }
@@ -60,6 +59,15 @@ fn verdict_of(fault: Option<Fault>) -> Verdict
     }
 }
 
+fn verdict_of_flush<A: Drop>(ended: &Result<A, WriteError>) -> Verdict
+    ensures { result ≡ verdict_of_flush ended.now }
+{
+    match ended {
+        Ok(_) => Verdict::Done,
+        Err(why) => Verdict::Refused((*why).into()),
+    }
+}
+
 fn verdict_of_pump(pumped: Result<More, PumpFault>) -> Verdict
     ensures { result ≡ verdict_of_pump pumped }
 {
@@ -83,7 +91,7 @@ fn settle(sessions: &mut Vec<Session>, place: usize, fault: Option<Fault>)
     }
 }
 
-impl<E: EntryStore, C: SubStore, S: Shelf> Node<E, C, S> {
+impl<T: TopicStore, S: Shelf> Node<T, S> {
     fn open_session(&mut self) -> Output
         ensures step { OpenStep (is_full (state_of S.disk self.old)) (state_of S.disk self.old) result (state_of S.disk self.new) }
         ensures passes { Passes S.disk self.old.topics self.new.topics }
@@ -158,7 +166,7 @@ impl<E: EntryStore, C: SubStore, S: Shelf> Node<E, C, S> {
             FlushStep (place_in (state_of S.disk self.old).broker.topics topic) (state_of S.disk self.old) result (state_of S.disk self.new) }
         ensures stands { Stands S.disk self.old → Stands S.disk self.new }
         ensures any_moment { Stands S.disk self.old →
-            Leaves (StandsForBroker E.stands C.stands (during (state_of S.disk self.old).broker (event.Flush topic))) (disk_of S.disk self.old) (disk_of S.disk self.new) }
+            Leaves (StandsForBroker T.stands (during (state_of S.disk self.old).broker (event.Flush topic))) (disk_of S.disk self.old) (disk_of S.disk self.new) }
         ensures numbered { self.new.topics.core.per_ledger ≡ self.old.topics.core.per_ledger }
     {
         if topic != 0 {
@@ -170,9 +178,82 @@ impl<E: EntryStore, C: SubStore, S: Shelf> Node<E, C, S> {
             shelf,
             ..
         } = &mut self.topics;
-        match core.flush(stores, shelf) {
-            Ok(_) => only(self.alloc, Verdict::Done),
-            Err(why) => only(self.alloc, Verdict::Refused(why)),
+        let flushed = core.flush(stores, shelf);
+        only(self.alloc, verdict_of_flush(&flushed))
+    }
+
+    fn take(&mut self, topic: u64) -> Output
+        ensures step { Stands S.disk self.old →
+            TakeStep (place_in (state_of S.disk self.old).broker.topics topic) (state_of S.disk self.old) result (state_of S.disk self.new) }
+        ensures stands { Stands S.disk self.old → Stands S.disk self.new }
+        ensures shelf { self.new.topics.shelf ≡ self.old.topics.shelf }
+        ensures numbered { self.new.topics.core.per_ledger ≡ self.old.topics.core.per_ledger }
+    {
+        if topic != 0 {
+            return only(self.alloc, Verdict::Unknown);
+        }
+        let Topics { core, flight, .. } = &mut self.topics;
+        match core.take_batch() {
+            Ok(Some(batch)) => {
+                *flight = Some(Flight::Taken(batch));
+                only(self.alloc, Verdict::Done)
+            }
+            Ok(None) => only(self.alloc, Verdict::Done),
+            Err(why) => only(self.alloc, Verdict::Refused(why.into())),
+        }
+    }
+
+    fn write(&mut self, topic: u64) -> Output
+        ensures step { Stands S.disk self.old →
+            WriteStep (place_in (state_of S.disk self.old).broker.topics topic) (state_of S.disk self.old) result (state_of S.disk self.new) }
+        ensures stands { Stands S.disk self.old → Stands S.disk self.new }
+        ensures any_moment { Stands S.disk self.old →
+            Leaves (StandsForBroker T.stands (state_of S.disk self.old).broker) (disk_of S.disk self.old) (disk_of S.disk self.new) }
+        ensures numbered { self.new.topics.core.per_ledger ≡ self.old.topics.core.per_ledger }
+    {
+        if topic != 0 {
+            return only(self.alloc, Verdict::Unknown);
+        }
+        let Topics {
+            stores,
+            flight,
+            shelf,
+            ..
+        } = &mut self.topics;
+        match flight.take() {
+            Some(Flight::Taken(batch)) => {
+                let written = stores.write(shelf, &batch);
+                let verdict = verdict_of_flush(&written);
+                *flight = Some(Flight::Written(batch, written));
+                only(self.alloc, verdict)
+            }
+            other => {
+                *flight = other;
+                only(self.alloc, Verdict::Unknown)
+            }
+        }
+    }
+
+    fn finish(&mut self, topic: u64) -> Output
+        ensures step { Stands S.disk self.old →
+            FinishStep (place_in (state_of S.disk self.old).broker.topics topic) (state_of S.disk self.old) result (state_of S.disk self.new) }
+        ensures stands { Stands S.disk self.old → Stands S.disk self.new }
+        ensures shelf { self.new.topics.shelf ≡ self.old.topics.shelf }
+        ensures numbered { self.new.topics.core.per_ledger ≡ self.old.topics.core.per_ledger }
+    {
+        if topic != 0 {
+            return only(self.alloc, Verdict::Unknown);
+        }
+        let Topics { core, flight, .. } = &mut self.topics;
+        match flight.take() {
+            Some(Flight::Written(batch, written)) => {
+                let finished = core.finish(batch, written);
+                only(self.alloc, verdict_of_flush(&finished))
+            }
+            other => {
+                *flight = other;
+                only(self.alloc, Verdict::Unknown)
+            }
         }
     }
 
@@ -181,7 +262,7 @@ impl<E: EntryStore, C: SubStore, S: Shelf> Node<E, C, S> {
             ReopenStep (place_in (state_of S.disk self.old).broker.topics topic) (state_of S.disk self.old) result (state_of S.disk self.new) }
         ensures stands { Stands S.disk self.old → Stands S.disk self.new }
         ensures any_moment { Stands S.disk self.old →
-            Leaves (StandsForBroker E.stands C.stands (state_of S.disk self.old).broker) (disk_of S.disk self.old) (disk_of S.disk self.new) }
+            Leaves (StandsForBroker T.stands (state_of S.disk self.old).broker) (disk_of S.disk self.old) (disk_of S.disk self.new) }
         ensures numbered { self.new.topics.core.per_ledger ≡ self.old.topics.core.per_ledger }
     {
         if topic != 0 {
@@ -206,7 +287,7 @@ impl<E: EntryStore, C: SubStore, S: Shelf> Node<E, C, S> {
             BrokerStep (state_of S.disk self.old) event result (state_of S.disk self.new) }
         ensures stands { Stands S.disk self.old → Stands S.disk self.new }
         ensures any_moment { Stands S.disk self.old →
-            Leaves (StandsForBroker E.stands C.stands (during (state_of S.disk self.old).broker event)) (disk_of S.disk self.old) (disk_of S.disk self.new) }
+            Leaves (StandsForBroker T.stands (during (state_of S.disk self.old).broker event)) (disk_of S.disk self.old) (disk_of S.disk self.new) }
         ensures numbered { Stands S.disk self.old → self.new.topics.core.per_ledger ≡ self.old.topics.core.per_ledger }
     {
         match event {
@@ -215,6 +296,9 @@ impl<E: EntryStore, C: SubStore, S: Shelf> Node<E, C, S> {
             Event::Pump(who) => self.pump(who),
             Event::Close(who) => self.close(who),
             Event::Flush(topic) => self.flush(topic),
+            Event::Take(topic) => self.take(topic),
+            Event::Write(topic) => self.write(topic),
+            Event::Finish(topic) => self.finish(topic),
             Event::Reopen(topic) => self.reopen(topic),
         }
     }
@@ -226,7 +310,7 @@ impl<E: EntryStore, C: SubStore, S: Shelf> Node<E, C, S> {
             Ran (state_of S.disk self.old) events.items outputs.old.items result outputs.new.items (state_of S.disk self.new) }
         ensures stands { Stands S.disk self.old → Stands S.disk self.new }
         ensures any_moment { Stands S.disk self.old →
-            Leaves (λ files. (broker : Broker) × Reached (state_of S.disk self.old) events.items broker × StandsForBroker E.stands C.stands broker files)
+            Leaves (λ files. (broker : Broker) × Reached (state_of S.disk self.old) events.items broker × StandsForBroker T.stands broker files)
             (disk_of S.disk self.old) (disk_of S.disk self.new) }
     {
         for event in events {

@@ -9,46 +9,42 @@ ghost use Rattle.node.specs.Runs.{StateCrash};
 
 use crate::node::Node;
 use crate::topics::Topics;
-use cursor_store::SubStore;
 use disk::{DeviceError, Shelf};
 use gated_log::Refusal;
-use managed_ledger::EntryStore;
 use std::alloc::Global;
-use topic_core::{Stores, TopicCore, TopicStores};
+use topic_core::{TopicCore, TopicStore};
 
 /// The topic that a node has until there are more.
 const SERVED: u16 = 0;
 
-impl<E: EntryStore, C: SubStore, S: Shelf + Drop> Node<E, C, S> {
+impl<T: TopicStore, S: Shelf + Drop> Node<T, S> {
     /// Makes the files of a node that nothing happened to, where a ledger id has `per_ledger` entry ids, whatever was in the
     /// topic's first segment and its slots. Takes no memory, and is refused only where the device failed. Until the `Ok` a
     /// crash may leave anything of these files.
     pub fn init(alloc: Global, per_ledger: u32, shelf: &mut S) -> Result<(), Refusal>
         ensures made { OnOk result ((S.disk shelf.old).honest →
-            (state : State) × (state.broker ≡ fresh_broker per_ledger) × AtRest E.stands C.stands state (S.disk shelf.new)) }
+            (state : State) × (state.broker ≡ fresh_broker per_ledger) × AtRest T.stands state (S.disk shelf.new)) }
         ensures refused { IfErr result (λ e. (e ≡ Device) × Failed (S.disk shelf.old) (S.disk shelf.new)) }
         ensures kept { Kept (S.disk shelf.old) (S.disk shelf.new) }
     {
-        let _stores: TopicStores<E, C> = TopicStores::create(alloc, shelf, SERVED, per_ledger)?;
+        let _stores = T::create(alloc, shelf, SERVED, per_ledger)?;
         Ok(())
     }
 
     /// Opens the node that the device holds, whatever a crash left of it, where a ledger id has `per_ledger` entry ids. Each
     /// entry is read once, for its hash slot. No session is open. A refusal hands the device back.
-    pub fn open(alloc: Global, per_ledger: u32, mut shelf: S) -> Result<Node<E, C, S>, (Refusal, S)>
+    pub fn open(alloc: Global, per_ledger: u32, mut shelf: S) -> Result<Node<T, S>, (Refusal, S)>
         requires numbered { 1 ≤ per_ledger }
-        ensures opened { (old : State) → AtRest E.stands C.stands old (S.disk shelf) → IsServed per_ledger old →
+        ensures opened { (old : State) → AtRest T.stands old (S.disk shelf) → IsServed per_ledger old →
             IfOk result (λ node. Stands S.disk node × StateCrash old (state_of S.disk node)) }
-        ensures refused { (old : State) → AtRest E.stands C.stands old (S.disk shelf) →
-            IfErr result (λ e. AtRest E.stands C.stands old (S.disk e.1) × ((e.0 ≡ NoMemory) ⊎ ((e.0 ≡ Device) × Failed (S.disk shelf) (S.disk e.1)))) }
+        ensures refused { (old : State) → AtRest T.stands old (S.disk shelf) →
+            IfErr result (λ e. AtRest T.stands old (S.disk e.1) × ((e.0 ≡ NoMemory) ⊎ ((e.0 ≡ Device) × Failed (S.disk shelf) (S.disk e.1)))) }
 
         // A crash at any moment leaves what it might have left before.
-        ensures any_moment { (old : State) → AtRest E.stands C.stands old (S.disk shelf) →
-            MatchResult result (λ node. Leaves (StandsForBroker E.stands C.stands old.broker) (S.disk shelf) (disk_of S.disk node)) (λ e. Leaves (StandsForBroker E.stands C.stands old.broker) (S.disk shelf) (S.disk e.1)) }
+        ensures any_moment { (old : State) → AtRest T.stands old (S.disk shelf) →
+            MatchResult result (λ node. Leaves (StandsForBroker T.stands old.broker) (S.disk shelf) (disk_of S.disk node)) (λ e. Leaves (StandsForBroker T.stands old.broker) (S.disk shelf) (S.disk e.1)) }
     {
-        let stores: TopicStores<E, C> = match TopicStores::open(
-            alloc, &mut shelf, SERVED, per_ledger,
-        ) {
+        let stores = match T::open(alloc, &mut shelf, SERVED, per_ledger) {
             Ok(stores) => stores,
             Err(why) => return Err((why, shelf)),
         };
@@ -62,6 +58,7 @@ impl<E: EntryStore, C: SubStore, S: Shelf + Drop> Node<E, C, S> {
                 alloc,
                 core,
                 stores,
+                flight: None,
                 shelf,
             },
             sessions: Vec::new(alloc),

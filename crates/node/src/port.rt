@@ -2,17 +2,14 @@ ghost use Rattle.std.specs.Prelude.{◌≡◌};
 
 use crate::topics::Topics;
 use commands::Reply;
-use cursor_store::SubStore;
 use disk::Shelf;
-use gated_log::Refusal;
-use managed_ledger::EntryStore;
 use session::{Found, Port};
-use topic_core::{Answer, Outgoing, Stores, TooManyPermits, TopicCommand, TopicStores};
+use topic_core::{Answer, Outgoing, ReadError, TooManyPermits, TopicCommand, TopicStore};
 
-impl<E: EntryStore, C: SubStore, S: Shelf> Port for Topics<E, C, S> {
+impl<T: TopicStore, S: Shelf> Port for Topics<T, S> {
     ghost use Rattle.node.specs.Standing.{broker_of, TopicsStand, Passes};
 
-    ghost broker = { broker_of S.disk };
+    ghost broker = { broker_of };
 
     ghost count = { λ _. 1 };
 
@@ -55,9 +52,9 @@ impl<E: EntryStore, C: SubStore, S: Shelf> Port for Topics<E, C, S> {
         _topic: u64,
         who: u64,
         consumer_id: u64,
-    ) -> Result<Option<Outgoing>, Refusal> {
+    ) -> Result<Option<Outgoing>, ReadError> {
         self.core
-            .dispatch(&self.stores.entries, &mut self.shelf, who, consumer_id)
+            .dispatch(&self.stores, &mut self.shelf, who, consumer_id)
     }
 
     fn collect(&mut self, _topic: u64, who: u64) -> Option<Reply> {

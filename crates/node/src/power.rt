@@ -9,24 +9,22 @@ ghost use Rattle.node.specs.declared.event.Happening.TheVariants as happening;
 use crate::event::{Event, Happening, Output, Verdict};
 use crate::node::{Node, only};
 use crate::status::TopicStatus;
-use cursor_store::SubStore;
 use disk::{CrashShelf, Fuse};
-use managed_ledger::EntryStore;
 use std::alloc::{AllocError, Global};
-use topic_core::{Stores, TopicStores};
+use topic_core::TopicStore;
 
 /// A machine: its node where that works, or its device alone where the node is down.
 #[derive(Drop)]
-pub enum Machine<E: EntryStore, C: SubStore, S> {
-    Up(Node<E, C, S>),
+pub enum Machine<T: TopicStore, S> {
+    Up(Node<T, S>),
     Down(S),
 }
 
-impl<E: EntryStore, C: SubStore, S: CrashShelf + Drop> Machine<E, C, S> {
+impl<T: TopicStore, S: CrashShelf + Drop> Machine<T, S> {
     /// The power comes, and the node is opened. The output has no bytes.
-    pub fn start(alloc: Global, per_ledger: u32, shelf: S) -> (Machine<E, C, S>, Output)
+    pub fn start(alloc: Global, per_ledger: u32, shelf: S) -> (Machine<T, S>, Output)
         requires numbered { 1 ≤ per_ledger }
-        ensures { (old : State) → AtRest E.stands C.stands old (S.disk shelf) → IsServed per_ledger old →
+        ensures { (old : State) → AtRest T.stands old (S.disk shelf) → IsServed per_ledger old →
             (life : Life) × OpeningStep old result.1 life × Holds S.disk per_ledger result.0 life }
     {
         match Node::open(alloc, per_ledger, shelf) {
@@ -37,7 +35,7 @@ impl<E: EntryStore, C: SubStore, S: CrashShelf + Drop> Machine<E, C, S> {
 
     /// The device alone, with what the node wrote.
     pub fn into_shelf(self) -> S
-        ensures { (per_ledger : ℕ) (life : Life) → Holds S.disk per_ledger self life → AtRest E.stands C.stands life.state (S.disk result) }
+        ensures { (per_ledger : ℕ) (life : Life) → Holds S.disk per_ledger self life → AtRest T.stands life.state (S.disk result) }
     {
         match self {
             Machine::Up(node) => node.into_shelf(),
@@ -46,7 +44,7 @@ impl<E: EntryStore, C: SubStore, S: CrashShelf + Drop> Machine<E, C, S> {
     }
 
     /// The power is cut, and comes again.
-    pub fn crash(self, alloc: Global, per_ledger: u32) -> (Machine<E, C, S>, Output)
+    pub fn crash(self, alloc: Global, per_ledger: u32) -> (Machine<T, S>, Output)
         requires numbered { 1 ≤ per_ledger }
         ensures { (old : Life) → Holds S.disk per_ledger self old →
             (new : Life) × HappeningStep old (happening.Crash) result.1 new × Holds S.disk per_ledger result.0 new }
@@ -93,7 +91,7 @@ impl<E: EntryStore, C: SubStore, S: CrashShelf + Drop> Machine<E, C, S> {
         alloc: Global,
         per_ledger: u32,
         happening: Happening,
-    ) -> (Machine<E, C, S>, Output)
+    ) -> (Machine<T, S>, Output)
         requires numbered { 1 ≤ per_ledger }
         ensures { (old : Life) → Holds S.disk per_ledger self old →
             (new : Life) × HappeningStep old happening result.1 new × Holds S.disk per_ledger result.0 new }
@@ -109,15 +107,15 @@ impl<E: EntryStore, C: SubStore, S: CrashShelf + Drop> Machine<E, C, S> {
 }
 
 /// Opens the node that the device holds, and works through events and crashes, one output each after that of the opening.
-pub fn drive<E: EntryStore, C: SubStore, S: CrashShelf + Drop>(
+pub fn drive<T: TopicStore, S: CrashShelf + Drop>(
     alloc: Global,
     per_ledger: u32,
     shelf: S,
     happenings: Vec<Happening>,
     outputs: &mut Vec<Output>,
-) -> Result<Machine<E, C, S>, AllocError>
+) -> Result<Machine<T, S>, AllocError>
     requires numbered { 1 ≤ per_ledger }
-    ensures { (first : State) → AtRest E.stands C.stands first (S.disk shelf) → IsServed per_ledger first →
+    ensures { (first : State) → AtRest T.stands first (S.disk shelf) → IsServed per_ledger first →
         Drove S.disk per_ledger first happenings.items outputs.old.items result outputs.new.items }
 {
     outputs.reserve(1)?;

@@ -1,8 +1,6 @@
 // Each output was worked out by hand from the protocol.
-use cursor_store::CursorStore;
 use disk::{CursorSlot, FileId, Fuse, Shelf};
 use disk_mem::MemShelf;
-use managed_ledger::ManagedLedger;
 use node::{
     Event, Fault, Happening, Machine, Node, Octets, Output, Refusal, Verdict, drive, lives_account,
     lives_unfold, messages_are_admitted, moves_publish, receipts_are_covered, receipts_are_found,
@@ -10,11 +8,12 @@ use node::{
 };
 use std::alloc::{AllocError, Global};
 use std::test::Fail;
+use topic_core::FileStores;
 
 /// A node and a machine whose device is in memory.
-type MemNode = Node<ManagedLedger, CursorStore, MemShelf>;
+type MemNode = Node<FileStores, MemShelf>;
 
-type MemMachine = Machine<ManagedLedger, CursorStore, MemShelf>;
+type MemMachine = Machine<FileStores, MemShelf>;
 
 const CONNECT: [u8; 17] = [
     0, 0, 0, 0x0d, 0, 0, 0, 9, 8, 2, 0x12, 5, 0x0a, 1, 0x63, 0x20, 5,

@@ -52,7 +52,7 @@ status_lines number entries segments statuses =
 -- the status lines of the topic, with the entries of its ledger, and of its subscriptions; a node that is down has none
 abbrev pub StatusOf : Bool → State → List ℕ → Type 0
 StatusOf true state text =
-    (segments : ℕ) × (statuses : List SubscriptionStatus) × AreStatuses (topic_at state.broker 0).core.subs.subs statuses
+    (segments : ℕ) × (statuses : List SubscriptionStatus) × AreStatuses (topic_at state.broker 0).subs.subs statuses
     × (text ≡ status_lines 0 (length (topic_at state.broker 0).ledger) segments statuses)
 StatusOf false state text = text ≡ []
 

@@ -35,6 +35,9 @@ with numbers in decimal and bytes in hex:
   pump S          session S collects its replies and messages
   close S         session S ends
   flush T         topic T commits what waits; topics are numbered from 0
+  take T          a flush of topic T begins that comes in parts: a batch is taken of what waits
+  write T         the batch that was taken is written
+  finish T        that flush ends as its write did
   fail K          the device's Kth write, cut or sync from now fails, once
   stop K          that one and all later ones fail, until the next crash
   crash old       the power is cut, and the node starts again: of each file what its last
@@ -45,8 +48,8 @@ with numbers in decimal and bytes in hex:
 
 For each line one line is printed: its number, the bytes out in hex or `-`, and the result: `ok`,
 `F1` to `F9` for a fault that ended the session, `S1` to `S6` for a refusal of the stores (`S1` a
-failed device, `S2` a damaged file, `S5` want of memory), `full`, or `none` for a session or topic
-that isn't there. A status line of a topic is `T`, its number, its entries, its segment files and
+failed device, `S2` a damaged file, `S5` want of memory), `full`, or `none` for a session, topic
+or batch that isn't there. A status line of a topic is `T`, its number, its entries, its segment files and
 its name; one of a subscription is `S`, its topic's number, its mark-delete position, how many
 ranges it acknowledged behind that, and its name.";
 

@@ -10,18 +10,17 @@ ghost use Rattle.pulsar_node.specs.Replay.{printed_output, status_lines as lines
 use crate::event::{Task, outcome_of, task_of};
 use crate::fault::ProgramFault;
 use crate::replay::write_whole;
-use cursor_store::CursorStore;
 use disk::{CrashForm, Fuse, Shelf};
 use disk_mem::MemShelf;
-use managed_ledger::ManagedLedger;
 use node::{Event, Machine, Node, Output, TopicStatus};
 use script::{Line, Outcome, StorageRefusal, output_line, subscription_line, topic_line};
 use session::SERVED_TOPIC;
 use std::alloc::{AllocError, Global};
 use std::io::Write;
+use topic_core::FileStores;
 
 /// A broker whose device is in memory.
-type Broker = Machine<ManagedLedger, CursorStore, MemShelf>;
+type Broker = Machine<FileStores, MemShelf>;
 
 /// A replay under way.
 #[derive(Drop)]
@@ -55,7 +54,7 @@ impl Replay {
         ensures numbered { IfOk result (λ replay. 1 ≤ replay.per_ledger) }
     {
         let mut shelf = MemShelf::new(alloc);
-        Node::<ManagedLedger, CursorStore, MemShelf>::init(alloc, per_ledger, &mut shelf)?;
+        Node::<FileStores, MemShelf>::init(alloc, per_ledger, &mut shelf)?;
         let (machine, output) = Machine::start(alloc, per_ledger, shelf);
         write_output(alloc, 1, &output, writer)?;
         Ok(Replay {

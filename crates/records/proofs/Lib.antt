@@ -1,3 +1,4 @@
 pub mod Maps
 pub mod Reading
 pub mod Sound
+pub mod Present

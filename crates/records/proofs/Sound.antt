@@ -21,7 +21,7 @@ sound_empty = record {
   named = λ q is. absurd (let e : is_some (map.get (map.empty {K = List ℕ} {X = Positions} {R = slice_cmp nat_cmp}) q) ≡ false = ap is_some (map.get-empty (slice_cmp nat_cmp) q) in cc);
 }
 
-same_name : (q name : List ℕ) → eq_by_cmp (slice_cmp nat_cmp) q name ≡ true → q ≡ name
+pub same_name : (q name : List ℕ) → eq_by_cmp (slice_cmp nat_cmp) q name ≡ true → q ≡ name
 same_name q name is = map.slice_cmp-IsAntisymmetric map.nat_cmp-IsAntisymmetric q name (equal _ is)
   where
     equal : (o : _) → is_eq o ≡ true → o ≡ Equal

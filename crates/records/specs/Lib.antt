@@ -6,3 +6,4 @@ pub mod Reading
 pub mod Spelled
 pub mod Applied
 pub mod Meaning
+pub mod Present

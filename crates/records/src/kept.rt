@@ -9,19 +9,18 @@ ghost use Rattle.cursor.specs.Positions.{Positions, below};
 ghost use Rattle.records.specs.declared.kept_cursor.KeptCursor.{KeptCursor as Copied};
 ghost use Rattle.records.specs.Names.{is_subscription_name};
 ghost use Rattle.records.specs.Maps.{by_bytes, map_of};
+ghost use Rattle.records.specs.Present.{AreNamesOf, texts};
 ghost use Rattle.records.specs.Records.{IsFormed, AreFormed, HasPositions, after, after_all, acknowledged, changed, name_of};
 
 use crate::kept_cursor::KeptCursor;
 use crate::name::{Name, is_subscription_name};
+use crate::names::{MOST_SUBSCRIPTIONS, Names, name_of};
 use crate::record::Record;
 use cursor::Cursor;
 use std::alloc::{AllocError, Global};
 use std::collections::BTreeMap;
 use std::collections::btree_map::Iter;
 use std::marker::Model;
-
-// Our own rule: the most subscriptions of a topic.
-const MOST_SUBSCRIPTIONS: usize = 64;
 
 /// The acknowledged positions of each durable subscription of a topic, by its name.
 #[derive(Drop)]
@@ -133,6 +132,31 @@ impl KeptSubscriptions {
         }
     }
 
+    /// Whether records are of their form there, each at its place behind the ones before it, beside a ledger of so many
+    /// entries. Takes no memory.
+    pub fn are_formed(&self, changes: &[Record], entries: u64) -> bool
+        ensures { IsTrue result ↔ AreFormed entries self.now changes.now }
+    {
+        let mut names = self.names();
+        for change in changes {
+            if !names.pass(change, entries) {
+                return false;
+            }
+        }
+        true
+    }
+
+    // The names that are there.
+    fn names(&self) -> Names<'_>
+        ensures { AreNamesOf self.now (texts result) }
+    {
+        let mut names = Names::new();
+        for (name, _) in &self.cursors {
+            names.push(name.as_str());
+        }
+        names
+    }
+
     /// Makes what a record says of them. A refusal changes nothing.
     pub fn apply(&mut self, change: &Record) -> Result<(), AllocError>
         requires { IsFormed (2 ^ 62) self.old change.now }
@@ -168,19 +192,6 @@ impl KeptSubscriptions {
             self.apply(change)?;
         }
         Ok(())
-    }
-}
-
-// The subscription that a record is of.
-fn name_of(change: &Record) -> &Name
-    ensures { result.now ≡ name_of change.now }
-{
-    match change {
-        Record::Made { name, .. } => name,
-        Record::Removed { name } => name,
-        Record::Acknowledged { name, .. } => name,
-        Record::AcknowledgedThrough { name, .. } => name,
-        Record::AcknowledgedRange { name, .. } => name,
     }
 }
 

@@ -6,6 +6,7 @@
 mod kept;
 mod kept_cursor;
 mod name;
+mod names;
 mod read;
 mod record;
 mod write;

@@ -24,6 +24,16 @@ impl Model for Name {
     ghost view = { λ n. string_bytes n.text };
 }
 
+impl Clone for Name {
+    ghost is_clone = { λ old new. new ≡ old };
+
+    fn clone(&self) -> Result<Self, AllocError> {
+        Ok(Name {
+            text: self.text.clone()?,
+        })
+    }
+}
+
 impl Name {
     ghost use Rattle.std.specs.Prelude.{◌≡◌, IfOk};
 

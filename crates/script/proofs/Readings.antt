@@ -17,7 +17,7 @@ use Rattle.std.proofs.lemmas.Str.Parse.{not_in_digits}
 use Rattle.hex.specs.Hex.{decode_of, decode_sized}
 use Rattle.hex.proofs.HexLemmas.{decode_of-ok, decode_sized-ok, decode_sized-twice}
 use Rattle.script.specs.declared.line.Line.{Line}
-use Rattle.script.specs.declared.line.Line.TheVariants.{Open, Bytes, Pump, Close, Flush, Fail, Stop, Crash, Reopen, Status}
+use Rattle.script.specs.declared.line.Line.TheVariants.{Open, Bytes, Pump, Close, Flush, Take, Write, Finish, Fail, Stop, Crash, Reopen, Status}
 use Rattle.script.specs.declared.line.CrashAs.{CrashAs}
 use Rattle.script.specs.declared.line.CrashAs.TheVariants.{Old, New, Fill}
 use Rattle.script.specs.declared.script.Script.{Script}
@@ -150,9 +150,12 @@ event_is text number n line word spelled is =
     one_of (codes "pump") Pump (λ h. h) _ (
     one_of (codes "close") Close (λ h. h) _ (
     one_of (codes "flush") Flush (λ h. h) _ (
+    one_of (codes "take") Take (λ h. h) _ (
+    one_of (codes "write") Write (λ h. h) _ (
+    one_of (codes "finish") Finish (λ h. h) _ (
     one_of (codes "fail") Fail (λ h. h) _ (
     one_of (codes "stop") Stop (λ h. h) _ (
-    one_of (codes "reopen") Reopen (λ h. h) _ (λ h. cc h))))))
+    one_of (codes "reopen") Reopen (λ h. h) _ (λ h. cc h)))))))))
   where
     one_of : (known : List ℕ) (event : ℕ → Line) → (IsNumbered text known n → IsLine text (event n)) → (others : Option Line) → (others ≡ Some line → IsLine text line)
         → cond (bytes_eq word known) (Some (event n)) others ≡ Some line → IsLine text line
@@ -248,6 +251,18 @@ line_of-flush : (number : List ℕ) → line_of (codes "flush" ++ 32 ∷ number)
 unfolding line_of after
 line_of-flush number = refl
 
+line_of-take : (number : List ℕ) → line_of (codes "take" ++ 32 ∷ number) ≡ numbered_line_of (codes "take" ++ 32 ∷ number)
+unfolding line_of after
+line_of-take number = refl
+
+line_of-write : (number : List ℕ) → line_of (codes "write" ++ 32 ∷ number) ≡ numbered_line_of (codes "write" ++ 32 ∷ number)
+unfolding line_of after
+line_of-write number = refl
+
+line_of-finish : (number : List ℕ) → line_of (codes "finish" ++ 32 ∷ number) ≡ numbered_line_of (codes "finish" ++ 32 ∷ number)
+unfolding line_of after
+line_of-finish number = refl
+
 line_of-fail : (number : List ℕ) → line_of (codes "fail" ++ 32 ∷ number) ≡ numbered_line_of (codes "fail" ++ 32 ∷ number)
 unfolding line_of after
 line_of-fail number = refl
@@ -274,6 +289,9 @@ line_of-only text (Bytes session bytes) h = ap line_of h.2 ∙ line_of-bytes (h.
 line_of-only text (Pump session) h = numbered_only text (codes "pump") session refl line_of-pump h
 line_of-only text (Close session) h = numbered_only text (codes "close") session refl line_of-close h
 line_of-only text (Flush topic) h = numbered_only text (codes "flush") topic refl line_of-flush h
+line_of-only text (Take topic) h = numbered_only text (codes "take") topic refl line_of-take h
+line_of-only text (Write topic) h = numbered_only text (codes "write") topic refl line_of-write h
+line_of-only text (Finish topic) h = numbered_only text (codes "finish") topic refl line_of-finish h
 line_of-only text (Fail k) h = numbered_only text (codes "fail") k refl line_of-fail h
 line_of-only text (Stop k) h = numbered_only text (codes "stop") k refl line_of-stop h
 line_of-only text (Crash form) h = ap line_of h.1 ∙ line_of-crash h.0 ∙ ap (option_map Crash) (crash_as_only h.0 form h.2)

@@ -3,7 +3,7 @@ use Rattle.std.specs.Prelude.{◌≡◌, ℕ, ◌<◌, ◌≤◌, ◌^◌, List,
 use Rattle.std.specs.Str.Parse.{IsNumeral, digits_value}
 use Rattle.hex.specs.Hex.{decode_of}
 use Rattle.script.specs.declared.line.Line.{Line}
-use Rattle.script.specs.declared.line.Line.TheVariants.{Open, Bytes, Pump, Close, Flush, Fail, Stop, Crash, Reopen, Status}
+use Rattle.script.specs.declared.line.Line.TheVariants.{Open, Bytes, Pump, Close, Flush, Take, Write, Finish, Fail, Stop, Crash, Reopen, Status}
 use Rattle.script.specs.declared.line.CrashAs.{CrashAs}
 use Rattle.script.specs.declared.line.CrashAs.TheVariants.{Old, New, Fill}
 
@@ -37,6 +37,9 @@ IsLine text (Bytes session bytes) =
 IsLine text (Pump session) = IsNumbered text (codes "pump") session
 IsLine text (Close session) = IsNumbered text (codes "close") session
 IsLine text (Flush topic) = IsNumbered text (codes "flush") topic
+IsLine text (Take topic) = IsNumbered text (codes "take") topic
+IsLine text (Write topic) = IsNumbered text (codes "write") topic
+IsLine text (Finish topic) = IsNumbered text (codes "finish") topic
 IsLine text (Fail k) = IsNumbered text (codes "fail") k
 IsLine text (Stop k) = IsNumbered text (codes "stop") k
 IsLine text (Crash form) = (words : List ℕ) × (text ≡ codes "crash " ++ words) × IsCrashAs words form

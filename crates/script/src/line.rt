@@ -33,6 +33,12 @@ pub enum Line {
     Close(u64),
     /// `flush T`: what waits on a topic is to be committed.
     Flush(u64),
+    /// `take T`: a flush of a topic begins that comes in parts: a batch of what waits is taken.
+    Take(u64),
+    /// `write T`: the batch that was taken is written.
+    Write(u64),
+    /// `finish T`: that flush ends as its write did.
+    Finish(u64),
     /// `fail K`: this device call from now fails, once.
     Fail(u64),
     /// `stop K`: this device call from now and all later ones fail, until the next crash.
@@ -108,6 +114,15 @@ fn event(word: &[u8], number: u64) -> Option<Line>
     }
     if word == b"flush".as_slice() {
         return Some(Line::Flush(number));
+    }
+    if word == b"take".as_slice() {
+        return Some(Line::Take(number));
+    }
+    if word == b"write".as_slice() {
+        return Some(Line::Write(number));
+    }
+    if word == b"finish".as_slice() {
+        return Some(Line::Finish(number));
     }
     if word == b"fail".as_slice() {
         return Some(Line::Fail(number));

@@ -149,9 +149,9 @@ fn finds_a_bad_line_of_a_device(rt: HostRuntime) -> Result<(), Fail> {
         b"init 1\ncrash fill  07\n".as_slice(),
         b"init 1\ncrash fill 07 \n".as_slice(),
         b"init 1\nfailread 1\n".as_slice(),
-        b"init 1\ntake 0\n".as_slice(),
-        b"init 1\nwrite 0\n".as_slice(),
-        b"init 1\nfinish 0\n".as_slice(),
+        b"init 1\ntake\n".as_slice(),
+        b"init 1\nwrite\n".as_slice(),
+        b"init 1\nfinish\n".as_slice(),
     ] {
         assert_eq!(rt; first_bad(&rt, script)?, Some(2), "{script:?}");
     }

@@ -8,7 +8,7 @@ use Rattle.subscriptions.specs.Steps as subscriptions
 use Rattle.commands.specs.declared.reply.Reply.TheVariants.{SendError, Error, AckResponse}
 use Rattle.commands.specs.declared.server_error.ServerError.{ServerError}
 use Rattle.commands.specs.declared.server_error.ServerError.TheVariants.{NotAllowedError, ConsumerNotFound}
-use Rattle.topic_core.specs.Core.{Topic, opened}
+use Rattle.topic_core.specs.State.{Topic, opened}
 use Rattle.reply_queues.specs.Replies.{due_to}
 use Rattle.topic_core.specs.declared.command.Send.{Send}
 use Rattle.topic_core.specs.declared.command.TopicCommand.{TopicCommand}
@@ -22,9 +22,9 @@ use Rattle.commands.specs.declared.producing.CloseProducer.{CloseProducer}
 use Rattle.commands.specs.declared.consuming.AckType.{AckType}
 use Rattle.ids.specs.declared.message_id.MessageIdData.{MessageIdData}
 use Rattle.holds.specs.declared.consumer.ConsumerKey.{ConsumerKey}
-use Rattle.topic_core.specs.Steps.{TopicStep, GrantStep, has_consumer, ack_refused}
+use Rattle.topic_core.specs.Steps.{TopicStep, GrantStep, has_consumer, ack_refused, left}
 use Rattle.topic_core.specs.Dispatch.{Admits}
-use Rattle.session.specs.Broker.{Broker, fresh, topic_at, with_topic, due_at, left_topic, CommandStep, GrantAt}
+use Rattle.session.specs.Broker.{Broker, fresh, topic_at, with_topic, due_at, CommandStep, GrantAt}
 use Rattle.session.specs.Client.{Play, SaysAlone}
 use Rattle.session.specs.Producing.{Asks, close_command}
 use Rattle.session.specs.Consuming.{RefusesAck, ack_command, unsubscribe_command}
@@ -34,7 +34,7 @@ pub topic_at-absent : (b : Broker) (number : ℕ) → length b.topics ≤ number
 topic_at-absent b number h = get_or_past b.topics number (fresh b.per_ledger) h
 
 pub due_at-absent : (b : Broker) (number who : ℕ) → length b.topics ≤ number → due_at b number who ≡ []
-due_at-absent b number who h = ap (λ (t : Topic). due_to who t.core.queues) (topic_at-absent b number h)
+due_at-absent b number who h = ap (λ (t : Topic). due_to who t.queues) (topic_at-absent b number h)
 
 -- nothing changes where the topic of a number is set to what it is
 pub with_topic-same : (b : Broker) (number : ℕ) → with_topic b number (topic_at b number) ≡ b
@@ -62,23 +62,23 @@ none_opened = ap (λ es. subscriptions.opened_all es) none_kept-entries
 
 -- a topic over no entry and no durable subscription
 abbrev over : ℕ → Subscriptions → Topic
-over n subs = record { core = record (opened n 0 [] none_kept) { subs = subs }; ledger = []; kept = none_kept }
+over n subs = record (opened n [] [] none_kept) { subs = subs }
 
 -- a fresh topic has no subscription
 fresh-over : (n : ℕ) → fresh n ≡ over n no_subs
 fresh-over n = ap (λ subs. over n subs) none_opened
 
 -- nobody leaves it
-pub fresh-left : (n who : ℕ) → left_topic (fresh n) who ≡ fresh n
-fresh-left n who = let P : Topic → Type 0 = λ t. left_topic t who ≡ t in subst P (sym (fresh-over n)) refl
+pub fresh-left : (n who : ℕ) → left (fresh n) who ≡ fresh n
+fresh-left n who = let P : Topic → Type 0 = λ t. left t who ≡ t in subst P (sym (fresh-over n)) refl
 
 -- nobody has a consumer on a topic that isn't there
-pub has_consumer-absent : (b : Broker) (number who id : ℕ) → length b.topics ≤ number → has_consumer (topic_at b number).core who id ≡ false
-has_consumer-absent b number who id h = ap (λ (t : Topic). has_consumer t.core who id) (topic_at-absent b number h ∙ fresh-over b.per_ledger)
+pub has_consumer-absent : (b : Broker) (number who id : ℕ) → length b.topics ≤ number → has_consumer (topic_at b number) who id ≡ false
+has_consumer-absent b number who id h = ap (λ (t : Topic). has_consumer t who id) (topic_at-absent b number h ∙ fresh-over b.per_ledger)
 
 -- a fresh topic refuses a SEND
 pub fresh-refuses : (n who : ℕ) (send : Send) → TopicStep (fresh n) who (command.Send send) (Now (SendError send.producer_id send.sequence_id NotAllowedError)) (fresh n)
-fresh-refuses n who send = record { core = (refl, refl); ledger = refl; kept = refl }
+fresh-refuses n who send = (refl, refl)
 
 -- so a SEND to a topic that isn't there is refused
 pub absent-refuses : (b : Broker) (number who : ℕ) (send : Send) → length b.topics ≤ number → CommandStep b number who (command.Send send) (Now (SendError send.producer_id send.sequence_id NotAllowedError)) b
@@ -101,8 +101,8 @@ asks-absent old number send new h s = record {
 -- a topic without subscriptions refuses an ACK
 over-acks : (n who id : ℕ) (kind : AckType) (ids : List MessageIdData) (request : Option ℕ) →
     TopicStep (over n no_subs) who (command.Ack (record { consumer_id = id; ack_type = kind; ids = ids; request_id = request })) (ack_refused id request ConsumerNotFound) (over n no_subs)
-over-acks n who id kind ids None = record { core = (refl, refl); ledger = refl; kept = refl }
-over-acks n who id kind ids (Some request) = record { core = (refl, refl); ledger = refl; kept = refl }
+over-acks n who id kind ids None = (refl, refl)
+over-acks n who id kind ids (Some request) = (refl, refl)
 
 -- so does a fresh one
 fresh-acks : (n who id : ℕ) (kind : AckType) (ids : List MessageIdData) (request : Option ℕ) →
@@ -142,15 +142,15 @@ acks-absent old number asked new h r = acks-answer asked.request_id old number a
 
 -- a topic without producers refuses a CLOSE_PRODUCER
 over-closes : (n who : ℕ) (asked : CloseProducer) → TopicStep (over n no_subs) who (close_command asked) (Now (Error asked.request_id NotAllowedError)) (over n no_subs)
-over-closes n who asked = record { core = (refl, refl); ledger = refl; kept = refl }
+over-closes n who asked = (refl, refl)
 
 -- and one without subscriptions an UNSUBSCRIBE
 over-unsubscribes : (n who : ℕ) (asked : Unsubscribe) → TopicStep (over n no_subs) who (unsubscribe_command asked) (Now (Error asked.request_id ConsumerNotFound)) (over n no_subs)
-over-unsubscribes n who asked = record { core = (refl, refl); ledger = refl; kept = refl }
+over-unsubscribes n who asked = (refl, refl)
 
 -- and a CLOSE_CONSUMER
 over-close-consumers : (n who : ℕ) (asked : CloseConsumer) → TopicStep (over n no_subs) who (close_consumer_command asked) (Now (Error asked.request_id ConsumerNotFound)) (over n no_subs)
-over-close-consumers n who asked = record { core = (refl, refl); ledger = refl; kept = refl }
+over-close-consumers n who asked = (refl, refl)
 
 -- what such a topic refuses at once, one that isn't there does
 abbrev Refused : Play → TopicCommand → ℕ → ServerError → Type 0
@@ -185,7 +185,7 @@ close-consumer-absent old number asked new h said =
 
 -- nothing is given back on a topic that isn't there
 over-redelivers : (n who : ℕ) (asked : Redeliver) → TopicStep (over n no_subs) who (redeliver_command asked) Nothing (over n no_subs)
-over-redelivers n who asked = record { core = (refl, refl); ledger = refl; kept = refl }
+over-redelivers n who asked = (refl, refl)
 
 pub redelivers-absent : (old : Play) (number : ℕ) (asked : Redeliver) → length old.broker.topics ≤ number → Asks old number (redeliver_command asked) old
 redelivers-absent old number asked h = record {
@@ -201,13 +201,13 @@ redelivers-absent old number asked h = record {
 -- a topic that isn't there grants nothing
 pub grants-absent : (b : Broker) (number who id permits : ℕ) → length b.topics ≤ number → GrantAt b number who id permits (Ok tt) b
 grants-absent b number who id permits h = record {
-  step = let P : Topic → Type 0 = λ t. GrantStep t.core who id permits (Ok tt) t.core in
+  step = let P : Topic → Type 0 = λ t. GrantStep t who id permits (Ok tt) t in
       subst P (sym (topic_at-absent b number h ∙ fresh-over b.per_ledger)) (refl, refl);
   others = sym (with_topic-same b number);
 }
 
 -- and admits nothing
-pub admits-absent : (b : Broker) (number : ℕ) (key : ConsumerKey) (i : ℕ) → length b.topics ≤ number → Admits (topic_at b number).core key i → ⊥
+pub admits-absent : (b : Broker) (number : ℕ) (key : ConsumerKey) (i : ℕ) → length b.topics ≤ number → Admits (topic_at b number) key i → ⊥
 admits-absent b number key i h a =
-    let P : Topic → Type 0 = λ t. Admits t.core key i in
+    let P : Topic → Type 0 = λ t. Admits t key i in
     (subst P (topic_at-absent b number h ∙ fresh-over b.per_ledger) a).admitted

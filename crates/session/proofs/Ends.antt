@@ -4,7 +4,7 @@ use Rattle.std.proofs.Math.ListN.{get_or-map}
 use Rattle.std.proofs.lemmas.Bool.{cases_eq}
 use Rattle.std.proofs.lemmas.Map.Views.{any-filter_same}
 use Rattle.std.specs.List.{list_any}
-use Rattle.topic_core.specs.Core.{Core, Topic}
+use Rattle.topic_core.specs.State.{Topic}
 use Rattle.reply_queues.specs.Replies.{SessionReplies, is_for, due_to, pending_to}
 use Rattle.subscriptions.specs.State.{Subscription}
 use Rattle.subscriptions.specs.Steps.{is_on, is_consumer, left_on}
@@ -13,7 +13,7 @@ use Rattle.session.specs.declared.fault.Fault.{Fault}
 use Rattle.session.specs.declared.pumping.More.TheVariants.{No}
 use Rattle.session.specs.declared.pumping.PumpFault.{PumpFault}
 use Rattle.session.specs.declared.pumping.PumpFault.TheVariants.{Ended, Device}
-use Rattle.session.specs.Broker.{Broker, fresh, topic_at, left_topic, left_all}
+use Rattle.session.specs.Broker.{Broker, fresh, topic_at, left_all}
 use Rattle.session.specs.Client.{Client, Play, left_if, left_if_ended}
 use Rattle.session.specs.Working.{FeedIn, feed_result}
 use Rattle.session.specs.Pumping.{HasNothingDue, ServesIf, PumpIn, pump_result}
@@ -27,7 +27,7 @@ and-left true b h = refl
 and-left false b h = h
 
 -- no producer of the session is left
-pub left-producers : (who id : ℕ) (t : Core) → has_producer (left t who) who id ≡ false
+pub left-producers : (who id : ℕ) (t : Topic) → has_producer (left t who) who id ≡ false
 left-producers who id t = any-filter_same (is_producer who id) (λ p. not (nat_eq p.session who)) false (λ p h. ap not (and-left (nat_eq p.session who) (nat_eq p.id id) h)) t.producers
 
 -- no consumer of the session is left on a subscription
@@ -39,7 +39,7 @@ left-consumers-in who id [] = refl
 left-consumers-in who id (s ∷ subs) = ap (λ b. b || list_any (is_on (key_of who id)) (map (λ x. left_on who x) subs)) (left-consumers-on who id s) ∙ left-consumers-in who id subs
 
 -- nor on any
-pub left-consumers : (who id : ℕ) (t : Core) → has_consumer (left t who) who id ≡ false
+pub left-consumers : (who id : ℕ) (t : Topic) → has_consumer (left t who) who id ≡ false
 left-consumers who id t = left-consumers-in who id t.subs.subs
 
 -- no reply for it is due
@@ -61,21 +61,21 @@ left-pending who [] = refl
 left-pending who (q ∷ queues) = left-pending-cons who q _ (is_for who q) refl (left-pending who queues)
 
 -- each topic was left
-pub topic_at-left_all : (b : Broker) (who number : ℕ) → topic_at (left_all b who) number ≡ left_topic (topic_at b number) who
+pub topic_at-left_all : (b : Broker) (who number : ℕ) → topic_at (left_all b who) number ≡ left (topic_at b number) who
 topic_at-left_all b who number =
-    ap (λ (t : Topic). get_or (map (λ x. left_topic x who) b.topics) number t) (sym (fresh-left b.per_ledger who))
-    ∙ get_or-map (λ t. left_topic t who) b.topics number (fresh b.per_ledger)
+    ap (λ (t : Topic). get_or (map (λ x. left x who) b.topics) number t) (sym (fresh-left b.per_ledger who))
+    ∙ get_or-map (λ t. left t who) b.topics number (fresh b.per_ledger)
 
 -- so the session has left
 pub has_left : (p : Play) (b : Broker) → p.broker ≡ left_all b p.client.number → HasLeft p
 has_left p b h =
     let who = p.client.number in
-    let at : (number : ℕ) → topic_at p.broker number ≡ left_topic (topic_at b number) who = λ number. ap (λ (x : Broker). topic_at x number) h ∙ topic_at-left_all b who number in
+    let at : (number : ℕ) → topic_at p.broker number ≡ left (topic_at b number) who = λ number. ap (λ (x : Broker). topic_at x number) h ∙ topic_at-left_all b who number in
     record {
-      producers = λ topic id. ap (λ (t : Topic). has_producer t.core who id) (at topic) ∙ left-producers who id (topic_at b topic).core;
-      consumers = λ topic id. ap (λ (t : Topic). has_consumer t.core who id) (at topic) ∙ left-consumers who id (topic_at b topic).core;
-      due = λ topic. ap (λ (t : Topic). due_to who t.core.queues) (at topic) ∙ left-due who (topic_at b topic).core.queues;
-      pending = λ topic. ap (λ (t : Topic). pending_to who t.core.queues) (at topic) ∙ left-pending who (topic_at b topic).core.queues;
+      producers = λ topic id. ap (λ (t : Topic). has_producer t who id) (at topic) ∙ left-producers who id (topic_at b topic);
+      consumers = λ topic id. ap (λ (t : Topic). has_consumer t who id) (at topic) ∙ left-consumers who id (topic_at b topic);
+      due = λ topic. ap (λ (t : Topic). due_to who t.queues) (at topic) ∙ left-due who (topic_at b topic).queues;
+      pending = λ topic. ap (λ (t : Topic). pending_to who t.queues) (at topic) ∙ left-pending who (topic_at b topic).queues;
     }
 
 -- as one does that has a fault then

@@ -1,7 +1,8 @@
 -- A list whose first elements are changed, for a session that leaves one topic after another.
 use Rattle.std.proofs.Common.{◌≡◌, ℕ, zero, suc, ◌+◌, ◌≤◌, List, [], ◌∷◌, length, map, get_or, set, refl, ap, sym, ◌∙◌, arith, add-one}
-use Rattle.topic_core.specs.Core.{Topic}
-use Rattle.session.specs.Broker.{Broker, fresh, left_topic, left_at, left_all}
+use Rattle.topic_core.specs.State.{Topic}
+use Rattle.topic_core.specs.Steps.{left}
+use Rattle.session.specs.Broker.{Broker, fresh, left_at, left_all}
 
 -- f at the first n elements
 abbrev pub firsts : {A : Type 0} → (A → A) → ℕ → List A → List A
@@ -25,12 +26,12 @@ firsts-all f (suc n) (x ∷ xs) h = ap (λ ys. f x ∷ ys) (firsts-all f n xs (o
 
 -- the session left the topics of the first n numbers
 abbrev pub first_left : ℕ → Broker → ℕ → Broker
-first_left n b who = record b { topics = firsts (λ t. left_topic t who) n b.topics }
+first_left n b who = record b { topics = firsts (λ t. left t who) n b.topics }
 
 pub first_left-more : (n : ℕ) (b : Broker) (who : ℕ) (old new : Broker) → old ≡ first_left n b who → new ≡ left_at old n who → new ≡ first_left (n + 1) b who
 first_left-more n b who old new is step =
     step ∙ ap (λ (x : Broker). left_at x n who) is
-    ∙ ap (λ (ts : List Topic). let x : Broker = record b { topics = ts } in x) (firsts-more (λ t. left_topic t who) n b.topics (fresh b.per_ledger) ∙ ap (λ k. firsts (λ t. left_topic t who) k b.topics) (sym (add-one n)))
+    ∙ ap (λ (ts : List Topic). let x : Broker = record b { topics = ts } in x) (firsts-more (λ t. left t who) n b.topics (fresh b.per_ledger) ∙ ap (λ k. firsts (λ t. left t who) k b.topics) (sym (add-one n)))
 
 pub first_left-all : (n : ℕ) (b : Broker) (who : ℕ) (new : Broker) → length b.topics ≤ n → new ≡ first_left n b who → new ≡ left_all b who
-first_left-all n b who new h is = is ∙ ap (λ (ts : List Topic). let x : Broker = record b { topics = ts } in x) (firsts-all (λ t. left_topic t who) n b.topics h)
+first_left-all n b who new h is = is ∙ ap (λ (ts : List Topic). let x : Broker = record b { topics = ts } in x) (firsts-all (λ t. left t who) n b.topics h)

@@ -5,7 +5,7 @@ use Rattle.frames.specs.declared.fault.Fault.{Fault as FrameFault}
 use Rattle.frames.specs.declared.frame.Frame.{Frame}
 use Rattle.frames.specs.Streams.{Progress, FeedsOn}
 use Rattle.topic_core.specs.declared.dispatch.Outgoing.{Outgoing}
-use Rattle.topic_core.specs.Core.{Core, Topic}
+use Rattle.topic_core.specs.State.{Topic}
 use Rattle.reply_queues.specs.Replies.{due_to}
 use Rattle.session.specs.declared.fault.Fault.{Fault}
 use Rattle.session.specs.Broker.{Broker, fresh, topic_at, with_topic, due_at, DispatchAt}
@@ -54,7 +54,7 @@ collects_at-others topic zero a b h other who ne = ap (λ (p : Play). due_at p.b
 collects_at-others topic (suc k) a b h other who ne =
     let w = collects_from-broker topic h.0 b h.2 in
     ap (λ (x : Broker). due_at x other who) w.1
-    ∙ ap (λ (t : Topic). due_to who t.core.queues) (get_or-set_other h.0.broker.topics topic other w.0 (fresh h.0.broker.per_ledger) ne)
+    ∙ ap (λ (t : Topic). due_to who t.queues) (get_or-set_other h.0.broker.topics topic other w.0 (fresh h.0.broker.per_ledger) ne)
     ∙ collects_at-others topic k a h.0 h.1 other who ne
 
 -- no topic comes or goes
@@ -65,8 +65,8 @@ collects-length (suc n) a b h =
     ap (λ (x : Broker). length x.topics) w.1 ∙ length-set h.0.broker.topics h.2 w.0 ∙ collects-length n a h.0 h.1
 
 -- what is due stays where another topic with the same is set
-set-due : (topics : List Topic) (at : ℕ) (t : Topic) (number who n : ℕ) → due_to who t.core.queues ≡ due_to who (get_or topics at (fresh n)).core.queues →
-    due_to who (get_or (set topics at t) number (fresh n)).core.queues ≡ due_to who (get_or topics number (fresh n)).core.queues
+set-due : (topics : List Topic) (at : ℕ) (t : Topic) (number who n : ℕ) → due_to who t.queues ≡ due_to who (get_or topics at (fresh n)).queues →
+    due_to who (get_or (set topics at t) number (fresh n)).queues ≡ due_to who (get_or topics number (fresh n)).queues
 set-due [] at t number who n same = refl
 set-due (x ∷ xs) zero t zero who n same = same
 set-due (x ∷ xs) zero t (suc number) who n same = refl
@@ -107,7 +107,7 @@ serves_if-fault false result a b h none = sym (ap (λ (p : Play). p.client.fault
 dispatch-due : (b c : Broker) (number who id : ℕ) (message : Outgoing) → DispatchAt b number who id (Ok (Some message)) c → (topic other : ℕ) → due_at c topic other ≡ due_at b topic other
 dispatch-due b c number who id message h topic other =
     ap (λ (x : Broker). due_at x topic other) h.others ∙ set-due b.topics number (topic_at c number) topic other b.per_ledger
-    (ap (λ (x : Core). due_to other x.queues) h.step.core.1.sent)
+    (ap (λ (x : Topic). due_to other x.queues) h.step.1.sent)
 
 sends_one-due : (consumer : ConsumerEntry) (a b : Play) → SendsOne consumer a b → HasNothingDue a → HasNothingDue b
 sends_one-due consumer a b h none = λ topic.

@@ -7,10 +7,9 @@ use Rattle.commands.specs.declared.reply.Reply.TheVariants as reply
 use Rattle.topic_core.specs.declared.command.TopicCommand.{TopicCommand}
 use Rattle.topic_core.specs.declared.command.Answer.{Answer}
 use Rattle.topic_core.specs.declared.dispatch.Outgoing.{Outgoing}
-use Rattle.gated_log.specs.declared.refusal.Refusal.{Refusal}
-use Rattle.gated_log.specs.declared.refusal.Refusal.TheVariants as refusal
+use Rattle.gated_log.specs.declared.read_error.ReadError.{ReadError}
 use Rattle.subscriptions.specs.declared.consumer.TooManyPermits.{TooManyPermits}
-use Rattle.topic_core.specs.Core.{Core, Topic, opened, topic_of}
+use Rattle.topic_core.specs.State.{Topic, opened}
 use Rattle.reply_queues.specs.Replies.{due_to}
 use Rattle.topic_core.specs.Steps.{TopicStep, GrantStep, collected, left}
 use Rattle.topic_core.specs.Dispatch.{DispatchStep}
@@ -24,7 +23,7 @@ pub record Broker : Type 0 where
 
 -- a topic that nothing happened to yet
 abbrev pub fresh : ℕ → Topic
-fresh per_ledger = topic_of (opened per_ledger 0 [] each.empty) [] each.empty
+fresh per_ledger = opened per_ledger [] [] each.empty
 
 -- the topic of a number; one that isn't there is as a fresh one
 abbrev pub topic_at : Broker → ℕ → Topic
@@ -33,10 +32,6 @@ topic_at b number = slice_index_or b.topics number (fresh b.per_ledger)
 -- the broker with another topic of this number
 abbrev pub with_topic : Broker → ℕ → Topic → Broker
 with_topic b number topic = record b { topics = slice_set b.topics number topic }
-
--- the core changes, and what is durable stays
-abbrev pub with_core : Topic → Core → Topic
-with_core t core = record t { core = core }
 
 -- the number of a name
 abbrev pub number_of : Broker → List ℕ → Option ℕ
@@ -71,11 +66,11 @@ pub record CommandStep (old : Broker) (number who : ℕ) (command : TopicCommand
 
 -- a topic counts the permits of a session's consumer; the rest stays
 pub record GrantAt (old : Broker) (number who id permits : ℕ) (result : Result (Unit {0}) TooManyPermits) (new : Broker) : Type 0 where
-  pub step : GrantStep (topic_at old number).core who id permits result (topic_at new number).core
-  pub others : new ≡ with_topic old number (with_core (topic_at old number) (topic_at new number).core)
+  pub step : GrantStep (topic_at old number) who id permits result (topic_at new number)
+  pub others : new ≡ with_topic old number (topic_at new number)
 
 -- a topic sends a message to a session's consumer, or doesn't; the other topics stay
-pub record DispatchAt (old : Broker) (number who id : ℕ) (result : Result (Option Outgoing) Refusal) (new : Broker) : Type 0 where
+pub record DispatchAt (old : Broker) (number who id : ℕ) (result : Result (Option Outgoing) ReadError) (new : Broker) : Type 0 where
   pub step : DispatchStep (topic_at old number) who id result (topic_at new number)
   pub others : new ≡ with_topic old number (topic_at new number)
 
@@ -91,36 +86,27 @@ IsMessageFor consumer_id (reply.Message other id redelivery_count) = other ≡ c
 IsMessageFor consumer_id (reply.Success request_id) = ⊥
 IsMessageFor consumer_id (reply.AckResponse other error request_id) = ⊥
 
--- whoever else uses the broker: a message is for the consumer, and its entry is no longer than any that is accepted;
--- a store that is open refuses nothing else than these
-abbrev pub SendsTo : ℕ → Result (Option Outgoing) Refusal → Type 0
+-- whoever else uses the broker: a message is for the consumer, and its entry is no longer than any that is accepted
+abbrev pub SendsTo : ℕ → Result (Option Outgoing) ReadError → Type 0
 SendsTo consumer_id (Ok None) = Unit {0}
 SendsTo consumer_id (Ok (Some outgoing)) = IsMessageFor consumer_id outgoing.reply × (length outgoing.entry ≤ 1048576)
-SendsTo consumer_id (Err refusal.NoMemory) = Unit {0}
-SendsTo consumer_id (Err refusal.Device) = Unit {0}
-SendsTo consumer_id (Err (refusal.Damaged file offset)) = Unit {0}
-SendsTo consumer_id (Err refusal.NotInitialised) = ⊥
-SendsTo consumer_id (Err refusal.Version) = ⊥
-SendsTo consumer_id (Err refusal.TooLarge) = ⊥
+SendsTo consumer_id (Err why) = Unit {0}
 
 -- the replies that a topic has due to a session
 abbrev pub due_at : Broker → ℕ → ℕ → List Reply
-due_at b number who = due_to who (topic_at b number).core.queues
+due_at b number who = due_to who (topic_at b number).queues
 
 abbrev pub collected_at : Broker → ℕ → ℕ → Reply → Broker
-collected_at b number who reply = with_topic b number (with_core (topic_at b number) (collected (topic_at b number).core who reply))
+collected_at b number who reply = with_topic b number (collected (topic_at b number) who reply)
 
 -- the session takes the first reply that a topic has due to it; where there is none, nothing changes
 abbrev pub CollectedAt : Broker → ℕ → ℕ → Option Reply → Broker → Type 0
 CollectedAt old number who None new = (due_at old number who ≡ []) × (new ≡ old)
 CollectedAt old number who (Some reply) new = (due_at old number who ≡ reply ∷ due_at new number who) × (new ≡ collected_at old number who reply)
 
-abbrev pub left_topic : Topic → ℕ → Topic
-left_topic t who = with_core t (left t.core who)
-
 abbrev pub left_at : Broker → ℕ → ℕ → Broker
-left_at b number who = with_topic b number (left_topic (topic_at b number) who)
+left_at b number who = with_topic b number (left (topic_at b number) who)
 
 -- the session leaves each topic
 abbrev pub left_all : Broker → ℕ → Broker
-left_all b who = record b { topics = map (λ t. left_topic t who) b.topics }
+left_all b who = record b { topics = map (λ t. left t who) b.topics }

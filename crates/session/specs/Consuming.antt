@@ -32,7 +32,7 @@ use Rattle.session.specs.declared.consumer_entry.ConsumerEntry.{ConsumerEntry}
 
 -- the session still has this consumer on its topic
 abbrev pub is_live : Broker → ℕ → ConsumerEntry → Bool
-is_live b who entry = has_consumer (topic_at b entry.topic).core who entry.consumer_id
+is_live b who entry = has_consumer (topic_at b entry.topic) who entry.consumer_id
 
 -- the session knows no more of the consumers that it doesn't have
 abbrev pub with_live_consumers : Play → Play

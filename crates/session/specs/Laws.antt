@@ -38,10 +38,10 @@ pub record ConsumersRise : Type 0 where
 
 -- no topic has a producer or a consumer of the session, or a reply for it
 pub record HasLeft (p : Play) : Type 0 where
-  pub producers : (topic id : ℕ) → has_producer (topic_at p.broker topic).core p.client.number id ≡ false
-  pub consumers : (topic id : ℕ) → has_consumer (topic_at p.broker topic).core p.client.number id ≡ false
+  pub producers : (topic id : ℕ) → has_producer (topic_at p.broker topic) p.client.number id ≡ false
+  pub consumers : (topic id : ℕ) → has_consumer (topic_at p.broker topic) p.client.number id ≡ false
   pub due : (topic : ℕ) → due_at p.broker topic p.client.number ≡ []
-  pub pending : (topic : ℕ) → pending_to p.client.number (topic_at p.broker topic).core.queues ≡ []
+  pub pending : (topic : ℕ) → pending_to p.client.number (topic_at p.broker topic).queues ≡ []
 
 -- a session that a call ended has left
 abbrev pub EndedFeedsLeave : Type 0

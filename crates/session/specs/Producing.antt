@@ -30,7 +30,7 @@ use Rattle.session.specs.declared.producer_entry.ProducerEntry.{ProducerEntry}
 
 -- the session still has this producer on its topic, open or closing
 abbrev pub is_live : Broker → ℕ → ProducerEntry → Bool
-is_live b who entry = has_producer (topic_at b entry.topic).core who entry.producer_id
+is_live b who entry = has_producer (topic_at b entry.topic) who entry.producer_id
 
 -- the session knows no more of the producers that it doesn't have
 abbrev pub with_live_producers : Play → Play

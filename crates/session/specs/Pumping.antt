@@ -54,7 +54,7 @@ Sends consumer (suc count) old new = (between : Play) × Sends consumer count ol
 
 -- the consumer's topic admits no position for it
 abbrev pub AdmitsNothing : ConsumerEntry → Play → Type 0
-AdmitsNothing consumer p = (i : ℕ) → Admits (topic_at p.broker consumer.topic).core (key_of p.client.number consumer.consumer_id) i → ⊥
+AdmitsNothing consumer p = (i : ℕ) → Admits (topic_at p.broker consumer.topic) (key_of p.client.number consumer.consumer_id) i → ⊥
 
 -- picking a message finds no memory, which ends a session that hasn't ended
 pub record FindsNoMemory (old new : Play) : Type 0 where

@@ -4,8 +4,7 @@ ghost use Rattle.session.specs.Broker.{Broker, topic_at, FindStep, IfFound, Comm
 ghost use Rattle.session.specs.TopicName.{is_topic_name};
 
 use commands::Reply;
-use gated_log::Refusal;
-use topic_core::{Answer, Outgoing, TooManyPermits, TopicCommand};
+use topic_core::{Answer, Outgoing, ReadError, TooManyPermits, TopicCommand};
 
 /// What looking for a topic gives.
 #[derive(Clone, Copy, Debug, PartialEq, Eq)]
@@ -39,12 +38,12 @@ pub trait Port {
     /// Whether the session has this producer on the topic, open or closing.
     fn has_producer(&self, topic: u64, who: u64, producer_id: u64) -> bool
         requires { topic < count self.now }
-        ensures { sole self.now → result ≡ has_producer (topic_at (broker self.now) topic).core who producer_id };
+        ensures { sole self.now → result ≡ has_producer (topic_at (broker self.now) topic) who producer_id };
 
     /// Whether the session has this consumer on the topic.
     fn has_consumer(&self, topic: u64, who: u64, consumer_id: u64) -> bool
         requires { topic < count self.now }
-        ensures { sole self.now → result ≡ has_consumer (topic_at (broker self.now) topic).core who consumer_id };
+        ensures { sole self.now → result ≡ has_consumer (topic_at (broker self.now) topic) who consumer_id };
 
     /// The number of the topic of this name, which is made where it isn't there.
     fn find(&mut self, name: &str) -> Found
@@ -78,7 +77,7 @@ pub trait Port {
         topic: u64,
         who: u64,
         consumer_id: u64,
-    ) -> Result<Option<Outgoing>, Refusal>
+    ) -> Result<Option<Outgoing>, ReadError>
         requires { topic < count self.old }
         ensures step { sole self.old → DispatchAt (broker self.old) topic who consumer_id result (broker self.new) }
         ensures sends { SendsTo consumer_id result }

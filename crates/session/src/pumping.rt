@@ -9,8 +9,8 @@ use crate::fault::Fault;
 use crate::port::Port;
 use crate::session::Session;
 use disk::FileId;
-use gated_log::Refusal;
 use thiserror::Error;
+use topic_core::ReadError;
 
 /// Our own rule: a pump collects at most so many replies.
 const MOST_REPLIES: usize = 65_536;
@@ -224,13 +224,12 @@ impl Session {
                 Ok(true)
             }
             Ok(None) => Ok(false),
-            Err(Refusal::NoMemory) => {
+            Err(ReadError::NoMemory) => {
                 self.end_by(Fault::NoMemory);
                 Ok(false)
             }
-            Err(Refusal::Device) => Err(PumpFault::Device),
-            Err(Refusal::Damaged { file, offset }) => Err(PumpFault::Damaged { file, offset }),
-            Err(Refusal::NotInitialised | Refusal::Version | Refusal::TooLarge) => unreachable!(),
+            Err(ReadError::Device) => Err(PumpFault::Device),
+            Err(ReadError::Damaged { file, offset }) => Err(PumpFault::Damaged { file, offset }),
         }
     }
 }

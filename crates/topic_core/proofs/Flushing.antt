@@ -4,25 +4,30 @@ use Rattle.std.specs.List.{AllByRecursion, list_all}
 use Rattle.std.proofs.lemmas.Bool.{eqb-true, false≢true, true≢false}
 use Rattle.std.proofs.lemmas.List.{take_all, drop_all}
 use Rattle.commands.specs.declared.reply.Reply.{Reply}
-use Rattle.gated_log.specs.declared.refusal.Refusal.{Refusal}
+use Rattle.topic_stores.specs.declared.error.WriteError.{WriteError}
+use Rattle.records.specs.Maps.{Kept}
+use Rattle.records.specs.Records.{after_all}
+use Rattle.topic_core.specs.Steps.{is_open}
 use Rattle.records.specs.declared.record.Record.{Record}
 use Rattle.reply_queues.specs.Replies.{SessionReplies, hand_on, make_due, take_back, make_all_due}
-use Rattle.topic_core.specs.Core.{Core, Topic, Doubt}
+use Rattle.topic_core.specs.State.{Topic, Doubt}
 use Rattle.topic_core.specs.declared.producer.Producer.{Producer}
 use Rattle.topic_core.specs.Soundness.{IsSound}
-use Rattle.topic_core.proofs.Producers.{closed_gone, all_back, open_stay}
+use Rattle.topic_core.proofs.Producers.{closed_gone, all_back}
 use Rattle.topic_core.specs.Flush.{has_no_flush, is_idle, handed_on, finished, taken_back, flushed, FlushStep, FlushIn, FlushEnds}
 
 -- two cores whose parts that a flush changes agree
-alike : (t : Core) (c : ℕ) (w w' : List (List ℕ)) (ch ch' : List Record) (qs qs' : List SessionReplies) (ps ps' : List Producer) (d d' : Option Doubt) → w ≡ w' → ch ≡ ch' → qs ≡ qs' → ps ≡ ps' → d ≡ d'
-    → (let a : Core = record t { committed = c; waiting = w; subs = record t.subs { changes = ch }; queues = qs; producers = ps; doubt = d } in
-    let b : Core = record t { committed = c; waiting = w'; subs = record t.subs { changes = ch' }; queues = qs'; producers = ps'; doubt = d' } in a ≡ b)
-alike t c w w' ch ch' qs qs' ps ps' d d' ew ech eqs eps ed =
-    ap (λ (x : List (List ℕ)). let a : Core = record t { committed = c; waiting = x; subs = record t.subs { changes = ch }; queues = qs; producers = ps; doubt = d } in a) ew
-    ∙ ap (λ (x : List Record). let a : Core = record t { committed = c; waiting = w'; subs = record t.subs { changes = x }; queues = qs; producers = ps; doubt = d } in a) ech
-    ∙ ap (λ (x : List SessionReplies). let a : Core = record t { committed = c; waiting = w'; subs = record t.subs { changes = ch' }; queues = x; producers = ps; doubt = d } in a) eqs
-    ∙ ap (λ (x : List Producer). let a : Core = record t { committed = c; waiting = w'; subs = record t.subs { changes = ch' }; queues = qs'; producers = x; doubt = d } in a) eps
-    ∙ ap (λ (x : Option Doubt). let a : Core = record t { committed = c; waiting = w'; subs = record t.subs { changes = ch' }; queues = qs'; producers = ps'; doubt = x } in a) ed
+alike : (t : Topic) (c : ℕ) (l l' : List (List ℕ)) (k k' : Kept) (w w' : List (List ℕ)) (ch ch' : List Record) (qs qs' : List SessionReplies) (ps ps' : List Producer) (d d' : Option Doubt) → l ≡ l' → k ≡ k' → w ≡ w' → ch ≡ ch' → qs ≡ qs' → ps ≡ ps' → d ≡ d'
+    → (let a : Topic = record t { committed = c; ledger = l; kept = k; waiting = w; subs = record t.subs { changes = ch }; queues = qs; producers = ps; doubt = d } in
+    let b : Topic = record t { committed = c; ledger = l'; kept = k'; waiting = w'; subs = record t.subs { changes = ch' }; queues = qs'; producers = ps'; doubt = d' } in a ≡ b)
+alike t c l l' k k' w w' ch ch' qs qs' ps ps' d d' el ek ew ech eqs eps ed =
+    ap (λ (x : List (List ℕ)). let a : Topic = record t { committed = c; ledger = x; kept = k; waiting = w; subs = record t.subs { changes = ch }; queues = qs; producers = ps; doubt = d } in a) el
+    ∙ ap (λ (x : Kept). let a : Topic = record t { committed = c; ledger = l'; kept = x; waiting = w; subs = record t.subs { changes = ch }; queues = qs; producers = ps; doubt = d } in a) ek
+    ∙ ap (λ (x : List (List ℕ)). let a : Topic = record t { committed = c; ledger = l'; kept = k'; waiting = x; subs = record t.subs { changes = ch }; queues = qs; producers = ps; doubt = d } in a) ew
+    ∙ ap (λ (x : List Record). let a : Topic = record t { committed = c; ledger = l'; kept = k'; waiting = w'; subs = record t.subs { changes = x }; queues = qs; producers = ps; doubt = d } in a) ech
+    ∙ ap (λ (x : List SessionReplies). let a : Topic = record t { committed = c; ledger = l'; kept = k'; waiting = w'; subs = record t.subs { changes = ch' }; queues = x; producers = ps; doubt = d } in a) eqs
+    ∙ ap (λ (x : List Producer). let a : Topic = record t { committed = c; ledger = l'; kept = k'; waiting = w'; subs = record t.subs { changes = ch' }; queues = qs'; producers = x; doubt = d } in a) eps
+    ∙ ap (λ (x : Option Doubt). let a : Topic = record t { committed = c; ledger = l'; kept = k'; waiting = w'; subs = record t.subs { changes = ch' }; queues = qs'; producers = ps'; doubt = x } in a) ed
 
 -- all replies of a session, handed on and made due
 due-handed_on : (q : SessionReplies) → make_due (hand_on q) ≡ make_all_due q
@@ -35,9 +40,10 @@ all-due [] = refl
 all-due (q ∷ qs) = ap (λ x. x ∷ map (λ y. make_due y) (map (λ y. hand_on y) qs)) (due-handed_on q) ∙ ap (λ xs. make_all_due q ∷ xs) (all-due qs)
 
 -- the good end of a flush of all that waits
-pub finished-handed_on : (t : Core) → finished (handed_on t) ≡ flushed t
+pub finished-handed_on : (t : Topic) → finished (handed_on t) ≡ flushed t
 finished-handed_on t =
-    alike t (t.committed + length t.waiting) (drop (length t.waiting) t.waiting) [] (drop (length t.subs.changes) t.subs.changes) [] _ _ _ _ None None
+    alike t (t.committed + length t.waiting) _ (t.ledger ++ t.waiting) _ (after_all t.subs.changes t.kept) (drop (length t.waiting) t.waiting) [] (drop (length t.subs.changes) t.subs.changes) [] _ _ _ _ None None
+    (ap (λ (x : List (List ℕ)). t.ledger ++ x) (take_all (length t.waiting) t.waiting (omega arith))) (ap (λ (x : List Record). after_all x t.kept) (take_all (length t.subs.changes) t.subs.changes (omega arith)))
     (drop_all (length t.waiting) t.waiting (omega arith)) (drop_all (length t.subs.changes) t.subs.changes (omega arith)) (all-due t.queues) (closed_gone t.producers) refl
 
 -- its end without an effect
@@ -48,15 +54,15 @@ same-queues : (qs : List SessionReplies) → AllByRecursion (λ q. q.handed_on �
 same-queues [] none = refl
 same-queues (q ∷ qs) none = ap (λ x. x ∷ map (λ y. take_back y) (map (λ y. hand_on y) qs)) (same-queue q none.0) ∙ ap (λ xs. q ∷ xs) (same-queues qs none.1)
 
-pub taken_back-handed_on : (t : Core) → IsSound t → t.doubt ≡ None → taken_back (handed_on t) ≡ t
-taken_back-handed_on t sound none = alike t t.committed t.waiting t.waiting t.subs.changes t.subs.changes _ _ _ _ None t.doubt refl refl (same-queues t.queues (sound.sure none)) (all_back t.producers (sound.closing none)) (sym none)
+pub taken_back-handed_on : (t : Topic) → IsSound t → t.doubt ≡ None → taken_back (handed_on t) ≡ t
+taken_back-handed_on t sound none = alike t t.committed t.ledger t.ledger t.kept t.kept t.waiting t.waiting t.subs.changes t.subs.changes _ _ _ _ None t.doubt refl refl refl refl (same-queues t.queues (sound.sure none)) (all_back t.producers (sound.closing none)) (sym none)
 
 -- nothing waits: a flush has nothing to change
-and_first : (a b : Bool) → (a && b) ≡ true → a ≡ true
+pub and_first : (a b : Bool) → (a && b) ≡ true → a ≡ true
 and_first true b h = refl
 and_first false b h = h
 
-and_second : (a b : Bool) → (a && b) ≡ true → b ≡ true
+pub and_second : (a b : Bool) → (a && b) ≡ true → b ≡ true
 and_second true b h = h
 and_second false b h = absurd (false≢true h)
 
@@ -68,34 +74,21 @@ pub idle-append : {A : Type 0} (xs ys : List A) → [] ≡ ys → xs ++ ys ≡ x
 idle-append [] ys h = sym h
 idle-append (x ∷ xs) ys h = ap (λ zs. x ∷ zs) (idle-append xs ys h)
 
-idle-queue : (q : SessionReplies) → q.handed_on ≡ 0 → length q.pending ≡ 0 → make_all_due q ≡ q
-idle-queue q none idle =
-    ap (λ (x : List Reply). let a : SessionReplies = record q { due = x; pending = []; handed_on = 0 } in a) (idle-append q.due q.pending (empty q.pending idle))
-    ∙ ap (λ (x : List Reply). let a : SessionReplies = record q { pending = x; handed_on = 0 } in a) (empty q.pending idle)
-    ∙ ap (λ (x : ℕ). let a : SessionReplies = record q { handed_on = x } in a) (sym none)
-
-idle-queues : (qs : List SessionReplies) → AllByRecursion (λ q. q.handed_on ≡ 0) qs → list_all (λ q. nat_eq (length q.pending) 0) qs ≡ true → map (λ q. make_all_due q) qs ≡ qs
-idle-queues [] none idle = refl
-idle-queues (q ∷ qs) none idle =
-    ap (λ x. x ∷ map (λ y. make_all_due y) qs) (idle-queue q none.0 (eqb-true (length q.pending) 0 (and_first (nat_eq (length q.pending) 0) _ idle)))
-    ∙ ap (λ xs. q ∷ xs) (idle-queues qs none.1 (and_second (nat_eq (length q.pending) 0) _ idle))
-
 -- but for closing producers
-idle-others : (t : Core) → is_idle t ≡ true → (nat_eq (length t.waiting) 0 && nat_eq (length t.subs.changes) 0 && list_all (λ q. nat_eq (length q.pending) 0) t.queues) ≡ true
+idle-others : (t : Topic) → is_idle t ≡ true → (nat_eq (length t.waiting) 0 && nat_eq (length t.subs.changes) 0 && list_all (λ q. nat_eq (length q.pending) 0) t.queues) ≡ true
 idle-others t idle = and_first (nat_eq (length t.waiting) 0 && nat_eq (length t.subs.changes) 0 && list_all (λ q. nat_eq (length q.pending) 0) t.queues) _ idle
 
-pub idle-waiting : (t : Core) → is_idle t ≡ true → length t.waiting ≡ 0
+pub idle-waiting : (t : Topic) → is_idle t ≡ true → length t.waiting ≡ 0
 idle-waiting t idle = eqb-true (length t.waiting) 0 (and_first (nat_eq (length t.waiting) 0) _ (and_first (nat_eq (length t.waiting) 0 && nat_eq (length t.subs.changes) 0) _ (idle-others t idle)))
 
-pub idle-changes : (t : Core) → is_idle t ≡ true → length t.subs.changes ≡ 0
+pub idle-changes : (t : Topic) → is_idle t ≡ true → length t.subs.changes ≡ 0
 idle-changes t idle = eqb-true (length t.subs.changes) 0 (and_second (nat_eq (length t.waiting) 0) _ (and_first (nat_eq (length t.waiting) 0 && nat_eq (length t.subs.changes) 0) _ (idle-others t idle)))
 
-pub flushed-idle : (t : Core) → IsSound t → t.doubt ≡ None → is_idle t ≡ true → flushed t ≡ t
-flushed-idle t sound none idle =
-    let queues = and_second (nat_eq (length t.waiting) 0 && nat_eq (length t.subs.changes) 0) _ (idle-others t idle) in
-    let open_ones = and_second (nat_eq (length t.waiting) 0 && nat_eq (length t.subs.changes) 0 && list_all (λ q. nat_eq (length q.pending) 0) t.queues) _ idle in
-    ap (λ (x : ℕ). let a : Core = record (flushed t) { committed = x } in a) (omega (arith, idle-waiting t idle))
-    ∙ alike t t.committed [] t.waiting [] t.subs.changes _ t.queues _ t.producers None t.doubt (empty t.waiting (idle-waiting t idle)) (empty t.subs.changes (idle-changes t idle)) (idle-queues t.queues (sound.sure none) queues) (open_stay t.producers open_ones) (sym none)
+pub idle-queues-of : (t : Topic) → is_idle t ≡ true → list_all (λ q. nat_eq (length q.pending) 0) t.queues ≡ true
+idle-queues-of t idle = and_second (nat_eq (length t.waiting) 0 && nat_eq (length t.subs.changes) 0) _ (idle-others t idle)
+
+pub idle-producers : (t : Topic) → is_idle t ≡ true → list_all (λ p. is_open p.state) t.producers ≡ true
+idle-producers t idle = and_second (nat_eq (length t.waiting) 0 && nat_eq (length t.subs.changes) 0 && list_all (λ q. nat_eq (length q.pending) 0) t.queues) _ idle
 
 -- what a flag says of the doubt
 no_doubt : (d : Option Doubt) → is_some d ≡ false → d ≡ None
@@ -106,12 +99,16 @@ or_first : (a b : Bool) → (a || b) ≡ false → a ≡ false
 or_first true b h = h
 or_first false b h = refl
 
-pub begun : (t : Core) → has_no_flush t ≡ false → t.doubt ≡ None
+pub begun : (t : Topic) → has_no_flush t ≡ false → t.doubt ≡ None
 begun t h = no_doubt t.doubt (or_first (is_some t.doubt) (is_idle t) h)
 
+-- without a doubt nothing waits
+pub idle-where : (t : Topic) → t.doubt ≡ None → has_no_flush t ≡ true → is_idle t ≡ true
+idle-where t none nothing = sym (ap (λ d. is_some d || is_idle t) none) ∙ nothing
+
 -- a flush that began comes to its end
-pub ends : (t : Core) (old new : Topic) (result : Result ℕ Refusal) → t.failed ≡ false → t.doubt ≡ None → old.core ≡ t → FlushEnds old result new → FlushStep old result new
-ends t old new result works none is h =
-    let P : Bool → Type 0 = λ b. FlushIn b (is_some old.core.doubt) old result new in
-    let Q : Bool → Type 0 = λ b. FlushIn false b old result new in
-    subst P (sym (ap (λ (k : Core). k.failed) is ∙ works)) (subst Q (sym (ap (λ (k : Core). is_some k.doubt) is ∙ ap (λ d. is_some d) none)) h)
+pub ends : (t new : Topic) (result : Result ℕ WriteError) → t.failed ≡ false → has_no_flush t ≡ false → FlushEnds t result new → FlushStep t result new
+ends t new result works some h =
+    let P : Bool → Type 0 = λ b. FlushIn b (has_no_flush t) t result new in
+    let Q : Bool → Type 0 = λ b. FlushIn false b t result new in
+    subst P (sym works) (subst Q (sym some) h)

@@ -1,5 +1,4 @@
 pub mod Ids
-pub mod Maps
 pub mod Queues
 pub mod Receipts
 pub mod Producers
@@ -13,9 +12,8 @@ pub mod Openings
 pub mod Filling
 pub mod Flushing
 pub mod Steps
-pub mod Sizes
 pub mod Cursors
-pub mod Writing
 pub mod Standings
 pub mod Keeps
 pub mod Ranges
+pub mod Reading

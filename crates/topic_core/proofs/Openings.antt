@@ -1,13 +1,15 @@
 -- A topic that was opened, or opened again, is sound.
-use Rattle.std.proofs.Common.{◌≡◌, ℕ, ◌^◌, ◌≤◌, ◌<◌, true, List, [], length, take, drop, nat_eq, ap, ◌∙◌, arith}
+use Rattle.std.proofs.Common.{◌≡◌, ℕ, ◌^◌, ◌≤◌, ◌<◌, true, List, [], length, take, drop, nat_eq, ap, sym, subst, ◌∙◌, arith}
 use Rattle.std.specs.List.{AllByRecursion, IsDistinct}
 use Rattle.commands.specs.declared.reply.Reply.{Reply}
 use Rattle.records.specs.Maps.{Kept}
 use Rattle.reply_queues.specs.Replies.{SessionReplies, receipts_in}
 use Rattle.subscriptions.specs.Steps as subscriptions
-use Rattle.subscriptions.specs.Laws.{AreDurable}
+use Rattle.subscriptions.specs.Laws.{AreDurable, IsKept}
+use Rattle.subscriptions.specs.State.{Subscriptions}
+use Rattle.subscriptions.proofs.Durable.{are_kept}
 use Rattle.subscriptions.proofs.Limits.{each_sound, each_committed}
-use Rattle.topic_core.specs.Core.{Core, opened, entries_of}
+use Rattle.topic_core.specs.State.{Topic, opened, entries_of}
 use Rattle.topic_core.specs.Crashes.{reopened}
 use Rattle.topic_core.specs.Soundness.{IsSound, AreReceipts, HasReceipts, IsReceiptWithin}
 use Rattle.topic_core.proofs.Queues.{all-each, all-both, sum_by-none}
@@ -17,8 +19,8 @@ no_sessions : IsDistinct nat_eq []
 unfolding IsDistinct
 no_sessions = tt
 
-pub sound-opened : (n committed : ℕ) (slots : List ℕ) (kept : Kept) → 0 < n → committed ≤ 2 ^ 62 → length slots ≡ committed → AreDurable kept → IsSound (opened n committed slots kept)
-sound-opened n committed slots kept some few each_one durable = record {
+pub sound-opened : (n : ℕ) (ledger : List (List ℕ)) (slots : List ℕ) (kept : Kept) → 0 < n → length ledger ≤ 2 ^ 62 → length slots ≡ length ledger → AreDurable kept → IsSound (opened n ledger slots kept)
+sound-opened n ledger slots kept some few each_one durable = record {
   numbered = some;
   few = omega arith;
   small = omega arith;
@@ -37,11 +39,17 @@ sound-opened n committed slots kept some few each_one durable = record {
   told = λ failed. tt;
   subs = each_sound.slot (subscriptions.opened kept) slots (each_sound.opened kept durable);
   slotted = omega (arith, each_one);
-  sent = each_committed.slot committed (subscriptions.opened kept) slots (each_committed.opened committed kept);
+  sent = each_committed.slot (length ledger) (subscriptions.opened kept) slots (each_committed.opened (length ledger) kept);
 }
 
-pub receipts-opened : (n committed : ℕ) (slots : List ℕ) (kept : Kept) → AreReceipts (opened n committed slots kept)
-receipts-opened n committed slots kept = record { each = tt; single = λ k. omega arith }
+pub receipts-opened : (n : ℕ) (ledger : List (List ℕ)) (slots : List ℕ) (kept : Kept) → AreReceipts (opened n ledger slots kept)
+receipts-opened n ledger slots kept = record { each = tt; single = λ k. omega arith }
+
+-- what is durable is kept, with the slots of the entries
+pub kept-filled : (n : ℕ) (kept found : Kept) (slots : List ℕ) (subs : Subscriptions) → subs ≡ subscriptions.slotted (subscriptions.opened kept) slots → found ≡ kept → AreDurable kept
+    → IsKept n found subs
+kept-filled n kept found slots subs filled same durable = subst (λ (k : Kept). IsKept n k subs) (sym same)
+    (subst (λ (s : Subscriptions). IsKept n kept s) (sym filled) (are_kept.slot n kept (subscriptions.opened kept) slots (are_kept.opened n kept durable)))
 
 none-handed : (q : SessionReplies) → (q.pending ≡ []) × (q.handed_on ≤ length q.pending) → q.handed_on ≡ 0
 none-handed q x = omega (arith, x.1, ap (λ (rs : List Reply). length rs) x.0)
@@ -52,12 +60,12 @@ none-first q x = ap (λ n. take n q.pending) (none-handed q x)
 none-left : (q : SessionReplies) → (q.pending ≡ []) × (q.handed_on ≤ length q.pending) → drop q.handed_on q.pending ≡ []
 none-left q x = ap (λ n. drop n q.pending) (none-handed q x) ∙ x.0
 
-module _ (t : Core) (committed : ℕ) (slots : List ℕ) (kept : Kept) (sound : IsSound t) where
+module _ (t : Topic) (ledger : List (List ℕ)) (slots : List ℕ) (kept : Kept) (sound : IsSound t) where
   -- nothing of a failed topic awaits a flush
   quiet : t.failed ≡ true → AllByRecursion (λ q. (q.pending ≡ []) × (q.handed_on ≤ length q.pending)) t.queues
   quiet was = all-both (λ q. q.pending ≡ []) (λ q. q.handed_on ≤ length q.pending) t.queues (sound.told was) sound.within
 
-  pub sound-reopened : t.failed ≡ true → t.committed ≤ committed → committed ≤ 2 ^ 62 → length slots ≡ committed → AreDurable kept → IsSound (reopened t committed slots kept)
+  pub sound-reopened : t.failed ≡ true → t.committed ≤ length ledger → length ledger ≤ 2 ^ 62 → length slots ≡ length ledger → AreDurable kept → IsSound (reopened t ledger slots kept)
   sound-reopened was more few each_one durable =
       let on = sum_by-none (λ (q : SessionReplies). receipts_in (take q.handed_on q.pending)) t.queues (all-each _ _ t.queues (λ q x. ap (λ rs. receipts_in rs) (none-first q x)) (quiet was)) in
       let left = sum_by-none (λ (q : SessionReplies). receipts_in (drop q.handed_on q.pending)) t.queues (all-each _ _ t.queues (λ q x. ap (λ rs. receipts_in rs) (none-left q x)) (quiet was)) in
@@ -80,18 +88,18 @@ module _ (t : Core) (committed : ℕ) (slots : List ℕ) (kept : Kept) (sound : 
         told = λ failed. all-each _ _ t.queues (λ q x. x.0) (quiet was);
         subs = each_sound.slot (subscriptions.opened kept) slots (each_sound.opened kept durable);
         slotted = omega (arith, each_one);
-        sent = each_committed.slot committed (subscriptions.opened kept) slots (each_committed.opened committed kept);
+        sent = each_committed.slot (length ledger) (subscriptions.opened kept) slots (each_committed.opened (length ledger) kept);
       }
 
-  pub receipts-reopened : AreReceipts t → t.failed ≡ true → t.committed ≤ committed → AreReceipts (reopened t committed slots kept)
+  pub receipts-reopened : AreReceipts t → t.failed ≡ true → t.committed ≤ length ledger → AreReceipts (reopened t ledger slots kept)
   receipts-reopened are was more =
       let n = t.per_ledger in
       let h = entries_of t.doubt in
       let w = length t.waiting in
       record {
-        each = all-each (λ q. HasReceipts n t.committed h w q × ((q.pending ≡ []) × (q.handed_on ≤ length q.pending))) (HasReceipts n committed 0 0) t.queues
+        each = all-each (λ q. HasReceipts n t.committed h w q × ((q.pending ≡ []) × (q.handed_on ≤ length q.pending))) (HasReceipts n (length ledger) 0 0) t.queues
             (λ q x. record {
-              given = all-replies (IsReceiptWithin n 0 t.committed) (IsReceiptWithin n 0 committed) q.due (λ r y. within-wider n 0 t.committed 0 committed r (omega arith) more y) x.0.given;
+              given = all-replies (IsReceiptWithin n 0 t.committed) (IsReceiptWithin n 0 (length ledger)) q.due (λ r y. within-wider n 0 t.committed 0 (length ledger) r (omega arith) more y) x.0.given;
               awaited = rw (none-first q x.1) tt;
               promised = rw (none-left q x.1) tt;
             })

@@ -1,39 +1,37 @@
 -- What a crash leaves of a topic, and what an opening makes of a failed one.
-use Rattle.std.specs.Prelude.{◌≡◌, ◌⊎◌, ℕ, Bool, true, false, Result, Ok, Err, List, ◌++◌, length, map}
+use Rattle.std.specs.Prelude.{◌≡◌, ℕ, Bool, true, false, Result, Ok, Err, List, ◌++◌, map}
 use Rattle.gated_log.specs.declared.refusal.Refusal.{Refusal}
 use Rattle.gated_log.specs.declared.refusal.Refusal.TheVariants as refusal
 use Rattle.records.specs.Maps.{Kept}
 use Rattle.records.specs.Records.{after_all}
+use Rattle.topic_stores.specs.Writing as stores
 use Rattle.topic_core.specs.Slots.{slot_of_entry}
-use Rattle.topic_core.specs.Core.{Core, Topic, opened, entries_in_doubt, changes_in_doubt}
+use Rattle.topic_core.specs.State.{Topic, opened, entries_in_doubt, changes_in_doubt}
 
 -- the ledger with all entries in doubt, and the durable subscriptions with all changes in doubt
 abbrev pub longer : Topic → List (List ℕ)
-longer t = t.ledger ++ entries_in_doubt t.core
+longer t = t.ledger ++ entries_in_doubt t
 
 abbrev pub changed : Topic → Kept
-changed t = after_all (changes_in_doubt t.core) t.kept
+changed t = after_all (changes_in_doubt t) t.kept
 
 -- A crash leaves this ledger and these durable subscriptions: the old ones, or the ledger has the entries in doubt too, or
 -- both have what is in doubt. Changes come only where the entries came.
 abbrev pub IsLeft : Topic → List (List ℕ) → Kept → Type 0
-IsLeft old ledger kept =
-    ((ledger ≡ old.ledger) × (kept ≡ old.kept))
-    ⊎ (((ledger ≡ longer old) × (kept ≡ old.kept))
-    ⊎ ((ledger ≡ longer old) × (kept ≡ changed old)))
+IsLeft old ledger kept = stores.IsLeft old.ledger old.kept (entries_in_doubt old) (changes_in_doubt old) ledger kept
 
 -- what a crash leaves of a topic: its ledger and its durable subscriptions, just opened
 pub record TopicCrash (old new : Topic) : Type 0 where
   pub left : IsLeft old new.ledger new.kept
-  pub core : new.core ≡ opened old.core.per_ledger (length new.ledger) (map slot_of_entry new.ledger) new.kept
+  pub again : new ≡ opened old.per_ledger new.ledger (map slot_of_entry new.ledger) new.kept
 
 -- a failed topic that was opened again: what it owes and what it counted stay
-abbrev pub reopened : Core → ℕ → List ℕ → Kept → Core
-reopened t committed slots kept = record (opened t.per_ledger committed slots kept) { accepted = t.accepted; handed = t.handed; queues = t.queues }
+abbrev pub reopened : Topic → List (List ℕ) → List ℕ → Kept → Topic
+reopened t ledger slots kept = record (opened t.per_ledger ledger slots kept) { accepted = t.accepted; handed = t.handed; queues = t.queues }
 
 -- the opening of a failed topic: a crash's outcome, or it is refused and the topic stays as it was
 abbrev pub ReopenEnds : Topic → Result (Unit {0}) Refusal → Topic → Type 0
-ReopenEnds old (Ok done) new = IsLeft old new.ledger new.kept × (new.core ≡ reopened old.core (length new.ledger) (map slot_of_entry new.ledger) new.kept)
+ReopenEnds old (Ok done) new = IsLeft old new.ledger new.kept × (new ≡ reopened old new.ledger (map slot_of_entry new.ledger) new.kept)
 ReopenEnds old (Err refusal.NoMemory) new = new ≡ old
 ReopenEnds old (Err refusal.Device) new = new ≡ old
 ReopenEnds old (Err (refusal.Damaged file offset)) new = ⊥
@@ -47,4 +45,4 @@ ReopenIn true old result new = ReopenEnds old result new
 ReopenIn false old result new = (result ≡ Ok tt) × (new ≡ old)
 
 abbrev pub ReopenStep : Topic → Result (Unit {0}) Refusal → Topic → Type 0
-ReopenStep old result new = ReopenIn old.core.failed old result new
+ReopenStep old result new = ReopenIn old.failed old result new

@@ -1,30 +1,30 @@
 -- What a dispatch gives a consumer.
-use Rattle.std.specs.Prelude.{◌≡◌, ◌≤◌, ℕ, false, Option, Some, None, Result, Ok, Err, List, length, slice_get}
+use Rattle.std.specs.Prelude.{◌≡◌, ◌≤◌, ℕ, false, Option, Some, None, Result, Ok, Err, length, slice_get}
 use Rattle.commands.specs.declared.reply.Reply.TheVariants.{Message}
 use Rattle.ids.specs.declared.message_id.MessageId.{MessageId}
 use Rattle.ids.specs.Ids.{message_id_at}
 use Rattle.holds.specs.declared.consumer.ConsumerKey.{ConsumerKey}
 use Rattle.subscriptions.specs.Steps as subscriptions
 use Rattle.topic_core.specs.declared.dispatch.Outgoing.{Outgoing}
-use Rattle.gated_log.specs.declared.refusal.Refusal.{Refusal}
-use Rattle.gated_log.specs.declared.refusal.Refusal.TheVariants as refusal
-use Rattle.topic_core.specs.Core.{Core, Topic}
+use Rattle.gated_log.specs.declared.read_error.ReadError.{ReadError}
+use Rattle.gated_log.specs.declared.read_error.ReadError.TheVariants.{Device, Damaged, NoMemory}
+use Rattle.topic_core.specs.State.{Topic}
 use Rattle.topic_core.specs.Steps.{key_of}
 
 -- a consumer may get position i: the topic isn't failed, and its subscriptions admit it
-pub record Admits (t : Core) (key : ConsumerKey) (i : ℕ) : Type 0 where
+pub record Admits (t : Topic) (key : ConsumerKey) (i : ℕ) : Type 0 where
   pub works : t.failed ≡ false
   pub admitted : subscriptions.Admits t.subs key t.committed i
 
 -- the consumer holds position i from now on
-abbrev pub sent : Core → ConsumerKey → ℕ → Core
+abbrev pub sent : Topic → ConsumerKey → ℕ → Topic
 sent t key i = record t { subs = subscriptions.sent t.subs key i }
 
 -- the message is the entry at an admitted position i, with its id and how often it was sent before
-pub record IsSent (old : Core) (ledger : List (List ℕ)) (key : ConsumerKey) (i : ℕ) (outgoing : Outgoing) (new : Core) : Type 0 where
+pub record IsSent (old : Topic) (key : ConsumerKey) (i : ℕ) (outgoing : Outgoing) (new : Topic) : Type 0 where
   pub admitted : Admits old key i
   pub reply : outgoing.reply ≡ Message key.id (message_id_at old.per_ledger i) (subscriptions.sent_before old.subs key i)
-  pub entry : slice_get ledger i ≡ Some outgoing.entry
+  pub entry : slice_get old.ledger i ≡ Some outgoing.entry
   pub sent : new ≡ sent old key i
 
 -- it is a MESSAGE for this consumer, and its entry is no longer than any that is accepted
@@ -35,18 +35,13 @@ pub record IsMessageTo (consumer_id : ℕ) (outgoing : Outgoing) : Type 0 where
   pub short : length outgoing.entry ≤ 1048576
 
 -- a message of an admitted position, or none exactly where none is admitted; want of memory and a failure of the device change nothing
-abbrev pub Dispatches : Core → List (List ℕ) → ConsumerKey → Result (Option Outgoing) Refusal → Core → Type 0
-Dispatches old ledger key (Ok None) new = (new ≡ old) × ((i : ℕ) → Admits old key i → ⊥)
-Dispatches old ledger key (Ok (Some outgoing)) new = (i : ℕ) × IsSent old ledger key i outgoing new
-Dispatches old ledger key (Err refusal.NoMemory) new = new ≡ old
-Dispatches old ledger key (Err refusal.Device) new = new ≡ old
-Dispatches old ledger key (Err (refusal.Damaged file offset)) new = ⊥
-Dispatches old ledger key (Err refusal.NotInitialised) new = ⊥
-Dispatches old ledger key (Err refusal.Version) new = ⊥
-Dispatches old ledger key (Err refusal.TooLarge) new = ⊥
+abbrev pub Dispatches : Topic → ConsumerKey → Result (Option Outgoing) ReadError → Topic → Type 0
+Dispatches old key (Ok None) new = (new ≡ old) × ((i : ℕ) → Admits old key i → ⊥)
+Dispatches old key (Ok (Some outgoing)) new = (i : ℕ) × IsSent old key i outgoing new
+Dispatches old key (Err NoMemory) new = new ≡ old
+Dispatches old key (Err Device) new = new ≡ old
+Dispatches old key (Err (Damaged file offset)) new = ⊥
 
--- a dispatch changes the core alone
-pub record DispatchStep (old : Topic) (who id : ℕ) (result : Result (Option Outgoing) Refusal) (new : Topic) : Type 0 where
-  pub core : Dispatches old.core old.ledger (key_of who id) result new.core
-  pub ledger : new.ledger ≡ old.ledger
-  pub kept : new.kept ≡ old.kept
+-- what a session's consumer is given
+abbrev pub DispatchStep : Topic → ℕ → ℕ → Result (Option Outgoing) ReadError → Topic → Type 0
+DispatchStep old who id result new = Dispatches old (key_of who id) result new

@@ -13,6 +13,9 @@ use Rattle.subscriptions.specs.declared.consumer.TooManyPermits.{TooManyPermits}
 use Rattle.commands.specs.declared.reply.Reply.{Reply}
 use Rattle.commands.specs.declared.reply.Reply.TheVariants.{Message}
 use Rattle.gated_log.specs.declared.refusal.Refusal.{Refusal}
+use Rattle.topic_stores.specs.declared.batch.Batch.{Batch}
+use Rattle.topic_stores.specs.declared.error.WriteError.{WriteError}
+use Rattle.gated_log.specs.declared.read_error.ReadError.{ReadError}
 use Rattle.topic_core.specs.declared.command.TopicCommand.{TopicCommand}
 use Rattle.topic_core.specs.declared.command.TopicCommand.TheVariants as asked
 use Rattle.topic_core.specs.declared.command.Answer.{Answer}
@@ -20,22 +23,22 @@ use Rattle.topic_core.specs.declared.command.Answer.TheVariants.{Now, Later, Not
 use Rattle.reply_queues.specs.Replies.{is_receipt, due_to, pending_to}
 use Rattle.topic_core.specs.declared.dispatch.Outgoing.{Outgoing}
 use Rattle.topic_core.specs.Slots.{slot_of_entry}
-use Rattle.topic_core.specs.Core.{Core, Topic, receipts_due}
+use Rattle.topic_core.specs.State.{Topic, receipts_due}
 use Rattle.records.specs.Maps.{Kept}
 use Rattle.topic_core.specs.Soundness.{IsSound, AreReceipts, IsSoundTopic}
-use Rattle.topic_core.specs.Steps.{CoreStep, TopicStep, Collects, GrantStep, Fits, bytes_of, key_of, is_open, is_committed, position_at, left}
-use Rattle.topic_core.specs.Dispatch.{Dispatches, DispatchStep, Admits}
-use Rattle.topic_core.specs.Flush.{FlushStep, in_flush}
+use Rattle.topic_core.specs.Steps.{TopicStep, Collects, GrantStep, Fits, bytes_of, key_of, is_open, is_committed, position_at, left}
+use Rattle.topic_core.specs.Dispatch.{DispatchStep, Admits}
+use Rattle.topic_core.specs.Flush.{FlushStep, TakeStep, FinishStep, handed_on}
 use Rattle.topic_core.specs.Crashes.{IsLeft, TopicCrash, ReopenStep}
 use Rattle.topic_core.specs.Standing.{GoesOn}
 
 -- an answer fits its command
 abbrev pub AnswersFit : Type 0
-AnswersFit = (old : Core) (who : ℕ) (c : TopicCommand) (answer : Answer) (new : Core) → CoreStep old who c answer new → Fits c answer
+AnswersFit = (old : Topic) (who : ℕ) (c : TopicCommand) (answer : Answer) (new : Topic) → TopicStep old who c answer new → Fits c answer
 
 -- an answer at once is no receipt
 abbrev pub AnswersNoReceipt : Type 0
-AnswersNoReceipt = (old : Core) (who : ℕ) (c : TopicCommand) (reply : Reply) (new : Core) → CoreStep old who c (Now reply) new → is_receipt reply ≡ false
+AnswersNoReceipt = (old : Topic) (who : ℕ) (c : TopicCommand) (reply : Reply) (new : Topic) → TopicStep old who c (Now reply) new → is_receipt reply ≡ false
 
 -- the entries that a command with this answer adds to what waits
 abbrev pub entries_added : TopicCommand → Answer → List (List ℕ)
@@ -52,30 +55,32 @@ entries_added (asked.CloseConsumer close) answer = []
 entries_added (asked.Redeliver redeliver) answer = []
 
 -- what waits are the entries of accepted SENDs, and each is counted once
-pub record IsPublished (old : Core) (c : TopicCommand) (answer : Answer) (new : Core) : Type 0 where
+pub record IsPublished (old : Topic) (c : TopicCommand) (answer : Answer) (new : Topic) : Type 0 where
   pub waiting : new.waiting ≡ old.waiting ++ entries_added c answer
   pub accepted : new.accepted ≡ old.accepted + length (entries_added c answer)
 
 abbrev pub EntriesArePublished : Type 0
-EntriesArePublished = (old : Core) (who : ℕ) (c : TopicCommand) (answer : Answer) (new : Core) → CoreStep old who c answer new → IsPublished old c answer new
+EntriesArePublished = (old : Topic) (who : ℕ) (c : TopicCommand) (answer : Answer) (new : Topic) → TopicStep old who c answer new → IsPublished old c answer new
 
 -- each call keeps a topic sound, and so does a crash
 pub record StaysSound : Type 0 where
   pub command : (old : Topic) (who : ℕ) (c : TopicCommand) (answer : Answer) (new : Topic) → TopicStep old who c answer new → IsSoundTopic old → IsSoundTopic new
-  pub flush : (old : Topic) (result : Result ℕ Refusal) (new : Topic) → FlushStep old result new → IsSoundTopic old → IsSoundTopic new
+  pub flush : (old : Topic) (result : Result ℕ WriteError) (new : Topic) → FlushStep old result new → IsSoundTopic old → IsSoundTopic new
+  pub take : (old : Topic) (result : Result (Option Batch) WriteError) (new : Topic) → TakeStep old result new → IsSoundTopic old → IsSoundTopic new
+  pub finish : (old : Topic) (written : Result (Unit {0}) WriteError) (result : Result ℕ WriteError) (new : Topic) → FinishStep old written result new → IsSoundTopic old → IsSoundTopic new
   pub reopen : (old : Topic) (result : Result (Unit {0}) Refusal) (new : Topic) → ReopenStep old result new → IsSoundTopic old → IsSoundTopic new
   pub crash : (old new : Topic) → TopicCrash old new → IsSoundTopic old → IsSoundTopic new
-  pub grant : (old : Topic) (who id permits : ℕ) (result : Result (Unit {0}) TooManyPermits) (new : Core) → GrantStep old.core who id permits result new → IsSoundTopic old → IsSoundTopic (record old { core = new })
-  pub dispatch : (old : Topic) (who id : ℕ) (result : Result (Option Outgoing) Refusal) (new : Topic) → DispatchStep old who id result new → IsSoundTopic old → IsSoundTopic new
-  pub collect : (old : Topic) (who : ℕ) (reply : Option Reply) (new : Core) → Collects old.core who reply new → IsSoundTopic old → IsSoundTopic (record old { core = new })
-  pub leave : (old : Topic) (who : ℕ) → IsSoundTopic old → IsSoundTopic (record old { core = left old.core who })
+  pub grant : (old : Topic) (who id permits : ℕ) (result : Result (Unit {0}) TooManyPermits) (new : Topic) → GrantStep old who id permits result new → IsSoundTopic old → IsSoundTopic new
+  pub dispatch : (old : Topic) (who id : ℕ) (result : Result (Option Outgoing) ReadError) (new : Topic) → DispatchStep old who id result new → IsSoundTopic old → IsSoundTopic new
+  pub collect : (old : Topic) (who : ℕ) (reply : Option Reply) (new : Topic) → Collects old who reply new → IsSoundTopic old → IsSoundTopic new
+  pub leave : (old : Topic) (who : ℕ) → IsSoundTopic old → IsSoundTopic (left old who)
 
 -- a message that is sent is the published entry of a position that its consumer was admitted to; nobody acknowledged it on the subscription, and nobody holds it
 pub record IsAdmitted (old : Topic) (who id : ℕ) (outgoing : Outgoing) (i : ℕ) : Type 0 where
-  pub named : outgoing.reply ≡ Message id (message_id_at old.core.per_ledger i) (sent_before old.core.subs (key_of who id) i)
+  pub named : outgoing.reply ≡ Message id (message_id_at old.per_ledger i) (sent_before old.subs (key_of who id) i)
   pub published : slice_get old.ledger i ≡ Some outgoing.entry
-  pub admitted : Admits old.core (key_of who id) i
-  pub is_open : IsOpenFor (find (is_on (key_of who id)) old.core.subs.subs) old.core.committed i
+  pub admitted : Admits old (key_of who id) i
+  pub is_open : IsOpenFor (find (is_on (key_of who id)) old.subs.subs) old.committed i
 
 abbrev pub MessagesAreAdmitted : Type 0
 MessagesAreAdmitted = (old : Topic) (who id : ℕ) (outgoing : Outgoing) (new : Topic) → DispatchStep old who id (Ok (Some outgoing)) new → (i : ℕ) × IsAdmitted old who id outgoing i
@@ -83,7 +88,7 @@ MessagesAreAdmitted = (old : Topic) (who id : ℕ) (outgoing : Outgoing) (new : 
 -- a message on a Key_Shared subscription is an entry whose slot lies in the ranges of its consumer's seat
 abbrev pub MessagesGoToTheirRanges : Type 0
 MessagesGoToTheirRanges = (old : Topic) (who id : ℕ) (outgoing : Outgoing) (new : Topic) → IsSoundTopic old → DispatchStep old who id (Ok (Some outgoing)) new
-    → (s : Subscription) → find (is_on (key_of who id)) old.core.subs.subs ≡ Some s → s.mode ≡ KeyShared
+    → (s : Subscription) → find (is_on (key_of who id)) old.subs.subs ≡ Some s → s.mode ≡ KeyShared
     → IsSomeAnd (attached (key_of who id) s.seats) (λ seat. IsTrue (in_ranges seat.ranges (slot_of_entry outgoing.entry)))
 
 -- an id of an ACK is that of a committed entry exactly where it names a committed position, and that is the one acknowledged
@@ -93,31 +98,31 @@ IdsArePositions = (n committed i : ℕ) (id : MessageIdData) → 0 < n → commi
 
 -- receipts never outnumber the committed entries
 abbrev pub ReceiptsAreCovered : Type 0
-ReceiptsAreCovered = (t : Topic) → IsSoundTopic t → t.core.handed + receipts_due t.core.queues ≤ length t.ledger
+ReceiptsAreCovered = (t : Topic) → IsSoundTopic t → t.handed + receipts_due t.queues ≤ length t.ledger
 
 -- A good flush makes just a session's pending replies due, behind those that were; the ledger grows by what waited, the
 -- changes are durable, and just the closing producers are gone.
 pub record IsFlushed (old : Topic) (n : ℕ) (new : Topic) : Type 0 where
-  pub ledger : new.ledger ≡ old.ledger ++ old.core.waiting
-  pub count : n ≡ length old.core.waiting
-  pub kept : new.kept ≡ after_all old.core.subs.changes old.kept
-  pub changes : new.core.subs.changes ≡ []
-  pub producers : new.core.producers ≡ filter (λ p. is_open p.state) old.core.producers
-  pub due : (who : ℕ) → due_to who new.core.queues ≡ due_to who old.core.queues ++ pending_to who old.core.queues
-  pub pending : (who : ℕ) → pending_to who new.core.queues ≡ []
+  pub ledger : new.ledger ≡ old.ledger ++ old.waiting
+  pub count : n ≡ length old.waiting
+  pub kept : new.kept ≡ after_all old.subs.changes old.kept
+  pub changes : new.subs.changes ≡ []
+  pub producers : new.producers ≡ filter (λ p. is_open p.state) old.producers
+  pub due : (who : ℕ) → due_to who new.queues ≡ due_to who old.queues ++ pending_to who old.queues
+  pub pending : (who : ℕ) → pending_to who new.queues ≡ []
 
 abbrev pub FlushesCommit : Type 0
-FlushesCommit = (old : Topic) (count : ℕ) (new : Topic) → FlushStep old (Ok count) new → old.core.doubt ≡ None → IsFlushed old count new
+FlushesCommit = (old : Topic) (count : ℕ) (new : Topic) → FlushStep old (Ok count) new → old.doubt ≡ None → IsFlushed old count new
 
 -- what a crash leaves of a topic after a flush is what it may leave while the flush is under way
 abbrev pub FlushesKeep : Type 0
-FlushesKeep = (old : Topic) (result : Result ℕ Refusal) (new : Topic) → FlushStep old result new → old.core.failed ≡ false → old.core.doubt ≡ None
-    → (ledger : List (List ℕ)) (kept : Kept) → IsLeft new ledger kept → IsLeft (in_flush old) ledger kept
+FlushesKeep = (old : Topic) (result : Result ℕ WriteError) (new : Topic) → FlushStep old result new → old.failed ≡ false → old.doubt ≡ None
+    → (ledger : List (List ℕ)) (kept : Kept) → IsLeft new ledger kept → IsLeft (handed_on old) ledger kept
 
 -- commands, permits, messages, collected replies and leaving sessions leave a topic standing on its device
-pub record CoresGoOn : Type 0 where
-  pub command : (old : Core) (who : ℕ) (c : TopicCommand) (answer : Answer) (new : Core) → CoreStep old who c answer new → IsSound old → AreReceipts old → GoesOn old new
-  pub grant : (old : Core) (who id permits : ℕ) (result : Result (Unit {0}) TooManyPermits) (new : Core) → GrantStep old who id permits result new → IsSound old → AreReceipts old → GoesOn old new
-  pub dispatch : (old : Core) (ledger : List (List ℕ)) (who id : ℕ) (result : Result (Option Outgoing) Refusal) (new : Core) → Dispatches old ledger (key_of who id) result new → IsSound old → AreReceipts old → GoesOn old new
-  pub collect : (old : Core) (who : ℕ) (reply : Option Reply) (new : Core) → Collects old who reply new → IsSound old → AreReceipts old → GoesOn old new
-  pub leave : (old : Core) (who : ℕ) → IsSound old → AreReceipts old → GoesOn old (left old who)
+pub record TopicsGoOn : Type 0 where
+  pub command : (old : Topic) (who : ℕ) (c : TopicCommand) (answer : Answer) (new : Topic) → TopicStep old who c answer new → IsSound old → AreReceipts old → GoesOn old new
+  pub grant : (old : Topic) (who id permits : ℕ) (result : Result (Unit {0}) TooManyPermits) (new : Topic) → GrantStep old who id permits result new → IsSound old → AreReceipts old → GoesOn old new
+  pub dispatch : (old : Topic) (who id : ℕ) (result : Result (Option Outgoing) ReadError) (new : Topic) → DispatchStep old who id result new → IsSound old → AreReceipts old → GoesOn old new
+  pub collect : (old : Topic) (who : ℕ) (reply : Option Reply) (new : Topic) → Collects old who reply new → IsSound old → AreReceipts old → GoesOn old new
+  pub leave : (old : Topic) (who : ℕ) → IsSound old → AreReceipts old → GoesOn old (left old who)

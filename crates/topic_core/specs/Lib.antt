@@ -1,14 +1,10 @@
 pub mod Slots
-pub mod Core
+pub mod State
 pub mod Soundness
 pub mod Held
 pub mod Steps
 pub mod Dispatch
 pub mod Flush
 pub mod Crashes
-pub mod Views
 pub mod Standing
-pub mod Appends
-pub mod Writing
-pub mod Openings
 pub mod Laws

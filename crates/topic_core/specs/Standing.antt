@@ -1,59 +1,108 @@
--- A topic on its device: a core, its stores and the files.
-use Rattle.std.specs.Prelude.{◌≡◌, ℕ, ◌≤◌, false, ◌++◌, length, take, map}
+-- A topic on its device: the core, its store and the files.
+use Rattle.std.specs.Prelude.{◌≡◌, ℕ, ◌+◌, ◌≤◌, ◌^◌, Bool, true, false, ◌||◌, is_some, Result, Ok, Err, ◌++◌, length, map}
 use Rattle.disk.specs.Disk.{Disk, Image}
 use Rattle.managed_ledger.specs.Entries.{Entries}
-use Rattle.managed_ledger.specs.Stores as entries
-use Rattle.cursor_store.specs.Stores as subscriptions
 use Rattle.records.specs.Maps.{Kept}
 use Rattle.subscriptions.specs.Laws.{IsKept}
+use Rattle.topic_stores.specs.declared.batch.Batch.{Batch}
+use Rattle.topic_stores.specs.declared.error.WriteError.{WriteError}
+use Rattle.topic_stores.specs.declared.error.WriteError.TheVariants.{Device, NoMemory}
+use Rattle.topic_stores.specs.Views.{StoreView, Settled}
+use Rattle.topic_stores.specs.Writing.{StandsFor}
 use Rattle.topic_core.specs.Slots.{slot_of_entry}
-use Rattle.topic_core.specs.Core.{Core, Topic, topic_of, entries_in_doubt, changes_in_doubt}
-use Rattle.topic_core.specs.Crashes.{IsLeft}
-use Rattle.topic_core.specs.Views.{Views}
+use Rattle.topic_core.specs.State.{Topic, entries_of, entries_in_doubt, changes_in_doubt}
+use Rattle.topic_core.specs.Flush.{awaits}
+use Rattle.topic_core.specs.Crashes.{IsLeft, longer, changed}
 
--- Core and stores remember the same, whatever the device does: they are of one topic; where it works the stores do, and
--- have as many entries as are committed; and the subscriptions are what the changes make of the durable ones.
-pub record Match (core : Core) (stores : Views) : Type 0 where
-  pub one_topic : stores.subscriptions.topic ≡ stores.entries.topic
-  pub counted : core.failed ≡ false → stores.entries.total ≡ core.committed
-  pub entries_work : core.failed ≡ false → stores.entries.failed ≡ false
-  pub subscriptions_work : core.failed ≡ false → stores.subscriptions.failed ≡ false
-  pub kept : IsKept core.committed stores.subscriptions.kept core.subs
+-- how far the store is, beside the core
+pub data Phase : Type 0 where
+  -- it has what the core counts as committed: no flush is under way, or its batch isn't written
+  Before : Phase
+  -- it has what is in doubt too: the batch is written, and the core doesn't know yet
+  Written : Phase
+  -- it met a failure of the device, of which the core may not know yet
+  Lost : Phase
 
--- the topic of a core and its stores, where the files are these
-abbrev pub topic_in : Core → Views → Image → Topic
-topic_in core stores files = topic_of core (stores.entries.content files) stores.subscriptions.kept
+-- where the write of a batch ended so
+abbrev pub phase_after : Result (Unit {0}) WriteError → Phase
+phase_after (Ok done) = Written
+phase_after (Err NoMemory) = Before
+phase_after (Err Device) = Lost
 
--- these files stand for what a crash leaves of the topic
-pub record StandsFor (entries_stand : Image → Entries → Type 0) (subscriptions_stand : ℕ → Image → Kept → Type 0) (t : Topic) (files : Image) : Type 0 where
-  pub ledger : Entries
-  pub kept : Kept
-  pub is_left : IsLeft t ledger kept
-  pub entries : entries_stand files ledger
-  pub subscriptions : subscriptions_stand (length ledger) files kept
+-- where no flush is under way
+abbrev pub resting : Bool → Phase
+resting true = Lost
+resting false = Before
 
--- both stores work, and the device holds what they remember
-pub record AreSettled (core : Core) (stores : Views) (disk : Disk) : Type 0 where
-  pub counted : length (stores.entries.content disk.seen) ≡ core.committed
-  pub entries : entries.Settled stores.entries.holds disk (stores.entries.content disk.seen)
-  pub subscriptions : subscriptions.Settled (stores.subscriptions.holds core.committed) stores.subscriptions.written disk stores.subscriptions.kept
+-- a whole flush, a reopening or a dispatch leaves the phase, but for a topic that fails by it or is opened again
+abbrev pub phase_then : Bool → Bool → Phase → Phase
+phase_then true true phase = phase
+phase_then true false phase = Before
+phase_then false true phase = Lost
+phase_then false false phase = phase
 
--- Core, stores and device hold a topic together. Whatever a crash now leaves has the committed entries, and stands for what
--- a crash leaves of the topic. Where the topic works its stores are settled. Each entry has its slot.
-pub record Standing (core : Core) (stores : Views) (disk : Disk) : Type 0 where
+-- the batch is a copy of what the core has handed on, and there are numbers for its entries
+pub record IsFor (core : Topic) (batch : Batch) : Type 0 where
+  pub awaited : awaits core batch ≡ true
+  pub entries : batch.entries.items ≡ entries_in_doubt core
+  pub changes : batch.changes.items ≡ changes_in_doubt core
+  pub numbered : core.committed + length batch.entries.items ≤ 2 ^ 62
+
+-- the store remembers what the core counts as committed
+pub record IsBefore (core : Topic) (v : StoreView) : Type 0 where
+  pub core_works : core.failed ≡ false
+  pub works : v.failed ≡ false
+  pub counted : v.count ≡ core.committed
+  pub kept : v.kept ≡ core.kept
+
+-- it remembers what is in doubt too
+pub record IsWritten (core : Topic) (v : StoreView) : Type 0 where
+  pub core_works : core.failed ≡ false
+  pub under_way : is_some core.doubt ≡ true
+  pub works : v.failed ≡ false
+  pub counted : v.count ≡ core.committed + entries_of core.doubt
+  pub kept : v.kept ≡ changed core
+
+-- it refuses
+pub record IsLost (core : Topic) (v : StoreView) : Type 0 where
+  pub told : (core.failed || is_some core.doubt) ≡ true
+  pub failed : v.failed ≡ true
+
+abbrev pub Remembers : Phase → Topic → StoreView → Type 0
+Remembers Before core v = IsBefore core v
+Remembers Written core v = IsWritten core v
+Remembers Lost core v = IsLost core v
+
+-- Topic and store remember the same, whatever the device does. The subscriptions are what the changes make of the durable ones.
+pub record Match (phase : Phase) (core : Topic) (v : StoreView) : Type 0 where
+  pub kept : IsKept core.committed core.kept core.subs
+  pub remembers : Remembers phase core v
+
+-- what the device holds
+abbrev pub Holds : Phase → Topic → StoreView → Disk → Type 0
+Holds Before core v disk = Settled v disk core.ledger core.kept
+Holds Written core v disk = Settled v disk (longer core) (changed core)
+Holds Lost core v disk = Unit {0}
+
+-- Topic, store and device hold a topic together, in this phase. Whatever a crash now leaves stands for what a crash leaves of the
+-- topic. Each entry has its slot.
+pub record Standing (files_stand : ℕ → Image → Entries → Kept → Type 0) (phase : Phase) (core : Topic) (v : StoreView) (disk : Disk) : Type 0 where
+  pub matched : Match phase core v
   pub honest : disk.honest
-  pub counted : core.committed ≤ length (stores.entries.content disk.seen)
-  pub same : (files : Image) → disk.may_leave files → take core.committed (stores.entries.content files) ≡ take core.committed (stores.entries.content disk.seen)
-  pub left : (files : Image) → disk.may_leave files → StandsFor stores.entries.stands stores.subscriptions.stands (topic_in core stores disk.seen) files
-  pub settled : core.failed ≡ false → AreSettled core stores disk
-  pub slots : core.subs.slots ≡ map slot_of_entry (take core.committed (stores.entries.content disk.seen) ++ core.waiting)
+  pub counted : length core.ledger ≡ core.committed
+  pub slots : core.subs.slots ≡ map slot_of_entry (core.ledger ++ core.waiting)
+  pub left : (files : Image) → disk.may_leave files → StandsFor (files_stand v.topic) (IsLeft core) files
+  pub holds : Holds phase core v disk
 
--- Stores and device that go with the old core go with the new one: as many entries are committed, it works or has failed as
+-- Store and device that go with the old core go with the new one: the same entries are committed, it works or has failed as
 -- before, the same is in doubt, and the subscriptions are what the changes make of the same durable ones. A ledger id has as
 -- many entry ids as before, and where each entry had its slot, each has.
-pub record GoesOn (old new : Core) : Type 0 where
+pub record GoesOn (old new : Topic) : Type 0 where
   pub committed : new.committed ≡ old.committed
+  pub ledger : new.ledger ≡ old.ledger
+  pub durable : new.kept ≡ old.kept
   pub failed : new.failed ≡ old.failed
+  pub doubt : new.doubt ≡ old.doubt
   pub entries : entries_in_doubt new ≡ entries_in_doubt old
   pub changes : changes_in_doubt new ≡ changes_in_doubt old
   pub kept : (kept : Kept) → IsKept old.committed kept old.subs → IsKept new.committed kept new.subs

@@ -1,77 +1,87 @@
-ghost use Rattle.std.specs.Prelude.{◌≡◌, ◌⊎◌, ◌+◌, ◌≤◌, ℕ, true, false, length, drop, sum_by, IfErr, OnOk, IsErrOf};
+ghost use Rattle.std.specs.Prelude.{◌≡◌, ◌+◌, ◌≤◌, ◌++◌, true, false, length, drop, sum_by, Ok, IfOk, IfSome, IsErrOf};
 ghost use Rattle.disk.specs.Disk.{Kept, Failed};
 ghost use Rattle.disk.specs.Areas.{OfTopic, Within};
-ghost use Rattle.gated_log.specs.declared.refusal.Refusal.TheVariants.{Device, NoMemory};
-ghost use Rattle.topic_core.specs.Core.{entries_of, changes_of};
-ghost use Rattle.topic_core.specs.Flush.{TakeStep, FinishStep, FlushStep, is_idle, finished, taken_back, failed, in_flush};
-ghost use Rattle.topic_core.specs.Standing.{Match, AreSettled, Standing, StandsFor, topic_in};
-ghost use Rattle.topic_core.specs.Writing.{IsWritten, IsUnwritten, IsInDoubt, WriteEnds};
+ghost use Rattle.records.specs.Records.{after_all};
+ghost use Rattle.topic_stores.specs.declared.error.WriteError.TheVariants.{Device, NoMemory};
+ghost use Rattle.topic_stores.specs.Writing.{StandsFor};
+ghost use Rattle.topic_core.specs.State.{CountsStay, entries_of, changes_of, entries_in_doubt, changes_in_doubt};
+ghost use Rattle.topic_core.specs.Crashes.{IsLeft};
+ghost use Rattle.topic_core.specs.Flush.{handed_on, TakeStep, FinishStep, FlushStep, awaits, has_no_flush, is_idle, finished, taken_back, failed};
+ghost use Rattle.topic_core.specs.Standing.{Phase, IsFor, Match, Standing, phase_then};
 
-use crate::appending::{append_changes, append_entries, prepare_changes, prepare_entries};
 use crate::closing::{are_open, drop_closed, hand_on_closings, take_closings_back};
-use crate::stores::{Stores, TopicStores};
+use crate::durable::Durable;
 use crate::topic::{Doubt, TopicCore};
 use bytes::Bytes;
-use cursor_store::SubStore;
 use disk::Shelf;
-use gated_log::Refusal;
-use managed_ledger::EntryStore;
 use reply_queues::{are_idle, hand_on_all, make_all_due, refuse_all, take_all_back};
+use topic_stores::{Batch, TopicStore, WriteError};
 
 impl TopicCore {
     /// Commits what waits, the entries before the changes of the subscriptions, and answers how many entries these were; 0
-    /// where nothing waits. Want of memory changes nothing and reaches no device. A failure of the device fails the topic.
-    pub fn flush<E: EntryStore, C: SubStore, S: Shelf>(
+    /// where nothing waits or a flush is under way. Want of memory changes nothing and reaches no device. A failure of the
+    /// device fails the topic.
+    pub fn flush<T: TopicStore, S: Shelf>(
         &mut self,
-        stores: &mut TopicStores<E, C>,
+        stores: &mut T,
         shelf: &mut S,
-    ) -> Result<usize, Refusal>
-        requires matched { Match self.old (⟦<TopicStores<E, C> as Stores>⟧.views stores.old) }
-        ensures matched { Match self.new (⟦<TopicStores<E, C> as Stores>⟧.views stores.new) }
-        ensures step { Standing self.old (⟦<TopicStores<E, C> as Stores>⟧.views stores.old) (S.disk shelf.old) →
-            FlushStep (topic_in self.old (⟦<TopicStores<E, C> as Stores>⟧.views stores.old) (S.disk shelf.old).seen) result (topic_in self.new (⟦<TopicStores<E, C> as Stores>⟧.views stores.new) (S.disk shelf.new).seen) }
-        ensures standing { Standing self.old (⟦<TopicStores<E, C> as Stores>⟧.views stores.old) (S.disk shelf.old) →
-            Standing self.new (⟦<TopicStores<E, C> as Stores>⟧.views stores.new) (S.disk shelf.new) }
+    ) -> Result<usize, WriteError>
+        requires matched { (phase : Phase) × Match phase self.old (T.view stores.old) }
+        ensures matched { (phase : Phase) → Match phase self.old (T.view stores.old) → Match (phase_then self.old.failed self.new.failed phase) self.new (T.view stores.new) }
+        ensures step { FlushStep self.old result self.new }
+        ensures standing { (phase : Phase) → Standing T.stands phase self.old (T.view stores.old) (S.disk shelf.old) →
+            Standing T.stands (phase_then self.old.failed self.new.failed phase) self.new (T.view stores.new) (S.disk shelf.new) }
 
         // A crash at any moment leaves the old ledger and subscriptions, the ledger with all that waits, or both with it;
         // files of other topics are as they were.
-        ensures within { Standing self.old (⟦<TopicStores<E, C> as Stores>⟧.views stores.old) (S.disk shelf.old) → self.old.failed ≡ false →
-            Within (OfTopic (E.topic_of stores.old.entries))
-            (StandsFor (E.stands (E.topic_of stores.old.entries)) (C.stands (E.topic_of stores.old.entries)) (in_flush (topic_in self.old (⟦<TopicStores<E, C> as Stores>⟧.views stores.old) (S.disk shelf.old).seen)))
-            (S.disk shelf.old) (S.disk shelf.new) }
+        ensures within { (phase : Phase) → Standing T.stands phase self.old (T.view stores.old) (S.disk shelf.old) → self.old.failed ≡ false → has_no_flush self.old ≡ false →
+            Within (OfTopic (T.view stores.old).topic) (StandsFor (T.stands (T.view stores.old).topic) (IsLeft (handed_on self.old))) (S.disk shelf.old) (S.disk shelf.new) }
 
-        ensures topic { E.topic_of stores.new.entries ≡ E.topic_of stores.old.entries }
+        ensures topic { (T.view stores.new).topic ≡ (T.view stores.old).topic }
         ensures per_ledger { self.new.per_ledger ≡ self.old.per_ledger }
-        ensures refused { self.old.failed ≡ true → (shelf.new ≡ shelf.old) × (self.new ≡ self.old) }
+        ensures counts { CountsStay self.old self.new }
+        ensures idle { has_no_flush self.old ≡ true → (shelf.new ≡ shelf.old) × (stores.new ≡ stores.old) }
+        ensures refused { self.old.failed ≡ true → (shelf.new ≡ shelf.old) × (stores.new ≡ stores.old) × (self.new ≡ self.old) }
         ensures no_memory { IsErrOf result NoMemory → (shelf.new ≡ shelf.old) × (self.new ≡ self.old) }
         ensures cause { self.old.failed ≡ false → IsErrOf result Device → Failed (S.disk shelf.old) (S.disk shelf.new) }
-        ensures refusals { IfErr result (λ e. (e ≡ Device) ⊎ (e ≡ NoMemory)) }
         ensures kept { Kept (S.disk shelf.old) (S.disk shelf.new) }
     {
-        if self.failed {
-            return Err(Refusal::Device);
-        }
-        if !self.take() {
+        // The proof reads here what holds of a topic at any time.
+        let _ = &self.alloc;
+        let Some(batch) = self.take_batch()? else {
             return Ok(0);
-        }
-        let written = self.write(stores, shelf);
-        self.finish(written)
+        };
+        let written = stores.write(shelf, &batch);
+        self.finish(batch, written)
     }
 
-    /// Hands on all that waits, and answers whether there is something.
-    fn take(&mut self) -> bool
-        ensures { TakeStep self.old result self.new }
+    /// Hands on all that waits, and copies it, sharing the bytes of the entries. None where nothing waits or a flush is under
+    /// way; want of memory changes nothing.
+    pub fn take_batch(&mut self) -> Result<Option<Batch>, WriteError>
+        ensures step { TakeStep self.old result self.new }
+        ensures batch { IfOk result (λ taken. IfSome taken (λ batch. IsFor self.new batch)) }
     {
-        if self.doubt.is_some() || self.is_idle() {
-            return false;
+        if self.failed {
+            return Err(WriteError::Device);
         }
+        if self.doubt.is_some() || self.is_idle() {
+            return Ok(None);
+        }
+        let batch = Batch::copy_of(self.alloc, self.waiting.as_slice(), self.subs.changes())?;
+        self.hand_on();
+        Ok(Some(batch))
+    }
+
+    /// All that waits is handed on.
+    fn hand_on(&mut self)
+        ensures { self.new ≡ handed_on self.old }
+    {
         hand_on_all(&mut self.queues);
         hand_on_closings(&mut self.producers);
         self.doubt = Some(Doubt {
             entries: self.waiting.len(),
             changes: self.subs.changes().len(),
         });
-        true
     }
 
     /// Whether nothing waits for a flush.
@@ -84,47 +94,38 @@ impl TopicCore {
             && are_open(self.producers.as_slice())
     }
 
-    /// Adds what was handed on to the stores, the entries before the changes. All memory is taken before the first device call.
-    fn write<E: EntryStore, C: SubStore, S: Shelf>(
-        &self,
-        stores: &mut TopicStores<E, C>,
-        shelf: &mut S,
-    ) -> Result<(), Refusal>
-        requires works { self.now.failed ≡ false }
-        requires matched { Match self.now (⟦<TopicStores<E, C> as Stores>⟧.views stores.old) }
-        ensures ends { WriteEnds self.now (⟦<TopicStores<E, C> as Stores>⟧.views stores.old) result (⟦<TopicStores<E, C> as Stores>⟧.views stores.new) (S.disk shelf.old) (S.disk shelf.new) }
-        ensures within { AreSettled self.now (⟦<TopicStores<E, C> as Stores>⟧.views stores.old) (S.disk shelf.old) →
-            Within (OfTopic (E.topic_of stores.old.entries))
-            (StandsFor (E.stands (E.topic_of stores.old.entries)) (C.stands (E.topic_of stores.old.entries)) (topic_in self.now (⟦<TopicStores<E, C> as Stores>⟧.views stores.old) (S.disk shelf.old).seen))
-            (S.disk shelf.old) (S.disk shelf.new) }
-        ensures topic { E.topic_of stores.new.entries ≡ E.topic_of stores.old.entries }
-        ensures no_memory { IsErrOf result NoMemory → shelf.new ≡ shelf.old }
-        ensures cause { IsErrOf result Device → Failed (S.disk shelf.old) (S.disk shelf.new) }
-        ensures kept { Kept (S.disk shelf.old) (S.disk shelf.new) }
+    /// Whether the topic works and has handed on as much as the batch has.
+    pub fn awaits(&self, batch: &Batch) -> bool
+        ensures { result ≡ awaits self.now batch.now }
     {
-        let entries = &self.waiting[..self.entries_handed_on()];
-        let changes = &self.subs.changes()[..self.changes_handed_on()];
-        let prepared_entries = prepare_entries(&mut stores.entries, entries)?;
-        let prepared_changes = prepare_changes(&mut stores.subscriptions, changes)?;
-        append_entries(&mut stores.entries, shelf, prepared_entries)?;
-        append_changes(&mut stores.subscriptions, shelf, prepared_changes)?;
-        Ok(())
+        !self.failed
+            && self.doubt.is_some()
+            && self.entries_handed_on() == batch.entries.len()
+            && self.changes_handed_on() == batch.changes.len()
     }
 
-    /// Ends a flush as its write did, which wants memory or meets a failure of the device where it is refused.
-    fn finish(&mut self, written: Result<(), Refusal>) -> Result<usize, Refusal>
-        requires { IfErr written (λ e. (e ≡ Device) ⊎ (e ≡ NoMemory)) }
-        ensures { FinishStep self.old written result self.new }
+    /// Ends a flush as the write of its batch did, and answers how many entries it committed. A batch that the topic doesn't
+    /// await changes nothing, and the answer is 0. Takes no memory.
+    pub fn finish(
+        &mut self,
+        batch: Batch,
+        written: Result<(), WriteError>,
+    ) -> Result<usize, WriteError>
+        ensures step { awaits self.old batch ≡ true → FinishStep self.old written result self.new }
+        ensures other { awaits self.old batch ≡ false → (result ≡ Ok 0) × (self.new ≡ self.old) }
     {
+        if !self.awaits(&batch) {
+            return Ok(0);
+        }
         match written {
             Ok(()) => Ok(self.commit()),
-            Err(Refusal::Device) => {
+            Err(WriteError::Device) => {
                 self.fail();
-                Err(Refusal::Device)
+                Err(WriteError::Device)
             }
-            Err(refusal) => {
+            Err(WriteError::NoMemory) => {
                 self.take_back();
-                Err(refusal)
+                Err(WriteError::NoMemory)
             }
         }
     }
@@ -159,6 +160,7 @@ impl TopicCore {
         let count = self.entries_handed_on();
         let changes = self.changes_handed_on();
         let bytes = bytes_in(&self.waiting[..count]);
+        self.durable = self.durable_after();
         drop_first(&mut self.waiting, count);
         self.waiting_bytes -= bytes;
         self.committed += count as u64;
@@ -167,6 +169,13 @@ impl TopicCore {
         drop_closed(&mut self.producers);
         self.doubt = None;
         count
+    }
+
+    /// What is durable once what was handed on is.
+    fn durable_after(&self) -> Durable
+        ensures { (result.ledger ≡ self.now.ledger ++ entries_in_doubt self.now) × (result.kept ≡ after_all (changes_in_doubt self.now) self.now.kept) }
+    {
+        Durable {}
     }
 
     /// What was handed on waits again.

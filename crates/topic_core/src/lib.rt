@@ -7,18 +7,17 @@
 //! changes, its entries, or nothing of it; a failure of the device fails the topic until it is opened again.
 #![tactic(auto)]
 
-mod appending;
 mod closing;
 mod command;
 mod consuming;
 mod dispatch;
+mod durable;
 mod flush;
 mod laws;
 mod opening;
 mod producer;
 mod redelivering;
 mod slots;
-mod stores;
 mod topic;
 mod unsubscribing;
 
@@ -28,11 +27,11 @@ pub use command::{
 };
 pub use dispatch::Outgoing;
 pub use laws::{
-    answers_are_no_receipts, answers_fit, cores_go_on, entries_are_published, flushes_commit,
-    flushes_keep, ids_are_positions, messages_are_admitted, messages_go_to_their_ranges,
-    receipts_are_covered, stays_sound,
+    answers_are_no_receipts, answers_fit, entries_are_published, flushes_commit, flushes_keep,
+    ids_are_positions, messages_are_admitted, messages_go_to_their_ranges, receipts_are_covered,
+    stays_sound, topics_go_on,
 };
 pub use producer::{Producer, ProducerState};
-pub use stores::{Stores, TopicStores};
 pub use subscriptions::TooManyPermits;
 pub use topic::TopicCore;
+pub use topic_stores::{Batch, FileStores, ReadError, TopicStore, TopicStores, WriteError};

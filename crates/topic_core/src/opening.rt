@@ -1,116 +1,55 @@
-// The opening of a topic's stores, of a topic over them, and of a topic that failed.
-ghost use Rattle.std.specs.Prelude.{◌≡◌, ◌⊎◌, ◌<◌, ◌≤◌, ◌^◌, ℕ, List, [], true, false, length, map, IfOk, IfErr, OnOk, OnErr, IsErr, IsErrOf};
-ghost use Rattle.std.specs.FinMap as map;
+// The opening of a topic over a store, and of a topic that failed.
+ghost use Rattle.std.specs.Prelude.{◌≡◌, ◌⊎◌, ◌<◌, ◌≤◌, ◌^◌, List, [], true, false, length, map, IfOk, IfErr, OnOk, OnErr, IsErr, IsErrOf};
 ghost use Rattle.disk.specs.Disk.{Same, Leaves, Kept as Counted, Failed};
-ghost use Rattle.disk.specs.Areas.{Agree, OfTopic, Within};
+ghost use Rattle.disk.specs.Areas.{OfTopic, Within};
 ghost use Rattle.gated_log.specs.declared.refusal.Refusal.TheVariants.{Device, NoMemory};
 ghost use Rattle.managed_ledger.specs.Entries.{Entries};
-ghost use Rattle.managed_ledger.specs.Shape.{total};
-ghost use Rattle.subscriptions.specs.Steps.{slotted};
-ghost use Rattle.topic_core.specs.Slots.{slot_of_entry};
+ghost use Rattle.subscriptions.specs.Steps.{slotted, opened as opened_subscriptions};
+ghost use Rattle.subscriptions.specs.Laws.{AreDurable};
 ghost use Rattle.records.specs.Maps.{Kept};
-ghost use Rattle.topic_core.specs.Core.{opened};
-ghost use Rattle.topic_core.specs.Crashes.{ReopenStep, reopened};
-ghost use Rattle.topic_core.specs.Openings.{AreOpened, Hold};
-ghost use Rattle.topic_core.specs.Standing.{Match, AreSettled, Standing, StandsFor, topic_in};
+ghost use Rattle.topic_stores.specs.Writing.{StandsFor};
+ghost use Rattle.topic_core.specs.Slots.{slot_of_entry};
+ghost use Rattle.topic_core.specs.State.{CountsStay, opened};
+ghost use Rattle.topic_core.specs.Crashes.{IsLeft, ReopenStep, reopened};
+ghost use Rattle.topic_core.specs.Standing.{Phase, resting, Match, Standing, phase_then};
 
-use crate::dispatch::read_entry;
+use crate::durable::{Durable, Found, KeptCursors};
 use crate::slots::slot_of_entry;
-use crate::stores::{Stores, TopicStores};
 use crate::topic::TopicCore;
-use cursor_store::SubStore;
-use disk::{DeviceError, FileId, Shelf};
+use disk::{FileId, Shelf};
 use gated_log::Refusal;
-use managed_ledger::EntryStore;
 use std::alloc::Global;
 use subscriptions::Subscriptions;
-
-impl<E: EntryStore, C: SubStore> TopicStores<E, C> {
-    /// Makes the stores of a topic, without entries and subscriptions, whatever was in its first segment and its slots. Takes
-    /// no memory. Until the `Ok` a crash may leave anything of the topic's files.
-    pub fn create<S: Shelf>(
-        alloc: Global,
-        shelf: &mut S,
-        topic: u16,
-        per_ledger: u32,
-    ) -> Result<TopicStores<E, C>, DeviceError>
-        ensures created { (S.disk shelf.old).honest → IfOk result (λ stores. Hold (⟦<TopicStores<E, C> as Stores>⟧.views stores) (S.disk shelf.new) [] map.empty) }
-        ensures works { IfOk result (λ stores. AreOpened (⟦<TopicStores<E, C> as Stores>⟧.views stores)) }
-        ensures topic { IfOk result (λ stores. E.topic_of stores.entries ≡ topic) }
-        ensures others { (S.disk shelf.old).honest → Within (OfTopic topic) (λ c. Unit {0}) (S.disk shelf.old) (S.disk shelf.new) }
-        ensures cause { IsErr result → Failed (S.disk shelf.old) (S.disk shelf.new) }
-        ensures kept { Counted (S.disk shelf.old) (S.disk shelf.new) }
-    {
-        let entries = E::create(alloc, shelf, topic, per_ledger)?;
-        let subscriptions = C::create(alloc, shelf, topic)?;
-        Ok(TopicStores {
-            entries,
-            subscriptions,
-        })
-    }
-
-    /// Opens the stores of a topic, whatever a crash left of its files. Where the files stand for entries and subscriptions,
-    /// these are opened, unless there is no memory or the device fails.
-    pub fn open<S: Shelf>(
-        alloc: Global,
-        shelf: &mut S,
-        topic: u16,
-        per_ledger: u32,
-    ) -> Result<TopicStores<E, C>, Refusal>
-        ensures opened { (ledger : Entries) (kept : Kept) → (S.disk shelf.old).honest → E.stands topic (S.disk shelf.old).seen ledger → C.stands topic (length ledger) (S.disk shelf.old).seen kept →
-            IfOk result (λ stores. Hold (⟦<TopicStores<E, C> as Stores>⟧.views stores) (S.disk shelf.new) ledger kept) }
-        ensures refused { (ledger : Entries) (kept : Kept) → (S.disk shelf.old).honest → E.stands topic (S.disk shelf.old).seen ledger → C.stands topic (length ledger) (S.disk shelf.old).seen kept →
-            IfErr result (λ e. (e ≡ NoMemory) ⊎ ((e ≡ Device) × Failed (S.disk shelf.old) (S.disk shelf.new))) }
-        ensures works { IfOk result (λ stores. AreOpened (⟦<TopicStores<E, C> as Stores>⟧.views stores)) }
-        ensures topic { IfOk result (λ stores. E.topic_of stores.entries ≡ topic) }
-        ensures few { IfOk result (λ stores. (⟦<TopicStores<E, C> as Stores>⟧.views stores).entries.total ≤ 2 ^ 62) }
-        ensures device { IsErrOf result Device → Failed (S.disk shelf.old) (S.disk shelf.new) }
-        ensures others { (S.disk shelf.old).honest → Agree (λ f. ¬ OfTopic topic f) (S.disk shelf.old).seen (S.disk shelf.new).seen }
-
-        // A crash at any moment leaves what it might have left before.
-        ensures any_moment { (S.disk shelf.old).honest → Leaves (S.disk shelf.old).may_leave (S.disk shelf.old) (S.disk shelf.new) }
-        ensures kept { Counted (S.disk shelf.old) (S.disk shelf.new) }
-    {
-        let entries = E::open(alloc, shelf, topic, per_ledger)?;
-        let subscriptions = C::open(alloc, shelf, topic, entries.len())?;
-        Ok(TopicStores {
-            entries,
-            subscriptions,
-        })
-    }
-}
+use topic_stores::TopicStore;
 
 impl TopicCore {
-    /// A topic over stores that were just opened, where a ledger id has so many entry ids. Each entry is read once, for its
-    /// slot. Over a device that isn't honest an entry that isn't there, or is longer than any that is accepted, is damage of
-    /// the first segment.
-    pub fn open<E: EntryStore, C: SubStore, S: Shelf>(
+    /// A topic over a store that was just opened, where a ledger id has so many entry ids. Each entry is read once, for its
+    /// slot.
+    pub fn open<T: TopicStore, S: Shelf>(
         alloc: Global,
         per_ledger: u32,
-        stores: &TopicStores<E, C>,
+        stores: &T,
         shelf: &mut S,
     ) -> Result<TopicCore, Refusal>
         requires numbered { 0 < per_ledger }
-        requires opened { AreOpened (⟦<TopicStores<E, C> as Stores>⟧.views stores.now) }
-        ensures opened { IfOk result (λ core. (slots : List ℕ) × (length slots ≡ (⟦<TopicStores<E, C> as Stores>⟧.views stores.now).entries.total)
-            × (core ≡ opened per_ledger (⟦<TopicStores<E, C> as Stores>⟧.views stores.now).entries.total slots (⟦<TopicStores<E, C> as Stores>⟧.views stores.now).subscriptions.kept)) }
-        ensures slots { (ledger : Entries) → (S.disk shelf.old).honest → E.holds stores.now.entries (S.disk shelf.old).seen ledger → IfOk result (λ core. core.subs.slots ≡ map slot_of_entry ledger) }
-        ensures matched { IfOk result (λ core. Match core (⟦<TopicStores<E, C> as Stores>⟧.views stores.now)) }
-        ensures refused { (ledger : Entries) → (S.disk shelf.old).honest → E.holds stores.now.entries (S.disk shelf.old).seen ledger →
+        requires works { (T.view stores.now).failed ≡ false }
+        ensures opened { IfOk result (λ core. (ledger : Entries) × (length ledger ≡ (T.view stores.now).count) × (core ≡ opened per_ledger ledger (map slot_of_entry ledger) (T.view stores.now).kept)) }
+        ensures found { (ledger : Entries) (kept : Kept) → (S.disk shelf.old).honest → (T.view stores.now).holds (S.disk shelf.old).seen ledger kept → IfOk result (λ core. core.ledger ≡ ledger) }
+        ensures matched { IfOk result (λ core. Match (resting false) core (T.view stores.now)) }
+        ensures refused { (ledger : Entries) (kept : Kept) → (S.disk shelf.old).honest → (T.view stores.now).holds (S.disk shelf.old).seen ledger kept →
             IfErr result (λ e. (e ≡ NoMemory) ⊎ ((e ≡ Device) × Failed (S.disk shelf.old) (S.disk shelf.new))) }
         ensures cause { IsErrOf result Device → Failed (S.disk shelf.old) (S.disk shelf.new) }
         ensures seen { (S.disk shelf.old).honest → Same (S.disk shelf.old).seen (S.disk shelf.new).seen }
         ensures any_moment { (S.disk shelf.old).honest → Leaves (S.disk shelf.old).may_leave (S.disk shelf.old) (S.disk shelf.new) }
         ensures kept { Counted (S.disk shelf.old) (S.disk shelf.new) }
     {
-        let committed = stores.entries.len();
-        let kept = stores.subscriptions.kept()?;
-        let subs = Subscriptions::opened(alloc, kept)?;
-        let subs = with_slots(alloc, subs, &stores.entries, shelf)?;
+        let committed = stores.len();
+        let Opened { subs, durable } = open_subscriptions(alloc, stores, shelf)?;
         Ok(TopicCore {
             alloc,
             per_ledger,
             committed,
+            durable,
             waiting: Vec::new(alloc),
             waiting_bytes: 0,
             accepted: 0,
@@ -125,42 +64,35 @@ impl TopicCore {
 
     /// Opens a failed topic again. Where that is refused it stays as it was; another topic stays as it is. Over a device that
     /// isn't honest fewer entries than were committed are damage of the first segment.
-    pub fn reopen<E: EntryStore, C: SubStore, S: Shelf>(
+    pub fn reopen<T: TopicStore, S: Shelf>(
         &mut self,
-        stores: &mut TopicStores<E, C>,
+        stores: &mut T,
         shelf: &mut S,
     ) -> Result<(), Refusal>
-        requires matched { Match self.old (⟦<TopicStores<E, C> as Stores>⟧.views stores.old) }
-        ensures matched { Match self.new (⟦<TopicStores<E, C> as Stores>⟧.views stores.new) }
-        ensures step { Standing self.old (⟦<TopicStores<E, C> as Stores>⟧.views stores.old) (S.disk shelf.old) →
-            ReopenStep (topic_in self.old (⟦<TopicStores<E, C> as Stores>⟧.views stores.old) (S.disk shelf.old).seen) result (topic_in self.new (⟦<TopicStores<E, C> as Stores>⟧.views stores.new) (S.disk shelf.new).seen) }
-        ensures standing { Standing self.old (⟦<TopicStores<E, C> as Stores>⟧.views stores.old) (S.disk shelf.old) →
-            Standing self.new (⟦<TopicStores<E, C> as Stores>⟧.views stores.new) (S.disk shelf.new) }
+        ensures matched { (phase : Phase) → Match phase self.old (T.view stores.old) → Match (phase_then self.old.failed self.new.failed phase) self.new (T.view stores.new) }
+        ensures step { (phase : Phase) → Standing T.stands phase self.old (T.view stores.old) (S.disk shelf.old) → ReopenStep self.old result self.new }
+        ensures standing { (phase : Phase) → Standing T.stands phase self.old (T.view stores.old) (S.disk shelf.old) →
+            Standing T.stands (phase_then self.old.failed self.new.failed phase) self.new (T.view stores.new) (S.disk shelf.new) }
 
         // A crash at any moment leaves what it might have left before, and files of other topics are as they were.
         ensures any_moment { (S.disk shelf.old).honest → Leaves (S.disk shelf.old).may_leave (S.disk shelf.old) (S.disk shelf.new) }
-        ensures within { Standing self.old (⟦<TopicStores<E, C> as Stores>⟧.views stores.old) (S.disk shelf.old) →
-            Within (OfTopic (E.topic_of stores.old.entries))
-            (StandsFor (E.stands (E.topic_of stores.old.entries)) (C.stands (E.topic_of stores.old.entries)) (topic_in self.old (⟦<TopicStores<E, C> as Stores>⟧.views stores.old) (S.disk shelf.old).seen))
-            (S.disk shelf.old) (S.disk shelf.new) }
+        ensures within { (phase : Phase) → Standing T.stands phase self.old (T.view stores.old) (S.disk shelf.old) →
+            Within (OfTopic (T.view stores.old).topic) (StandsFor (T.stands (T.view stores.old).topic) (IsLeft self.old)) (S.disk shelf.old) (S.disk shelf.new) }
 
-        ensures topic { E.topic_of stores.new.entries ≡ E.topic_of stores.old.entries }
+        ensures topic { (T.view stores.new).topic ≡ (T.view stores.old).topic }
         ensures per_ledger { self.new.per_ledger ≡ self.old.per_ledger }
-        ensures refused { IsErr result → self.new ≡ self.old }
+        ensures counts { CountsStay self.old self.new }
+        ensures works { self.old.failed ≡ false → self.new ≡ self.old }
+        ensures refused { IsErr result → (self.new ≡ self.old) × (stores.new ≡ stores.old) }
         ensures cause { IsErrOf result Device → Failed (S.disk shelf.old) (S.disk shelf.new) }
         ensures kept { Counted (S.disk shelf.old) (S.disk shelf.new) }
     {
         if !self.failed {
             return Ok(());
         }
-        let topic = stores.entries.topic();
-        let again: TopicStores<E, C> = TopicStores::open(
-            self.alloc,
-            shelf,
-            topic,
-            self.per_ledger,
-        )?;
-        if again.entries.len() < self.committed {
+        let topic = stores.topic();
+        let again = T::open(self.alloc, shelf, topic, self.per_ledger)?;
+        if again.len() < self.committed {
             return Err(Refusal::Damaged {
                 file: FileId::Segment { topic, number: 0 },
                 offset: 0,
@@ -171,32 +103,26 @@ impl TopicCore {
         Ok(())
     }
 
-    /// Goes on over stores that were just opened. What it owes and what it counted stay.
-    fn restart<E: EntryStore, C: SubStore, S: Shelf>(
-        &mut self,
-        stores: &TopicStores<E, C>,
-        shelf: &mut S,
-    ) -> Result<(), Refusal>
+    /// Goes on over a store that was just opened. What it owes and what it counted stay.
+    fn restart<T: TopicStore, S: Shelf>(&mut self, stores: &T, shelf: &mut S) -> Result<(), Refusal>
         requires failed { self.old.failed ≡ true }
-        requires more { self.old.committed ≤ (⟦<TopicStores<E, C> as Stores>⟧.views stores.now).entries.total }
-        requires few { (⟦<TopicStores<E, C> as Stores>⟧.views stores.now).entries.total ≤ 2 ^ 62 }
-        requires opened { AreOpened (⟦<TopicStores<E, C> as Stores>⟧.views stores.now) }
-        ensures ok { OnOk result ((slots : List ℕ) × (length slots ≡ (⟦<TopicStores<E, C> as Stores>⟧.views stores.now).entries.total)
-            × (self.new ≡ reopened self.old (⟦<TopicStores<E, C> as Stores>⟧.views stores.now).entries.total slots (⟦<TopicStores<E, C> as Stores>⟧.views stores.now).subscriptions.kept)) }
-        ensures slots { (ledger : Entries) → (S.disk shelf.old).honest → E.holds stores.now.entries (S.disk shelf.old).seen ledger → OnOk result (self.new.subs.slots ≡ map slot_of_entry ledger) }
-        ensures matched { OnOk result (Match self.new (⟦<TopicStores<E, C> as Stores>⟧.views stores.now)) }
+        requires more { self.old.committed ≤ (T.view stores.now).count }
+        requires few { (T.view stores.now).count ≤ 2 ^ 62 }
+        requires works { (T.view stores.now).failed ≡ false }
+        ensures ok { OnOk result ((ledger : Entries) × (length ledger ≡ (T.view stores.now).count) × (self.new ≡ reopened self.old ledger (map slot_of_entry ledger) (T.view stores.now).kept)) }
+        ensures found { (ledger : Entries) (kept : Kept) → (S.disk shelf.old).honest → (T.view stores.now).holds (S.disk shelf.old).seen ledger kept → OnOk result (self.new.ledger ≡ ledger) }
+        ensures matched { OnOk result (Match (resting false) self.new (T.view stores.now)) }
         ensures err { OnErr result (self.new ≡ self.old) }
-        ensures refused { (ledger : Entries) → (S.disk shelf.old).honest → E.holds stores.now.entries (S.disk shelf.old).seen ledger →
+        ensures refused { (ledger : Entries) (kept : Kept) → (S.disk shelf.old).honest → (T.view stores.now).holds (S.disk shelf.old).seen ledger kept →
             IfErr result (λ e. (e ≡ NoMemory) ⊎ ((e ≡ Device) × Failed (S.disk shelf.old) (S.disk shelf.new))) }
         ensures cause { IsErrOf result Device → Failed (S.disk shelf.old) (S.disk shelf.new) }
         ensures seen { (S.disk shelf.old).honest → Same (S.disk shelf.old).seen (S.disk shelf.new).seen }
         ensures any_moment { (S.disk shelf.old).honest → Leaves (S.disk shelf.old).may_leave (S.disk shelf.old) (S.disk shelf.new) }
         ensures kept { Counted (S.disk shelf.old) (S.disk shelf.new) }
     {
-        let kept = stores.subscriptions.kept()?;
-        let subs = Subscriptions::opened(self.alloc, kept)?;
-        let subs = with_slots(self.alloc, subs, &stores.entries, shelf)?;
-        self.committed = stores.entries.len();
+        let Opened { subs, durable } = open_subscriptions(self.alloc, stores, shelf)?;
+        self.committed = stores.len();
+        self.durable = durable;
         self.waiting = Vec::new(self.alloc);
         self.waiting_bytes = 0;
         self.producers = Vec::new(self.alloc);
@@ -207,28 +133,64 @@ impl TopicCore {
     }
 }
 
-/// The subscriptions with the slots of all entries, each of which is read once.
-fn with_slots<E: EntryStore, S: Shelf>(
-    alloc: Global,
+/// The subscriptions with the slots of all entries, and what is durable.
+#[derive(Drop)]
+struct Opened {
     subs: Subscriptions,
-    entries: &E,
+    durable: Durable,
+}
+
+/// The subscriptions of a store, with the slots of all its entries, each of which is read once.
+fn open_subscriptions<T: TopicStore, S: Shelf>(
+    alloc: Global,
+    stores: &T,
     shelf: &mut S,
-) -> Result<Subscriptions, Refusal>
-    requires { E.failed entries.now ≡ false }
-    ensures added { IfOk result (λ t. (slots : List ℕ) × (length slots ≡ total (E.counts entries.now)) × (t ≡ slotted subs slots)) }
-    ensures slots { (ledger : Entries) → (S.disk shelf.old).honest → E.holds entries.now (S.disk shelf.old).seen ledger → IfOk result (λ t. t ≡ slotted subs (map slot_of_entry ledger)) }
-    ensures refused { (ledger : Entries) → (S.disk shelf.old).honest → E.holds entries.now (S.disk shelf.old).seen ledger →
+) -> Result<Opened, Refusal>
+    requires { (T.view stores.now).failed ≡ false }
+    ensures added { IfOk result (λ t. (length t.durable.ledger ≡ (T.view stores.now).count) × (t.subs ≡ slotted (opened_subscriptions (T.view stores.now).kept) (map slot_of_entry t.durable.ledger)) × (t.durable.kept ≡ (T.view stores.now).kept)) }
+    ensures durable { IfOk result (λ t. AreDurable (T.view stores.now).kept) }
+    ensures found { (ledger : Entries) (kept : Kept) → (S.disk shelf.old).honest → (T.view stores.now).holds (S.disk shelf.old).seen ledger kept → IfOk result (λ t. t.durable.ledger ≡ ledger) }
+    ensures refused { (ledger : Entries) (kept : Kept) → (S.disk shelf.old).honest → (T.view stores.now).holds (S.disk shelf.old).seen ledger kept →
         IfErr result (λ e. (e ≡ NoMemory) ⊎ ((e ≡ Device) × Failed (S.disk shelf.old) (S.disk shelf.new))) }
     ensures cause { IsErrOf result Device → Failed (S.disk shelf.old) (S.disk shelf.new) }
     ensures seen { (S.disk shelf.old).honest → Same (S.disk shelf.old).seen (S.disk shelf.new).seen }
     ensures any_moment { (S.disk shelf.old).honest → Leaves (S.disk shelf.old).may_leave (S.disk shelf.old) (S.disk shelf.new) }
     ensures kept { Counted (S.disk shelf.old) (S.disk shelf.new) }
 {
-    let mut subs = subs;
-    for position in 0..entries.len() {
-        let entry = read_entry(entries, shelf, position)?;
+    let cursors = stores.kept()?;
+    let kept = KeptCursors { cursors };
+    let durable = Durable::of(&kept);
+    let subs = Subscriptions::opened(alloc, kept.cursors)?;
+    with_slots(alloc, Opened { subs, durable }, stores, shelf)
+}
+
+/// What was opened, with the slots of all entries, each of which is read once.
+fn with_slots<T: TopicStore, S: Shelf>(
+    alloc: Global,
+    opened: Opened,
+    stores: &T,
+    shelf: &mut S,
+) -> Result<Opened, Refusal>
+    requires works { (T.view stores.now).failed ≡ false }
+    requires none { opened.durable.ledger ≡ [] }
+    ensures added { IfOk result (λ t. (length t.durable.ledger ≡ (T.view stores.now).count) × (t.subs ≡ slotted opened.subs (map slot_of_entry t.durable.ledger)) × (t.durable.kept ≡ opened.durable.kept)) }
+    ensures found { (ledger : Entries) (kept : Kept) → (S.disk shelf.old).honest → (T.view stores.now).holds (S.disk shelf.old).seen ledger kept → IfOk result (λ t. t.durable.ledger ≡ ledger) }
+    ensures refused { (ledger : Entries) (kept : Kept) → (S.disk shelf.old).honest → (T.view stores.now).holds (S.disk shelf.old).seen ledger kept →
+        IfErr result (λ e. (e ≡ NoMemory) ⊎ ((e ≡ Device) × Failed (S.disk shelf.old) (S.disk shelf.new))) }
+    ensures cause { IsErrOf result Device → Failed (S.disk shelf.old) (S.disk shelf.new) }
+    ensures seen { (S.disk shelf.old).honest → Same (S.disk shelf.old).seen (S.disk shelf.new).seen }
+    ensures any_moment { (S.disk shelf.old).honest → Leaves (S.disk shelf.old).may_leave (S.disk shelf.old) (S.disk shelf.new) }
+    ensures kept { Counted (S.disk shelf.old) (S.disk shelf.new) }
+{
+    let Opened {
+        mut subs,
+        mut durable,
+    } = opened;
+    for position in 0..stores.len() {
+        let entry = stores.read(shelf, position)?;
         let slot = slot_of_entry(alloc, entry.as_slice())?;
         subs.add_slot(slot)?;
+        durable = Durable::and_entry(&Found { durable, entry });
     }
-    Ok(subs)
+    Ok(Opened { subs, durable })
 }

@@ -5,12 +5,13 @@ ghost use Rattle.std.specs.Result.{is_ok};
 ghost use Rattle.commands.specs.Metadata.{entry_of};
 ghost use Rattle.subscriptions.specs.Statuses.{AreStatuses};
 ghost use Rattle.topic_core.specs.Slots.{slot_of_entry};
-ghost use Rattle.topic_core.specs.Core.{Core, next_position};
+ghost use Rattle.topic_core.specs.State.{Topic, next_position};
 ghost use Rattle.reply_queues.specs.Replies.{is_receipt};
-ghost use Rattle.topic_core.specs.Steps.{Meets, CoreStep, Collects, Fits, first_standing, producer_refusals, send_refusals, limit_refusals, producer_outcome, send_outcome, has_producer, has_open_producer, has_name, is_producer, is_open_producer, is_open, is_single_message, accepted, receipt, key_of, left};
+ghost use Rattle.topic_core.specs.Steps.{Meets, TopicStep, Collects, Fits, first_standing, producer_refusals, send_refusals, limit_refusals, producer_outcome, send_outcome, has_producer, has_open_producer, has_name, is_producer, is_open_producer, is_open, is_single_message, accepted, receipt, key_of, left};
 ghost use Rattle.topic_core.specs.Standing.{GoesOn};
 
 use crate::command::{Answer, PlainEntry, Send, SentEntry, TopicCommand};
+use crate::durable::Durable;
 use crate::producer::{Producer, ProducerState};
 use crate::slots::slot_of_meta;
 use bytes::Bytes;
@@ -49,6 +50,7 @@ pub struct TopicCore {
     pub(crate) alloc: Global,
     pub(crate) per_ledger: u32,
     pub(crate) committed: u64,
+    pub(crate) durable: Durable,
     pub(crate) waiting: Vec<Bytes>,
     pub(crate) waiting_bytes: u64,
     pub(crate) accepted: u64,
@@ -65,12 +67,13 @@ impl Model for TopicCore {
     ghost use Rattle.std.specs.Coded.{codes};
     ghost use Rattle.cursor.specs.Positions.{positions_code};
     ghost use Rattle.holds.specs.Deliveries.{deliveries_code};
-    ghost use Rattle.topic_core.specs.Core.{Core};
+    ghost use Rattle.records.specs.Maps.{kept_code};
+    ghost use Rattle.topic_core.specs.State.{Topic};
     ghost use Rattle.topic_core.specs.Soundness.{IsSound, AreReceipts};
 
-    ghost Value = { Core };
+    ghost Value = { Topic };
 
-    ghost coded = { Prim.hlevel (codes, positions_code, deliveries_code) };
+    ghost coded = { Prim.hlevel (codes, positions_code, deliveries_code, kept_code) };
 
     ghost use Rattle.topic_core.specs.Held.{core_of};
 
@@ -263,7 +266,7 @@ impl TopicCore {
 
     /// Works a session's command.
     pub fn command(&mut self, who: u64, command: TopicCommand) -> Answer
-        ensures step { CoreStep self.old who command result self.new }
+        ensures step { TopicStep self.old who command result self.new }
         ensures goes_on { GoesOn self.old self.new }
         ensures fits { Fits command result }
     {

@@ -1,14 +1,17 @@
 -- What the tests' topics keep.
-use Rattle.managed_ledger.specs.declared.managed_ledger.ManagedLedger.{ManagedLedger}
-use Rattle.managed_ledger.specs.Entries.{Stands}
 use Rattle.managed_ledger.specs.Ledgers as ledgers
-use Rattle.cursor_store.specs.declared.cursor_store.CursorStore.{CursorStore}
 use Rattle.cursor_store.specs.Cursors as cursors
-use Rattle.topic_core.specs.declared.stores.TopicStores.{TopicStores}
-use Rattle.topic_core.specs.Core.{Core}
-use Rattle.topic_core.specs.Standing.{Match}
-use Rattle.topic_core.specs.Views.{views_of}
+use Rattle.topic_stores.specs.declared.file_stores.FileStores.{FileStores}
+use Rattle.topic_stores.specs.Views.{StoreView, both, entry_view, sub_view}
+use Rattle.topic_core.specs.State.{Topic}
+use Rattle.topic_core.specs.Standing.{Match, resting}
 
--- Core and stores remember the same, as a flush asks.
-pub record AreMatched (core : Core) (stores : TopicStores ManagedLedger CursorStore) : Type 0 where
-  pub remembered : Match core (views_of ledgers.ledger_topic ledgers.counts_of ledgers.failed ledgers.Holds ledgers.content Stands cursors.topic_of cursors.content cursors.failed cursors.Holds cursors.written cursors.StandsFor stores)
+-- what the store remembers and holds
+abbrev pub view_of : FileStores → StoreView
+view_of files =
+    both (entry_view ledgers.ledger_topic ledgers.counts_of ledgers.failed ledgers.Holds files.stores.entries)
+    (sub_view cursors.topic_of cursors.content cursors.failed cursors.Holds cursors.written files.stores.subscriptions)
+
+-- Topic and store remember the same, as a flush asks; none is under way.
+pub record AreMatched (topic : Topic) (stores : FileStores) : Type 0 where
+  pub remembered : Match (resting topic.failed) topic (view_of stores)

@@ -9,17 +9,16 @@ ghost use Rattle.topic_core_tests.specs.Matching.{AreMatched};
 
 use bytes::Bytes;
 use commands::{AckType, InitialPosition, Reply, ReplyText, Sequence, Text, read_entry};
-use cursor_store::CursorStore;
 use disk_mem::MemShelf;
 use gated_log::Refusal;
 use holds::SlotRanges;
 use ids::MessageIdData;
-use managed_ledger::{EntryStore, ManagedLedger};
 use records::is_subscription_name;
 use std::alloc::{AllocError, Global};
 use subscriptions::Mode;
 use topic_core::{
-    Ack, Answer, PlainEntry, Send, SentEntry, Subscribe, TopicCommand, TopicCore, TopicStores,
+    Ack, Answer, FileStores, PlainEntry, Send, SentEntry, Subscribe, TopicCommand, TopicCore,
+    TopicStore,
 };
 
 // Metadata of ten bytes, behind their size: the producer "p", the sequence id 0, the time 1 and a field that isn't known.
@@ -32,7 +31,7 @@ type Seen = (Option<Refusal>, bool, u64);
 #[derive(Drop)]
 struct Topic {
     core: TopicCore,
-    stores: TopicStores<ManagedLedger, CursorStore>,
+    stores: FileStores,
     shelf: MemShelf,
 }
 
@@ -42,7 +41,7 @@ impl Topic {
         ensures { IfOk result (λ t. AreMatched t.core t.stores) }
     {
         let mut shelf = MemShelf::new(alloc);
-        let stores = TopicStores::create(alloc, &mut shelf, 0, 1)?;
+        let stores = FileStores::create(alloc, &mut shelf, 0, 1)?;
         let core = TopicCore::open(alloc, 1, &stores, &mut shelf)?;
         Ok(Topic {
             core,
@@ -66,7 +65,10 @@ impl Topic {
         requires { AreMatched self.old.core self.old.stores }
         ensures { AreMatched self.new.core self.new.stores }
     {
-        self.core.flush(&mut self.stores, &mut self.shelf)
+        match self.core.flush(&mut self.stores, &mut self.shelf) {
+            Ok(count) => Ok(count),
+            Err(why) => Err(why.into()),
+        }
     }
 
     fn reopen(&mut self) -> Result<(), Refusal>
@@ -105,8 +107,7 @@ impl Topic {
         if self.core.grant(who, 5, 1).is_err() {
             return Ok(None);
         }
-        let entries = &self.stores.entries;
-        match self.core.dispatch(entries, &mut self.shelf, who, 5)? {
+        match self.core.dispatch(&self.stores, &mut self.shelf, who, 5)? {
             Some(outgoing) if outgoing.entry.as_slice() == PLAIN => {
                 Ok(position_in(&outgoing.reply))
             }
@@ -120,7 +121,7 @@ impl Topic {
 
     // How many entries the topic has, and its store.
     fn counts(&self) -> (u64, u64) {
-        (self.core.committed(), self.stores.entries.len())
+        (self.core.committed(), self.stores.len())
     }
 }
 

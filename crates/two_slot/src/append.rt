@@ -3,7 +3,8 @@ ghost use Rattle.std.specs.Prelude.{◌≡◌};
 
 use crate::TwoSlot;
 use disk::{DeviceError, Shelf};
-use gated_log::{BatchList, PreparedBatch, Refusal};
+use gated_log::{BatchBuilder, BatchList, PrepareError, PreparedBatch, ReadError, Refusal};
+use std::alloc::AllocError;
 
 impl BatchList for TwoSlot {
     ghost use Rattle.gated_log.specs.Content.{held_content};
@@ -45,15 +46,19 @@ impl BatchList for TwoSlot {
         self.failed
     }
 
-    fn read<S: Shelf>(&self, shelf: &mut S, index: u64) -> Result<Option<Vec<u8>>, Refusal> {
+    fn read<S: Shelf>(&self, shelf: &mut S, index: u64) -> Result<Option<Vec<u8>>, ReadError> {
         if self.failed {
-            return Err(Refusal::Device);
+            return Err(ReadError::Device);
         }
         self.log.read(shelf, index)
     }
 
-    fn prepare(&mut self, body: &[u8]) -> Result<PreparedBatch, Refusal> {
-        self.log.prepare(body)
+    fn builder(&self, size: usize) -> Result<BatchBuilder, AllocError> {
+        self.log.builder(size)
+    }
+
+    fn prepare(&mut self, builder: BatchBuilder) -> Result<PreparedBatch, PrepareError> {
+        self.log.prepare(builder)
     }
 
     fn append_prepared<S: Shelf>(

@@ -5,7 +5,7 @@ mod stops;
 
 use disk::{CursorSlot, DeviceError, FileId, Shelf};
 use disk_mem::MemShelf;
-use gated_log::{BatchList, Refusal};
+use gated_log::{BatchList, ReadError, Refusal};
 use std::alloc::Global;
 use std::test::Fail;
 use two_slot::TwoSlot;
@@ -31,6 +31,14 @@ const BODIES: [&[u8]; 3] = [b"ab", b"cd", b""];
 fn answer<T: Drop>(answered: Result<T, Refusal>) -> Result<Result<T, Refusal>, Refusal> {
     match answered {
         Err(Refusal::NoMemory) => Err(Refusal::NoMemory),
+        other => Ok(other),
+    }
+}
+
+// The same of a read.
+fn read_answer<T: Drop>(answered: Result<T, ReadError>) -> Result<Result<T, ReadError>, ReadError> {
+    match answered {
+        Err(ReadError::NoMemory) => Err(ReadError::NoMemory),
         other => Ok(other),
     }
 }

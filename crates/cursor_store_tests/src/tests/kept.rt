@@ -90,6 +90,44 @@ fn each_change_of_what_is_kept(rt: HostRuntime) -> Result<(), Fail> {
     Ok(())
 }
 
+// Two changes beside `s` and a ledger of ten entries, and whether they are of their form in turn.
+const IN_TURN: [([Change; 2], bool); 7] = [
+    ([(Kind::Made, "t", 10, 0), (Kind::One, "t", 9, 0)], true),
+    ([(Kind::One, "t", 9, 0), (Kind::Made, "t", 10, 0)], false),
+    ([(Kind::Made, "t", 0, 0), (Kind::Made, "t", 0, 0)], false),
+    ([(Kind::Removed, "s", 0, 0), (Kind::Made, "s", 0, 0)], true),
+    ([(Kind::Made, "s", 0, 0), (Kind::Removed, "s", 0, 0)], false),
+    (
+        [(Kind::Removed, "s", 0, 0), (Kind::Through, "s", 0, 0)],
+        false,
+    ),
+    ([(Kind::Range, "s", 3, 9), (Kind::Range, "s", 3, 10)], false),
+];
+
+// The first two that are answered otherwise, by their number.
+fn first_mistaken(kept: &KeptSubscriptions, alloc: Global) -> Result<Option<usize>, AllocError> {
+    for index in 0..IN_TURN.len() {
+        let ([first, second], formed) = IN_TURN[index];
+        let mut changes = Vec::new(alloc);
+        changes.push(record(alloc, first)?)?;
+        changes.push(record(alloc, second)?)?;
+        if kept.are_formed(&changes, 10) != formed {
+            return Ok(Some(index));
+        }
+    }
+    Ok(None)
+}
+
+#[test]
+fn changes_in_turn(rt: HostRuntime) -> Result<(), Fail> {
+    let mut kept = KeptSubscriptions::new(rt.alloc());
+    let made = apply(&mut kept, rt.alloc(), (Kind::Made, "s", 0, 0));
+    let mistaken = first_mistaken(&kept, rt.alloc());
+    drop(kept);
+    assert_eq!(rt; (made?, mistaken?), (true, None));
+    Ok(())
+}
+
 // The names, one behind the other.
 fn names_of(kept: &KeptSubscriptions, alloc: Global) -> Result<Vec<u8>, AllocError> {
     let mut names = Vec::new(alloc);

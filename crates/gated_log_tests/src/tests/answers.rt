@@ -1,7 +1,7 @@
 // The bytes of a file, and the answer of each call.
 use super::{FILE, NUMBER, contents, roomy};
 use disk::{FileId, Shelf};
-use gated_log::{BatchList, GatedLog, LogId, PreparedBatch, Room};
+use gated_log::{BatchBuilder, BatchList, GatedLog, LogId, PreparedBatch, Room};
 use std::test::Fail;
 
 const FRESH: [u8; 17] = [
@@ -30,7 +30,8 @@ fn a_fresh_file_and_one_batch_byte_by_byte(rt: HostRuntime) -> Result<(), Fail> 
 fn each_call_answers(rt: HostRuntime) -> Result<(), Fail> {
     let mut shelf = roomy(rt.alloc())?;
     let mut log = GatedLog::create(rt.alloc(), &mut shelf, FILE, NUMBER)?;
-    let prepared = log.prepare(b"")?;
+    let builder = log.builder(0)?;
+    let prepared = log.prepare(builder)?;
     log.append_prepared(&mut shelf, prepared)?;
     log.append(&mut shelf, b"abc")?;
     assert_eq!(rt;
@@ -72,7 +73,11 @@ fn an_opening_has_memory_where_there_is_some(rt: HostRuntime) -> Result<(), Fail
 fn a_log_made_with_room_takes_a_body_and_reads_a_part(rt: HostRuntime) -> Result<(), Fail> {
     let mut shelf = roomy(rt.alloc())?;
     let room = Room::new(rt.alloc())?;
-    let batch = PreparedBatch::new(rt.alloc(), b"abcdef")?;
+    let mut builder = BatchBuilder::with_capacity(rt.alloc(), 6)?;
+    builder.push(b'a')?;
+    builder.extend_from_slice(b"bcdef")?;
+    assert_eq!(rt; builder.len(), 6);
+    let batch = PreparedBatch::new(builder)?;
     let mut log = GatedLog::create_with_room(rt.alloc(), &mut shelf, FILE, NUMBER, room)?;
     log.append_prepared(&mut shelf, batch)?;
     let parts = [

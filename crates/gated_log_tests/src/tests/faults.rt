@@ -1,7 +1,7 @@
 // One call of the device fails, and no power with it.
-use super::{FILE, NUMBER, answer, found, lay, roomy};
+use super::{FILE, NUMBER, answer, found, lay, read_answer, roomy};
 use disk::{CrashShelf, DeviceError, Fuse, Shelf};
-use gated_log::{BatchList, GatedLog, Refusal};
+use gated_log::{BatchList, GatedLog, ReadError, Refusal};
 use std::test::Fail;
 
 #[test]
@@ -29,8 +29,8 @@ fn a_failed_list_refuses_until_it_is_opened_again(rt: HostRuntime) -> Result<(),
         assert_eq!(rt; failed, Err(Refusal::Device), "{number}");
         assert_eq!(rt; later, Err(Refusal::Device), "{number}");
         assert_eq!(rt;
-            answer(log.read(&mut shelf, 0))?.err(),
-            Some(Refusal::Device),
+            read_answer(log.read(&mut shelf, 0))?.err(),
+            Some(ReadError::Device),
             "{number}"
         );
         assert!(rt; log.is_failed(), "{number}");
@@ -71,8 +71,8 @@ fn a_read_that_fails_does_not_fail_the_list(rt: HostRuntime) -> Result<(), Fail>
     log.append(&mut shelf, b"ab")?;
     shelf.arm(Fuse::FailRead(1))?;
     assert_eq!(rt;
-        answer(log.read(&mut shelf, 0))?.err(),
-        Some(Refusal::Device)
+        read_answer(log.read(&mut shelf, 0))?.err(),
+        Some(ReadError::Device)
     );
     assert!(rt; !log.is_failed());
     let body = log.read(&mut shelf, 0)?;

@@ -1,7 +1,7 @@
 // The bytes of a chain, and the answer of each call.
-use super::{append, contents, lay, roll, roomy, segment};
+use super::{append, contents, lay, read_answer, roll, roomy, segment};
 use disk::{CrashShelf, Fuse};
-use gated_log::Refusal;
+use gated_log::ReadError;
 use journal::Journal;
 use std::test::Fail;
 
@@ -85,8 +85,8 @@ fn a_read_that_fails_does_not_fail_the_journal(rt: HostRuntime) -> Result<(), Fa
     let mut journal = Journal::create(rt.alloc(), &mut shelf, 3, 0)?;
     append(&mut journal, &mut shelf, b"ab")?;
     shelf.arm(Fuse::FailRead(1))?;
-    let failed = super::answer(journal.read(&mut shelf, 0, 0, 0, 9))?;
-    assert_eq!(rt; failed.err(), Some(Refusal::Device));
+    let failed = read_answer(journal.read(&mut shelf, 0, 0, 0, 9))?;
+    assert_eq!(rt; failed.err(), Some(ReadError::Device));
     assert!(rt; !journal.is_failed());
     let body = journal.read(&mut shelf, 0, 0, 0, 9)?;
     assert_eq!(rt; body.as_deref(), Some(b"ab".as_slice()));

@@ -1,8 +1,11 @@
 // One call of the device fails, and no power with it.
-use super::{answer, append, chain_gone_on, contents, damaged, found, lay, roll, roomy, segment};
+use super::{
+    answer, append, chain_gone_on, contents, damaged, found, lay, prepared, read_answer, roll,
+    roomy, segment,
+};
 use disk::{CrashShelf, DeviceError, Fuse};
 use disk_mem::MemShelf;
-use gated_log::Refusal;
+use gated_log::{ReadError, Refusal};
 use journal::Journal;
 use std::alloc::Global;
 use std::test::Fail;
@@ -29,7 +32,7 @@ fn a_failing_call_of_a_creation_refuses_it(rt: HostRuntime) -> Result<(), Fail> 
 
 // Whether an append answers the device's error.
 fn refuses_an_append(shelf: &mut MemShelf, journal: &mut Journal) -> Result<bool, Fail> {
-    let batch = journal.prepare(b"d")?;
+    let batch = prepared(journal, b"d")?;
     Ok(journal.append_prepared(shelf, batch) == Err(DeviceError))
 }
 
@@ -48,7 +51,7 @@ fn stays_failed(alloc: Global, shelf: &mut MemShelf, journal: &mut Journal) -> R
         refuses_an_append(shelf, journal)?,
         refuses_a_roll(shelf, journal)?,
         answer(journal.append(shelf, b"d"))? == Err(Refusal::Device),
-        answer(journal.read(shelf, 0, 0, 0, 9))?.err() == Some(Refusal::Device),
+        read_answer(journal.read(shelf, 0, 0, 0, 9))?.err() == Some(ReadError::Device),
         journal.is_failed(),
         contents(alloc, shelf, segment(0))? == first,
         contents(alloc, shelf, segment(1))? == second,
@@ -62,7 +65,7 @@ fn a_journal_whose_append_failed_refuses_until_it_is_opened(rt: HostRuntime) -> 
     for number in 1..5u64 {
         let mut journal = Journal::create(rt.alloc(), &mut shelf, 3, 0)?;
         append(&mut journal, &mut shelf, b"ab")?;
-        let batch = journal.prepare(b"c")?;
+        let batch = prepared(&mut journal, b"c")?;
         shelf.arm(Fuse::Fail(number))?;
         let failed = journal.append_prepared(&mut shelf, batch);
         assert_eq!(rt; failed, Err(DeviceError), "{number}");

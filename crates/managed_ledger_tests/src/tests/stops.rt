@@ -1,8 +1,8 @@
 // Calls fail, and the power fails within them.
-use super::{PLAIN, answer, append, entry, joined, roomy};
+use super::{PLAIN, answer, append, entry, joined, read_answer, roomy};
 use disk::{CrashForm, CrashShelf, DeviceError, Fuse};
 use disk_mem::MemShelf;
-use gated_log::Refusal;
+use gated_log::{ReadError, Refusal};
 use managed_ledger::{EntryStore, ManagedLedger};
 use std::alloc::Global;
 use std::test::Fail;
@@ -146,8 +146,8 @@ fn a_failed_ledger_answers_device(rt: HostRuntime) -> Result<(), Fail> {
     let plain = entry(rt.alloc(), b"d")?;
     let appended = answer(append(&mut ledger, &mut shelf, &[plain]))?;
     assert_eq!(rt; appended, Err(Refusal::Device));
-    let read = answer(ledger.read(&mut shelf, 0))?;
-    assert_eq!(rt; read.err(), Some(Refusal::Device));
+    let read = read_answer(ledger.read(&mut shelf, 0))?;
+    assert_eq!(rt; read.err(), Some(ReadError::Device));
     Ok(())
 }
 
@@ -157,8 +157,8 @@ fn a_failing_read_refuses_that_read_alone(rt: HostRuntime) -> Result<(), Fail> {
     let mut ledger = ManagedLedger::create(rt.alloc(), &mut shelf, 0, 2)?;
     append(&mut ledger, &mut shelf, &[entry(rt.alloc(), b"")?])?;
     shelf.arm(Fuse::FailRead(1))?;
-    let refused = answer(ledger.read(&mut shelf, 0))?;
-    assert_eq!(rt; refused.err(), Some(Refusal::Device));
+    let refused = read_answer(ledger.read(&mut shelf, 0))?;
+    assert_eq!(rt; refused.err(), Some(ReadError::Device));
     assert!(rt; !ledger.is_failed());
     let found = ledger.read(&mut shelf, 0)?;
     assert_eq!(rt; found.as_deref(), Some(PLAIN));

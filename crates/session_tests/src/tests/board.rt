@@ -3,11 +3,10 @@ ghost use Rattle.session.specs.Broker.{IsMessageFor};
 
 use bytes::Bytes;
 use commands::Reply;
-use gated_log::Refusal;
 use ids::MessageId;
 use session::{Found, Port, PumpFault};
 use std::alloc::Global;
-use topic_core::{Answer, Outgoing, TooManyPermits, TopicCommand};
+use topic_core::{Answer, Outgoing, ReadError, TooManyPermits, TopicCommand};
 
 /// The size of the metadata, the metadata (producer `p`, sequence id 0, time 8000) and the payload 5.
 const ENTRY: &[u8] = b"\0\0\0\x0a\x0a\x01p\x10\0\x18\x01\xc0>\x05";
@@ -118,15 +117,15 @@ impl Port for Board {
         _topic: u64,
         _who: u64,
         consumer_id: u64,
-    ) -> Result<Option<Outgoing>, Refusal> {
+    ) -> Result<Option<Outgoing>, ReadError> {
         match self.dispatches.pop() {
             None => Ok(None),
             Some(None) => Ok(Some(message(consumer_id))),
-            Some(Some(PumpFault::Device)) => Err(Refusal::Device),
+            Some(Some(PumpFault::Device)) => Err(ReadError::Device),
             Some(Some(PumpFault::Damaged { file, offset })) => {
-                Err(Refusal::Damaged { file, offset })
+                Err(ReadError::Damaged { file, offset })
             }
-            Some(Some(PumpFault::Ended(_))) => Err(Refusal::NoMemory),
+            Some(Some(PumpFault::Ended(_))) => Err(ReadError::NoMemory),
         }
     }
 

@@ -3,16 +3,14 @@ ghost use Rattle.std.specs.Prelude.{IfOk};
 ghost use Rattle.topic_core_tests.specs.Matching.{AreMatched};
 
 use super::{PLAIN, Seen, Topic, producer, refusal, send, subscribe};
-use cursor_store::SubStore;
 use disk::{CrashShelf, FileId, Fuse, Shelf};
 use gated_log::Refusal;
-use managed_ledger::EntryStore;
 use std::alloc::Global;
 use std::test::Fail;
 use topic_core::{
-    TopicCore, TopicStores, answers_are_no_receipts, answers_fit, cores_go_on,
-    entries_are_published, flushes_commit, flushes_keep, ids_are_positions, messages_are_admitted,
-    messages_go_to_their_ranges, receipts_are_covered, stays_sound,
+    FileStores, TopicCore, TopicStore, answers_are_no_receipts, answers_fit, entries_are_published,
+    flushes_commit, flushes_keep, ids_are_positions, messages_are_admitted,
+    messages_go_to_their_ranges, receipts_are_covered, stays_sound, topics_go_on,
 };
 
 // How many entries of a new topic a flush commits, and one behind it.
@@ -29,8 +27,8 @@ fn flush_and_read(topic: &mut Topic, alloc: Global) -> Result<((usize, usize), b
     requires { AreMatched topic.old.core topic.old.stores }
 {
     let counted = flush_twice(topic, alloc)?;
-    let read = topic.stores.entries.read(&mut topic.shelf, 0)?;
-    Ok((counted, read.as_deref() == Some(PLAIN)))
+    let read = topic.stores.read(&mut topic.shelf, 0)?;
+    Ok((counted, read.as_slice() == PLAIN))
 }
 
 // A flush counts the entries that it commits, and the store has their bytes.
@@ -51,7 +49,7 @@ fn restart(topic: &mut Topic, alloc: Global) -> Result<(), Refusal>
     topic.wait(alloc)?;
     topic.flush()?;
     topic.shelf.crash();
-    topic.stores = TopicStores::open(alloc, &mut topic.shelf, 0, 1)?;
+    topic.stores = FileStores::open(alloc, &mut topic.shelf, 0, 1)?;
     topic.core = TopicCore::open(alloc, 1, &topic.stores, &mut topic.shelf)?;
     Ok(())
 }
@@ -61,7 +59,7 @@ fn go_on(topic: &mut Topic, alloc: Global) -> Result<(usize, Option<u64>), Refus
     requires { AreMatched topic.old.core topic.old.stores }
 {
     restart(topic, alloc)?;
-    let kept = topic.stores.subscriptions.kept()?.len();
+    let kept = topic.stores.kept()?.len();
     topic.ask(2, subscribe(alloc)?)?;
     Ok((kept, topic.next(2)?))
 }
@@ -173,7 +171,7 @@ fn call_laws_of_messages() {
 fn call_laws_of_flushes() {
     flushes_commit();
     flushes_keep();
-    cores_go_on();
+    topics_go_on();
 }
 
 // Each law of the topic can be called, and asks nothing.

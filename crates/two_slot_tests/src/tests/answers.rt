@@ -51,7 +51,8 @@ fn new_slots_over_older_ones_byte_by_byte(rt: HostRuntime) -> Result<(), Fail> {
 fn each_call_answers(rt: HostRuntime) -> Result<(), Fail> {
     let mut shelf = roomy(rt.alloc())?;
     let mut slots = TwoSlot::create(rt.alloc(), &mut shelf, TOPIC)?;
-    let prepared = slots.prepare(b"")?;
+    let builder = slots.builder(0)?;
+    let prepared = slots.prepare(builder)?;
     slots.append_prepared(&mut shelf, prepared)?;
     slots.append(&mut shelf, b"abc")?;
     assert_eq!(rt; slots.id(), TOPIC);

@@ -1,8 +1,8 @@
 // A call of the device fails, once or until the power does, and a crash of each form follows.
-use super::{BODIES, Found, ONE, TOPIC, ZERO, answer, found, hold, lay, roomy};
+use super::{BODIES, Found, ONE, TOPIC, ZERO, answer, found, hold, lay, read_answer, roomy};
 use disk::{CrashForm, CrashShelf, Fuse};
 use disk_mem::MemShelf;
-use gated_log::{BatchList, Refusal};
+use gated_log::{BatchList, ReadError, Refusal};
 use std::alloc::Global;
 use std::test::Fail;
 use two_slot::TwoSlot;
@@ -194,10 +194,10 @@ fn failed_slots_refuse_until_they_are_opened(rt: HostRuntime) -> Result<(), Fail
         shelf.arm(Fuse::Fail(call))?;
         let failed = answer(slots.append(&mut shelf, BODIES[1]))?;
         let later = answer(slots.append(&mut shelf, BODIES[2]))?;
-        let read = answer(slots.read(&mut shelf, 0))?;
+        let read = read_answer(slots.read(&mut shelf, 0))?;
         assert_eq!(rt; failed, Err(Refusal::Device), "{call}");
         assert_eq!(rt; later, Err(Refusal::Device), "{call}");
-        assert_eq!(rt; read.err(), Some(Refusal::Device), "{call}");
+        assert_eq!(rt; read.err(), Some(ReadError::Device), "{call}");
         assert!(rt; slots.is_failed(), "{call}");
         assert_eq!(rt; slots.count(), 1, "{call}");
         assert_eq!(rt; found(rt.alloc(), &mut shelf)?, Ok(count), "{call}");
@@ -211,8 +211,8 @@ fn a_read_that_fails_does_not_fail_the_slots(rt: HostRuntime) -> Result<(), Fail
     let mut slots = TwoSlot::create(rt.alloc(), &mut shelf, TOPIC)?;
     slots.append(&mut shelf, BODIES[0])?;
     shelf.arm(Fuse::FailRead(1))?;
-    let read = answer(slots.read(&mut shelf, 0))?;
-    assert_eq!(rt; read.err(), Some(Refusal::Device));
+    let read = read_answer(slots.read(&mut shelf, 0))?;
+    assert_eq!(rt; read.err(), Some(ReadError::Device));
     assert!(rt; !slots.is_failed());
     assert!(rt; hold(&slots, &mut shelf, 1)?);
     Ok(())

@@ -10,7 +10,7 @@ use Rattle.node.proofs.power.drive.Given as goal
 abbrev pub invariant-loop-happening : goal.invariant-loop-happening
 invariant-loop-happening g l = record {
   prefix : l.fn.happenings.items ≡ l.yielded ++ l.happening-iterator.rest.items;
-  run : (first : State) → AtRest g.E.EntryStore.stands g.C.SubStore.stands first (g.S.Shelf.disk l.fn.shelf) → IsServed l.per_ledger first →
+  run : (first : State) → AtRest g.T.TopicStore.stands first (g.S.Shelf.disk l.fn.shelf) → IsServed l.per_ledger first →
       (answers : List Output) × (last : Life) × (l.outputs.items ≡ l.fn.outputs.items ++ answers)
       × AllowedRun (record { up = false; state = first }) (happening.Crash ∷ l.yielded) answers last
       × Holds g.S.Shelf.disk l.per_ledger l.machine last;

@@ -1,13 +1,19 @@
-use Rattle.std.proofs.Common.{◌≡◌, length, refl, sym, ap, subst, arith}
-use Rattle.topic_core.specs.Core.{Core, Topic}
+use Rattle.std.proofs.Common.{◌≡◌, refl, sym, ap, subst, arith}
+use Rattle.topic_core.specs.State.{Topic}
 use Rattle.topic_core.specs.Crashes.{IsLeft}
-use Rattle.topic_core.specs.Openings.{Hold}
-use Rattle.topic_core.specs.Standing.{topic_in}
-use Rattle.topic_core.specs.Views.{Views, views_of}
+use Rattle.topic_core.specs.Standing.{resting, Match}
 use Rattle.topic_core.proofs.Filling.{OnlyReads}
-use Rattle.topic_core.proofs.Standings.{AreLawful}
-use Rattle.node.proofs.Opening.{held_read, opened_standing, opened_crash, state_crash}
+use Rattle.node.proofs.Opening.{opened_standing, opened_crash, state_crash}
 use Rattle.node.proofs.node.Node.open.Goals as goal
+
+pub invariant_of-result : goal.invariant_of-result
+invariant_of-result g c =
+    let read = c.in-Ok-open.ensures in
+    record {
+      number = c.in-Ok.ensures.topic;
+      matched = subst (λ b. Match (resting b) c.in-Ok-open.core (g.T.TopicStore.view c.in-Ok.stores)) (sym (ap (λ (t : Topic). t.failed) read.opened.2)) read.matched;
+      under_way = tt;
+    }
 
 pub returns-clause-opened : goal.returns-clause-opened
 returns-clause-opened g c = λ old rest served.
@@ -15,30 +21,19 @@ returns-clause-opened g c = λ old rest served.
     let d1 = g.S.Shelf.disk c.open.new.shelf in
     let d2 = g.S.Shelf.disk c.open-2.new.shelf in
     let n = c.args.per_ledger in
+    let stands = g.T.TopicStore.stands in
+    let store = c.in-Ok.stores in
+    let v = g.T.TopicStore.view store in
+    let laws = g.met.T.TopicStore.laws store in
     let core = c.in-Ok-open.core in
-    let E1 = c.in-Ok.stores.entries in
-    let C1 = c.in-Ok.stores.subscriptions in
-    let w : Views = views_of g.E.EntryStore.topic_of g.E.EntryStore.counts g.E.EntryStore.failed g.E.EntryStore.holds g.E.EntryStore.content g.E.EntryStore.stands
-    g.C.SubStore.topic_of g.C.SubStore.content g.C.SubStore.failed g.C.SubStore.holds g.C.SubStore.written g.C.SubStore.stands c.in-Ok.stores in
     let s = rest.left d0.seen (g.met.S.Shelf.lawful c.args.shelf rest.honest).leaves_seen in
-    let start : Hold w d1 s.ledger s.kept = c.in-Ok.ensures.opened s.ledger s.kept rest.honest s.entries s.subscriptions in
+    let hold = c.in-Ok.ensures.opened s.ledger s.kept rest.honest s.stands in
     let read = c.in-Ok-open.ensures in
     let reads : OnlyReads d1 d2 = record { seen = read.seen; any_moment = read.any_moment; kept = read.kept } in
-    let hold : Hold w d2 s.ledger s.kept = held_read w d1 d2 s.ledger s.kept reads start in
-    let slotted = read.slots s.ledger start.entries.honest start.entries.now in
-    let content = g.met.E.EntryStore.holds_content E1 d2.seen s.ledger hold.entries.now in
-    let counted = g.met.E.EntryStore.holds_counts E1 d2.seen s.ledger hold.entries.now in
-    let kept = g.met.C.SubStore.holds_content C1 (length s.ledger) d2.seen s.kept hold.subscriptions.now in
-    let slots = read.opened.0 in
-    let same = read.opened.2 in
-    let laws : AreLawful w = record {
-      content = λ i l x. g.met.E.EntryStore.holds_content E1 i l x;
-      entries = λ i l x. g.met.E.EntryStore.holds_stands E1 i l x;
-      subscriptions = λ m i k x. g.met.C.SubStore.holds_stands C1 m i k x;
-    } in
-    let numbered : core.per_ledger ≡ n = ap (λ (k : Core). k.per_ledger) same in (
-      opened_standing n core w d2 s.ledger s.kept slots content kept counted same slotted laws hold.entries hold.subscriptions,
-      state_crash n old _ served core.per_ledger (topic_in core w d2.seen) numbered refl
-          (λ was is numbers. opened_crash n core w d2 s.ledger s.kept slots content kept counted same slotted was numbers (subst (λ (t : Topic). IsLeft t s.ledger s.kept) (sym is) s.is_left))
-          c.new.ensures.items refl (omega (arith, rest.faults, c.in-Ok.ensures.kept.faults, read.kept.faults)),
+    let found = read.found s.ledger s.kept hold.honest hold.now in
+    let numbered : core.per_ledger ≡ n = ap (λ (t : Topic). t.per_ledger) read.opened.2 in (
+      opened_standing stands n core v d1 d2 s.ledger read.opened.0 s.kept laws hold reads read.opened.2 found read.matched,
+      state_crash n old _ served core.per_ledger core numbered refl
+          (λ was is numbers. opened_crash stands n core v d1 d2 s.ledger read.opened.0 s.kept laws hold reads read.opened.2 found was numbers (subst (λ (t : Topic). IsLeft t s.ledger s.kept) (sym is) s.is_left))
+          refl c.new.ensures.items refl (omega (arith, rest.faults, c.in-Ok.ensures.kept.faults, read.kept.faults)),
     )

@@ -24,7 +24,7 @@ loop-event-init g c =
       prefix = sym c.into_iter-event-iterator.ensures.into_iter_gives.0;
       stands = λ s. s;
       run = λ s. ([], sym (append-nil c.args.outputs.now.items), refl);
-      any_moment = λ s. crash_first g.E.EntryStore.stands g.C.SubStore.stands (state_of g.S.Shelf.disk n) c.args.events.items (g.S.Shelf.disk n.topics.shelf) (stands_so g.S.Shelf.disk n.topics s);
+      any_moment = λ s. crash_first g.T.TopicStore.stands (state_of g.S.Shelf.disk n) c.args.events.items (g.S.Shelf.disk n.topics.shelf) (stands_so g.S.Shelf.disk n.topics s);
     }
 
 pub loop-event-preserved : goal.loop-event-preserved
@@ -47,7 +47,7 @@ loop-event-preserved g c =
           );
       any_moment = λ s.
           let r = i.run s in
-          crash_more g.E.EntryStore.stands g.C.SubStore.stands old c.args.events.items c.loop-event.yielded r.0 mid c.in-Some.event c.loop-event.event-iterator.rest.items c.next.new.self.rest.items
+          crash_more g.T.TopicStore.stands old c.args.events.items c.loop-event.yielded r.0 mid c.in-Some.event c.loop-event.event-iterator.rest.items c.next.new.self.rest.items
           (disk c.args.self.now) (disk c.loop-event.self) (disk c.step-output.new.self) r.2 i.prefix next (i.any_moment s) (s'.any_moment (i.stands s));
     }
 

@@ -14,5 +14,5 @@ invariant-loop-event g l = record {
       (answers : List Output) × (l.outputs.items ≡ l.initial.outputs.items ++ answers)
       × Run (state_of g.S.Shelf.disk l.initial.self) l.yielded answers (state_of g.S.Shelf.disk l.self);
   any_moment : Stands g.S.Shelf.disk l.initial.self →
-      Leaves (Crashed g.E.EntryStore.stands g.C.SubStore.stands (state_of g.S.Shelf.disk l.initial.self) l.fn.events.items) (disk_of g.S.Shelf.disk l.initial.self) (disk_of g.S.Shelf.disk l.self);
+      Leaves (Crashed g.T.TopicStore.stands (state_of g.S.Shelf.disk l.initial.self) l.fn.events.items) (disk_of g.S.Shelf.disk l.initial.self) (disk_of g.S.Shelf.disk l.self);
 }

@@ -5,5 +5,5 @@ pub returns : goal.returns
 returns g c = λ old h.
     let r = c.into_shelf-shelf.ensures c.args.per_ledger old h in
     c.start.ensures old.state
-    (after_crash g.E.EntryStore.stands g.C.SubStore.stands old.state (g.S.Shelf.disk c.into_shelf-shelf.result) (g.S.Shelf.disk c.crash.new.self) r (c.crash.ensures.time r.honest) c.crash.ensures.kept)
+    (after_crash g.T.TopicStore.stands old.state (g.S.Shelf.disk c.into_shelf-shelf.result) (g.S.Shelf.disk c.crash.new.self) r (c.crash.ensures.time r.honest) c.crash.ensures.kept)
     (holds_served g.S.Shelf.disk c.args.per_ledger c.args.self old h)

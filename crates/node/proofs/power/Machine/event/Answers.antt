@@ -1,6 +1,6 @@
 use Rattle.std.proofs.Common.{◌∙◌, refl, sym, ap, subst, true}
 use Rattle.session.specs.Broker.{Broker}
-use Rattle.node.specs.Standing.{held, state_of}
+use Rattle.node.specs.Standing.{state_of}
 use Rattle.node.specs.Driving.{Holds}
 use Rattle.node.specs.Runs.{Life, EventIn}
 use Rattle.node.specs.declared.power.Machine.TheVariants as machine
@@ -15,5 +15,5 @@ returns-in-Up g c = λ n old holds.
     let numbered = c.step.ensures.numbered h.0 ∙ ap (λ (l : Life). l.state.broker.per_ledger) (sym h.1) ∙ ap (λ (b : Broker). b.per_ledger) h.2.broker in (
       life,
       subst (λ (l : Life). EventIn l.up l c.args.event c.step.result life) (sym h.1) (refl, c.step.ensures.step h.0),
-      (c.step.ensures.stands h.0, refl, serves n next c.step.new.self.topics.core.per_ledger (held g.S.Shelf.disk c.step.new.self.topics) refl refl numbered),
+      (c.step.ensures.stands h.0, refl, serves n next c.step.new.self.topics.core.per_ledger c.step.new.self.topics.core refl refl numbered),
     )

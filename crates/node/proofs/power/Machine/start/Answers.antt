@@ -1,5 +1,5 @@
 use Rattle.std.proofs.Common.{refl, true}
-use Rattle.node.specs.Standing.{held, state_of}
+use Rattle.node.specs.Standing.{state_of}
 use Rattle.node.proofs.Restarts.{down, refused_opening, rests_later, served_later, crash_serves}
 use Rattle.node.proofs.power.Machine.start.Goals as goal
 
@@ -9,7 +9,7 @@ returns-in-Ok g c = λ old rest served.
     let state = state_of g.S.Shelf.disk c.in-Ok.node in (
       record { up = true; state = state },
       rw c.only.ensures (refl, record { up = refl; crash = h.1 }),
-      (h.0, refl, crash_serves c.args.per_ledger old state c.in-Ok.node.topics.core.per_ledger (held g.S.Shelf.disk c.in-Ok.node.topics) served h.1 refl refl),
+      (h.0, refl, crash_serves c.args.per_ledger old state c.in-Ok.node.topics.core.per_ledger c.in-Ok.node.topics.core served h.1 refl refl),
     )
 
 pub returns-in-Err : goal.returns-in-Err
@@ -19,5 +19,5 @@ returns-in-Err g c = λ old rest served.
     let d = g.S.Shelf.disk c.in-Err.shelf in (
       down old d,
       refused_opening old d0 d c.in-Err.why _ rest.faults h.0.faults h.1 c.only-in-Err.ensures,
-      (rests_later g.E.EntryStore.stands g.C.SubStore.stands old d h.0, refl, served_later c.args.per_ledger old d served),
+      (rests_later g.T.TopicStore.stands old d h.0, refl, served_later c.args.per_ledger old d served),
     )

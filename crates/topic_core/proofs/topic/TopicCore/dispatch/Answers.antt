@@ -2,15 +2,15 @@ use Rattle.std.proofs.Common.{◌≡◌, sym, subst, rules}
 use Rattle.std.specs.Prelude.{OnOk, OnErr}
 use Rattle.subscriptions.specs.State.{Subscriptions}
 use Rattle.subscriptions.specs.Steps as subscriptions
-use Rattle.topic_core.specs.Core.{Core}
+use Rattle.topic_core.specs.State.{Topic}
 use Rattle.topic_core.specs.Standing.{GoesOn}
 use Rattle.topic_core.proofs.Standings.{sent-goes_on}
 use Rattle.topic_core.specs.Held.{core_of}
 use Rattle.topic_core.proofs.Subscribing.{sound-sent, receipts-subs}
 use Rattle.topic_core.proofs.topic.TopicCore.dispatch.Goals as goal
 
-pub invariant_of-self-2 : goal.invariant_of-self-2
-invariant_of-self-2 g c =
+pub invariant_of-self-3 : goal.invariant_of-self-3
+invariant_of-self-3 g c =
     let t = core_of c.self.inside in
     let key = c.key_of-key.result in
     let i = c.in-Some.position in
@@ -27,5 +27,5 @@ returns-clause-goes_on g c =
     let key = c.key_of-key.result in
     let i = c.in-Some.position in
     let subs : c.send.new.self ≡ subscriptions.sent t.subs key i = search rules in
-    subst (λ (x : Core). GoesOn x (record t { subs = c.send.new.self })) c.self.view_is
+    subst (λ (x : Topic). GoesOn x (record t { subs = c.send.new.self })) c.self.view_is
     (subst (λ (s : Subscriptions). GoesOn t (record t { subs = s })) (sym subs) (sent-goes_on t key i (record { works = c.if-self.false; admitted = c.in-Some.ensures.some }) c.self.invariant.1 c.self.invariant.2))

@@ -1,0 +1,109 @@
+-- What holds of a store of a topic at any time.
+use Rattle.std.proofs.Common.{◌≡◌, ℕ, ◌≤◌, List, Bool, false, ◌||◌, length, sym, ap, subst, ◌∙◌}
+use Rattle.disk.specs.declared.file_id.FileId.{FileId}
+use Rattle.disk.specs.declared.file_id.FileId.TheVariants.{Catalog, Segment, Slot}
+use Rattle.disk.specs.Disk.{Disk, Image, Undisturbed}
+use Rattle.disk.specs.Areas.{Agree, OfTopic}
+use Rattle.journal.specs.Chains.{SegmentsOf}
+use Rattle.two_slot.specs.Slots.{SlotsOf}
+use Rattle.gated_log.specs.Batches.{Bodies}
+use Rattle.managed_ledger.specs.Entries.{Entries}
+use Rattle.managed_ledger.specs.Shape.{total}
+use Rattle.records.specs.Maps.{Kept}
+use Rattle.topic_stores.specs.Views.{StoreView, EntryView, SubView, Settled, AreLaws, entry_view, sub_view, both, stand}
+
+-- a store stays settled where the files of its topic are left alone
+pub settled_stays : (stands : ℕ → Image → Entries → Kept → Type 0) (v : StoreView) → AreLaws stands v → (old new : Disk) (ledger : Entries) (kept : Kept) → Undisturbed (OfTopic v.topic) old new → Settled v old ledger kept → Settled v new ledger kept
+settled_stays stands v laws old new ledger kept u x = record {
+  honest = u.honest x.honest;
+  now = laws.local old.seen new.seen ledger kept u.seen x.now;
+  left = λ c may. let d = u.left c may in laws.local d.0 c ledger kept d.2 (x.left d.0 d.1);
+  steady = λ c may. let d = u.left c may in laws.written_local d.0 c ledger kept d.2 (x.left d.0 d.1) ∙ x.steady d.0 d.1 ∙ sym (laws.written_local old.seen new.seen ledger kept u.seen x.now);
+}
+
+-- ---- two stores, each with files of its own
+
+-- segments and slots are files of their topic, and no file is both
+pub segment_own : (t : ℕ) (f : FileId) → SegmentsOf t f → OfTopic t f
+segment_own t Catalog h = h
+segment_own t (Segment of n) h = h
+segment_own t (Slot of s) h = absurd h
+
+pub slot_own : (t : ℕ) (f : FileId) → SlotsOf t f → OfTopic t f
+slot_own t Catalog h = h
+slot_own t (Segment of n) h = absurd h
+slot_own t (Slot of s) h = h
+
+pub are_apart : (t : ℕ) (f : FileId) → SegmentsOf t f → SlotsOf t f → ⊥
+are_apart t Catalog h k = h
+are_apart t (Segment of n) h k = k
+are_apart t (Slot of s) h k = h
+
+-- what a store of entries promises
+pub record EntryLaws (files_stand : ℕ → Image → Entries → Type 0) (area : ℕ → FileId → Type 0) (e : EntryView) : Type 0 where
+  pub works : (c : Image) (l : Entries) → e.holds c l → e.failed ≡ false
+  pub counts : (c : Image) (l : Entries) → e.holds c l → e.total ≡ length l
+  pub stands : (c : Image) (l : Entries) → e.holds c l → files_stand e.topic c l
+  pub own : (f : FileId) → area e.topic f → SegmentsOf e.topic f
+  pub local : (a b : Image) (l : Entries) → Agree (area e.topic) a b → e.holds a l → e.holds b l
+
+-- what a store of subscriptions promises
+pub record SubLaws (files_stand : ℕ → ℕ → Image → Kept → Type 0) (area : ℕ → FileId → Type 0) (s : SubView) : Type 0 where
+  pub works : (n : ℕ) (c : Image) (k : Kept) → s.holds n c k → s.failed ≡ false
+  pub content : (n : ℕ) (c : Image) (k : Kept) → s.holds n c k → s.kept ≡ k
+  pub stands : (n : ℕ) (c : Image) (k : Kept) → s.holds n c k → files_stand s.topic n c k
+  pub longer : (n m : ℕ) (c : Image) (k : Kept) → n ≤ m → s.holds n c k → s.holds m c k
+  pub own : (f : FileId) → area s.topic f → SlotsOf s.topic f
+  pub local : (n : ℕ) (a b : Image) (k : Kept) → Agree (area s.topic) a b → s.holds n a k → s.holds n b k
+  pub written_local : (a b : Image) → Agree (area s.topic) a b → s.written b ≡ s.written a
+
+-- each of one store, by the laws of its trait
+pub entry_laws : {E : Type 0} (topic_of : E → ℕ) (counts : E → List ℕ) (failed : E → Bool) (holds : E → Image → Entries → Type 0) (files_stand : ℕ → Image → Entries → Type 0) (area : ℕ → FileId → Type 0)
+    → ((store : E) (c : Image) (l : Entries) → holds store c l → failed store ≡ false) → ((store : E) (c : Image) (l : Entries) → holds store c l → total (counts store) ≡ length l)
+    → ((store : E) (c : Image) (l : Entries) → holds store c l → files_stand (topic_of store) c l) → ((t : ℕ) (f : FileId) → area t f → SegmentsOf t f)
+    → ((store : E) (a b : Image) (l : Entries) → Agree (area (topic_of store)) a b → holds store a l → holds store b l)
+    → (store : E) → EntryLaws files_stand area (entry_view topic_of counts failed holds store)
+entry_laws topic_of counts failed holds files_stand area works is_count stands own local store = record {
+  works = λ c l x. works store c l x;
+  counts = λ c l x. is_count store c l x;
+  stands = λ c l x. stands store c l x;
+  own = λ f a. own (topic_of store) f a;
+  local = λ a b l same x. local store a b l same x;
+}
+
+pub sub_laws : {C : Type 0} (topic_of : C → ℕ) (content : C → Kept) (failed : C → Bool) (holds : C → ℕ → Image → Kept → Type 0) (written : C → Image → Bodies) (files_stand : ℕ → ℕ → Image → Kept → Type 0) (area : ℕ → FileId → Type 0)
+    → ((store : C) (n : ℕ) (c : Image) (k : Kept) → holds store n c k → failed store ≡ false) → ((store : C) (n : ℕ) (c : Image) (k : Kept) → holds store n c k → content store ≡ k)
+    → ((store : C) (n : ℕ) (c : Image) (k : Kept) → holds store n c k → files_stand (topic_of store) n c k) → ((store : C) (n m : ℕ) (c : Image) (k : Kept) → n ≤ m → holds store n c k → holds store m c k)
+    → ((t : ℕ) (f : FileId) → area t f → SlotsOf t f) → ((store : C) (n : ℕ) (a b : Image) (k : Kept) → Agree (area (topic_of store)) a b → holds store n a k → holds store n b k)
+    → ((store : C) (a b : Image) → Agree (area (topic_of store)) a b → written store b ≡ written store a)
+    → (store : C) → SubLaws files_stand area (sub_view topic_of content failed holds written store)
+sub_laws topic_of content failed holds written files_stand area works is_content stands longer own local written_local store = record {
+  works = λ n c k x. works store n c k x;
+  content = λ n c k x. is_content store n c k x;
+  stands = λ n c k x. stands store n c k x;
+  longer = λ n m c k low x. longer store n m c k low x;
+  own = λ f a. own (topic_of store) f a;
+  local = λ n a b k same x. local store n a b k same x;
+  written_local = λ a b same. written_local store a b same;
+}
+
+none_failed : (a b : Bool) → a ≡ false → b ≡ false → (a || b) ≡ false
+none_failed a b x y = ap (λ (z : Bool). z || b) x ∙ y
+
+module _ (es : ℕ → Image → Entries → Type 0) (ss : ℕ → ℕ → Image → Kept → Type 0) (ea ca : ℕ → FileId → Type 0) (e : EntryView) (s : SubView) (el : EntryLaws es ea e) (sl : SubLaws ss ca s) where
+  slot_of_topic : s.topic ≡ e.topic → (f : FileId) → ca s.topic f → OfTopic e.topic f
+  slot_of_topic one_topic f a = subst (λ t. OfTopic t f) one_topic (slot_own s.topic f (sl.own f a))
+
+  pub both_laws : AreLaws (stand es ss) (both e s)
+  both_laws = record {
+    works = λ c l k x. none_failed e.failed s.failed (el.works c l x.entries) (sl.works (length l) c k x.subscriptions);
+    counts = λ c l k x. el.counts c l x.entries;
+    remembers = λ c l k x. sl.content (length l) c k x.subscriptions;
+    stands = λ c l k x. (el.stands c l x.entries, subst (λ t. ss t (length l) c k) x.one_topic (sl.stands (length l) c k x.subscriptions));
+    local = λ a b l k same x. record {
+      one_topic = x.one_topic;
+      entries = el.local a b l (λ f own. same f (segment_own e.topic f (el.own f own))) x.entries;
+      subscriptions = sl.local (length l) a b k (λ f own. same f (slot_of_topic x.one_topic f own)) x.subscriptions;
+    };
+    written_local = λ a b l k same x. sl.written_local a b (λ f own. same f (slot_of_topic x.one_topic f own));
+  }

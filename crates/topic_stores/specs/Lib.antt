@@ -1,0 +1,4 @@
+pub mod Appends
+pub mod Views
+pub mod Writing
+pub mod Laws

@@ -1,0 +1,78 @@
+-- The durable half of a topic, in one view.
+use Rattle.std.specs.Prelude.{◌≡◌, ℕ, Bool, false, ◌||◌, List, length}
+use Rattle.disk.specs.Disk.{Disk, Image}
+use Rattle.disk.specs.Areas.{Agree, OfTopic}
+use Rattle.gated_log.specs.Batches.{Bodies}
+use Rattle.managed_ledger.specs.Entries.{Entries}
+use Rattle.managed_ledger.specs.Shape.{total}
+use Rattle.records.specs.Maps.{Kept}
+
+pub record StoreView : Type 1 where
+  pub topic : ℕ  -- the number of the topic
+  pub count : ℕ  -- how many entries it remembers
+  pub segments : ℕ  -- in how many files
+  pub kept : Kept  -- the subscriptions that it remembers; also after a failure the old ones
+  pub failed : Bool  -- a write failed: it refuses until it is opened again
+  pub holds : Image → Entries → Kept → Type 0  -- it works, and the files have these entries and subscriptions just as it remembers them
+  pub written : Image → Bodies  -- the bodies of changes in its files, as many as it remembers
+
+-- The store works, with these entries and subscriptions: what reads give holds them, and so does whatever a crash now leaves,
+-- in the same bodies.
+pub record Settled (v : StoreView) (disk : Disk) (ledger : Entries) (kept : Kept) : Type 0 where
+  pub honest : disk.honest
+  pub now : v.holds disk.seen ledger kept
+  pub left : (c : Image) → disk.may_leave c → v.holds c ledger kept
+  pub steady : (c : Image) → disk.may_leave c → v.written c ≡ v.written disk.seen
+
+-- What holds of a store at any time, where these are what files of a topic stand for.
+pub record AreLaws (files_stand : ℕ → Image → Entries → Kept → Type 0) (v : StoreView) : Type 0 where
+  pub works : (c : Image) (ledger : Entries) (kept : Kept) → v.holds c ledger kept → v.failed ≡ false
+  pub counts : (c : Image) (ledger : Entries) (kept : Kept) → v.holds c ledger kept → v.count ≡ length ledger
+  pub remembers : (c : Image) (ledger : Entries) (kept : Kept) → v.holds c ledger kept → v.kept ≡ kept
+  pub stands : (c : Image) (ledger : Entries) (kept : Kept) → v.holds c ledger kept → files_stand v.topic c ledger kept
+  -- it looks at the files of its topic alone
+  pub local : (a b : Image) (ledger : Entries) (kept : Kept) → Agree (OfTopic v.topic) a b → v.holds a ledger kept → v.holds b ledger kept
+  pub written_local : (a b : Image) (ledger : Entries) (kept : Kept) → Agree (OfTopic v.topic) a b → v.holds a ledger kept → v.written b ≡ v.written a
+
+-- ---- of two stores
+
+pub record EntryView : Type 1 where
+  pub topic : ℕ
+  pub total : ℕ
+  pub segments : ℕ
+  pub failed : Bool
+  pub holds : Image → Entries → Type 0
+
+pub record SubView : Type 1 where
+  pub topic : ℕ
+  pub kept : Kept
+  pub failed : Bool
+  pub holds : ℕ → Image → Kept → Type 0
+  pub written : Image → Bodies
+
+-- they are of one topic, and each holds its half
+pub record BothHold (e : EntryView) (s : SubView) (files : Image) (ledger : Entries) (kept : Kept) : Type 0 where
+  pub one_topic : s.topic ≡ e.topic
+  pub entries : e.holds files ledger
+  pub subscriptions : s.holds (length ledger) files kept
+
+abbrev pub both : EntryView → SubView → StoreView
+both e s = record {
+  topic = e.topic;
+  count = e.total;
+  segments = e.segments;
+  kept = s.kept;
+  failed = e.failed || s.failed;
+  holds = λ files ledger kept. BothHold e s files ledger kept;
+  written = s.written;
+}
+
+abbrev pub entry_view : {E : Type 0} → (E → ℕ) → (E → List ℕ) → (E → Bool) → (E → Image → Entries → Type 0) → E → EntryView
+entry_view topic_of counts failed holds store = record { topic = topic_of store; total = total (counts store); segments = length (counts store); failed = failed store; holds = holds store }
+
+abbrev pub sub_view : {C : Type 0} → (C → ℕ) → (C → Kept) → (C → Bool) → (C → ℕ → Image → Kept → Type 0) → (C → Image → Bodies) → C → SubView
+sub_view topic_of content failed holds written store = record { topic = topic_of store; kept = content store; failed = failed store; holds = holds store; written = written store }
+
+-- the files of a topic stand for these entries and subscriptions
+abbrev pub stand : (ℕ → Image → Entries → Type 0) → (ℕ → ℕ → Image → Kept → Type 0) → ℕ → Image → Entries → Kept → Type 0
+stand entries_stand subscriptions_stand topic files ledger kept = entries_stand topic files ledger × subscriptions_stand topic (length ledger) files kept

@@ -1,0 +1,135 @@
+// The two parts of an append to each store of a topic.
+ghost use Rattle.std.specs.Prelude.{◌≡◌, ◌⊎◌, ◌+◌, ◌<◌, ◌≤◌, ◌^◌, ◌++◌, [], List, ℕ, true, false, length, sum_by, All, IfOk, IfSome, OnOk, IsErr};
+ghost use Rattle.disk.specs.Disk.{Image, Kept as Counted, Failed};
+ghost use Rattle.disk.specs.Areas.{Within};
+ghost use Rattle.managed_ledger.specs.Entries.{Entries, AreEntries};
+ghost use Rattle.managed_ledger.specs.Shape.{total};
+ghost use Rattle.managed_ledger.specs.Stores as entries_stores;
+ghost use Rattle.records.specs.declared.record.Record.{Record};
+ghost use Rattle.records.specs.Maps.{Kept};
+ghost use Rattle.records.specs.Records.{AreFormed, after_all};
+ghost use Rattle.cursor_store.specs.Stores as subscription_stores;
+ghost use Rattle.topic_stores.specs.Appends.{PreparedFor};
+
+use bytes::Bytes;
+use cursor_store::SubStore;
+use disk::{DeviceError, Shelf};
+use gated_log::PrepareError;
+use managed_ledger::EntryStore;
+use records::Record;
+use std::alloc::AllocError;
+
+/// Builds what an append of these entries writes; nothing where there are none. Reaches no device.
+pub(crate) fn prepare_entries<E: EntryStore>(
+    store: &mut E,
+    entries: &[Bytes],
+) -> Result<Option<E::Prepared>, AllocError>
+    requires readable { AreEntries entries.now }
+    requires few { length entries.now ≤ 1024 }
+    requires small { sum_by length entries.now ≤ 16777216 }
+    requires room { total (E.counts store.old) + length entries.now ≤ 2 ^ 62 }
+    ensures prepared { IfOk result (λ prepared. PreparedFor E.is_for prepared entries.now) }
+    ensures has_room { IfOk result (λ prepared. IfSome prepared (E.has_room store.new)) }
+    ensures unchanged { entries_stores.StaysSo (E.holds store.old) (E.holds store.new) (E.content store.old) (E.content store.new) }
+    ensures topic { E.topic_of store.new ≡ E.topic_of store.old }
+    ensures counts { E.counts store.new ≡ E.counts store.old }
+    ensures failed { E.failed store.new ≡ E.failed store.old }
+{
+    if entries.is_empty() {
+        return Ok(None);
+    }
+    match store.prepare(entries) {
+        Ok(prepared) => Ok(Some(prepared)),
+        Err(PrepareError::NoMemory) => Err(AllocError),
+        // They aren't too many bytes for a batch.
+        Err(PrepareError::TooLarge) => unreachable!(),
+    }
+}
+
+/// Builds what an append of these changes writes; nothing where there are none. Reaches no device.
+pub(crate) fn prepare_changes<C: SubStore>(
+    store: &mut C,
+    changes: &[Record],
+) -> Result<Option<C::Prepared>, AllocError>
+    requires formed { AreFormed (2 ^ 62) (C.content store.old) changes.now }
+    requires few { length changes.now ≤ 65536 }
+    ensures prepared { IfOk result (λ prepared. PreparedFor (C.is_for store.new) prepared changes.now) }
+    ensures has_room { IfOk result (λ prepared. IfSome prepared (C.has_room store.new)) }
+    ensures holds_still { (entries : ℕ) (c : Image) (kept : Kept) → C.holds store.old entries c kept → C.holds store.new entries c kept }
+    ensures written { (c : Image) → C.written store.new c ≡ C.written store.old c }
+    ensures content { C.content store.new ≡ C.content store.old }
+    ensures topic { C.topic_of store.new ≡ C.topic_of store.old }
+    ensures failed { C.failed store.new ≡ C.failed store.old }
+{
+    if changes.is_empty() {
+        return Ok(None);
+    }
+    match store.prepare(changes) {
+        Ok(prepared) => Ok(Some(prepared)),
+        Err(PrepareError::NoMemory) => Err(AllocError),
+        // They aren't too many bytes for a batch.
+        Err(PrepareError::TooLarge) => unreachable!(),
+    }
+}
+
+/// Writes the entries that were prepared.
+pub(crate) fn append_entries<E: EntryStore, S: Shelf>(
+    store: &mut E,
+    shelf: &mut S,
+    prepared: Option<E::Prepared>,
+) -> Result<(), DeviceError>
+    requires { IfSome prepared (E.has_room store.old) }
+    ensures added { (entries batch : Entries) → PreparedFor E.is_for prepared batch → entries_stores.Settled (E.holds store.old) (S.disk shelf.old) entries →
+        OnOk result (entries_stores.Settled (E.holds store.new) (S.disk shelf.new) (entries ++ batch)) }
+    ensures counts { (batch : Entries) → PreparedFor E.is_for prepared batch → OnOk result (total (E.counts store.new) ≡ total (E.counts store.old) + length batch) }
+    ensures total_stays { IsErr result → total (E.counts store.new) ≡ total (E.counts store.old) }
+    ensures in_doubt { (entries batch : Entries) → PreparedFor E.is_for prepared batch → entries_stores.Settled (E.holds store.old) (S.disk shelf.old) entries →
+        IsErr result → entries_stores.InDoubt (E.content store.new) (E.stands (E.topic_of store.old)) (S.disk shelf.new) entries batch }
+
+    // A crash at any moment of the call leaves all the entries or none, and other files as they were.
+    ensures within { (entries batch : Entries) → PreparedFor E.is_for prepared batch → entries_stores.Settled (E.holds store.old) (S.disk shelf.old) entries →
+        Within (E.area (E.topic_of store.old)) (λ c. E.stands (E.topic_of store.old) c entries ⊎ E.stands (E.topic_of store.old) c (entries ++ batch)) (S.disk shelf.old) (S.disk shelf.new) }
+
+    ensures topic { E.topic_of store.new ≡ E.topic_of store.old }
+    ensures works { E.failed store.old ≡ false → OnOk result (E.failed store.new ≡ false) }
+    ensures fails { IsErr result → E.failed store.new ≡ true }
+    ensures cause { E.failed store.old ≡ false → IsErr result → Failed (S.disk shelf.old) (S.disk shelf.new) }
+    ensures kept { Counted (S.disk shelf.old) (S.disk shelf.new) }
+{
+    let Some(prepared) = prepared else {
+        return Ok(());
+    };
+    let _ = store.append_prepared(shelf, prepared)?;
+    Ok(())
+}
+
+/// Writes the changes that were prepared.
+pub(crate) fn append_changes<C: SubStore, S: Shelf>(
+    store: &mut C,
+    shelf: &mut S,
+    prepared: Option<C::Prepared>,
+) -> Result<(), DeviceError>
+    requires { IfSome prepared (C.has_room store.old) }
+    ensures added { (entries : ℕ) (kept : Kept) (changes : List Record) → PreparedFor (C.is_for store.old) prepared changes → AreFormed entries kept changes →
+        subscription_stores.Settled (C.holds store.old entries) (C.written store.old) (S.disk shelf.old) kept → OnOk result (subscription_stores.Settled (C.holds store.new entries) (C.written store.new) (S.disk shelf.new) (after_all changes kept)) }
+    ensures in_doubt { (entries : ℕ) (kept : Kept) (changes : List Record) → PreparedFor (C.is_for store.old) prepared changes → AreFormed entries kept changes →
+        subscription_stores.Settled (C.holds store.old entries) (C.written store.old) (S.disk shelf.old) kept → IsErr result → subscription_stores.InDoubt (C.content store.new) (C.stands (C.topic_of store.old) entries) (S.disk shelf.new) kept changes }
+
+    // A crash at any moment of the call leaves all the changes or none, and other files as they were.
+    ensures within { (entries : ℕ) (kept : Kept) (changes : List Record) → PreparedFor (C.is_for store.old) prepared changes → AreFormed entries kept changes →
+        subscription_stores.Settled (C.holds store.old entries) (C.written store.old) (S.disk shelf.old) kept →
+        Within (C.area (C.topic_of store.old)) (λ c. C.stands (C.topic_of store.old) entries c kept ⊎ C.stands (C.topic_of store.old) entries c (after_all changes kept)) (S.disk shelf.old) (S.disk shelf.new) }
+
+    ensures content { (changes : List Record) → PreparedFor (C.is_for store.old) prepared changes → OnOk result (C.content store.new ≡ after_all changes (C.content store.old)) }
+    ensures remembered { IsErr result → C.content store.new ≡ C.content store.old }
+    ensures topic { C.topic_of store.new ≡ C.topic_of store.old }
+    ensures works { C.failed store.old ≡ false → OnOk result (C.failed store.new ≡ false) }
+    ensures fails { IsErr result → C.failed store.new ≡ true }
+    ensures cause { C.failed store.old ≡ false → IsErr result → Failed (S.disk shelf.old) (S.disk shelf.new) }
+    ensures kept { Counted (S.disk shelf.old) (S.disk shelf.new) }
+{
+    let Some(prepared) = prepared else {
+        return Ok(());
+    };
+    store.append_prepared(shelf, prepared)
+}

@@ -1,0 +1,136 @@
+// The durable half of a topic.
+ghost use Rattle.std.specs.Prelude.{◌≡◌, ◌⊎◌, ◌<◌, ◌≤◌, ◌^◌, ◌++◌, ◌↔◌, [], ℕ, Some, true, false, length, slice_get, IfOk, IfErr, OnOk, IsErr, IsErrOf, IsTrue, map as each};
+ghost use Rattle.std.specs.List.{AllByRecursion};
+ghost use Rattle.std.specs.FinMap as map;
+ghost use Rattle.disk.specs.Disk.{Image, Same, Leaves, Kept as Counted, Failed};
+ghost use Rattle.disk.specs.Areas.{Agree, OfTopic, Within};
+ghost use Rattle.gated_log.specs.declared.refusal.Refusal.TheVariants as refusal;
+ghost use Rattle.managed_ledger.specs.Entries.{Entries, AreEntries};
+ghost use Rattle.records.specs.declared.kept_cursor.KeptCursor.{KeptCursor as Cursor};
+ghost use Rattle.records.specs.Names.{is_subscription_name};
+ghost use Rattle.records.specs.Maps.{Kept};
+ghost use Rattle.records.specs.Records.{after_all};
+ghost use Rattle.topic_stores.specs.declared.error.WriteError.TheVariants as write;
+ghost use Rattle.gated_log.specs.declared.read_error.ReadError.TheVariants as read;
+ghost use Rattle.topic_stores.specs.Views.{StoreView, Settled, AreLaws};
+ghost use Rattle.topic_stores.specs.Writing.{Fits, IsLeft, StandsFor, Remembers};
+
+use crate::{Batch, ReadError, WriteError};
+use disk::{DeviceError, Shelf};
+use gated_log::Refusal;
+use records::KeptCursor;
+use std::alloc::{AllocError, Global};
+
+/// A topic's entries and durable subscriptions, which outlive a crash.
+pub trait TopicStore: Drop {
+    /// What it remembers, and what its files hold.
+    ghost view: { Self → StoreView };
+
+    /// What the files of a topic alone stand for: whoever opens them finds these entries and subscriptions.
+    ghost stands: { ℕ → Image → Entries → Kept → Type 0 };
+
+    /// Makes a store without entries and subscriptions, whatever was in the topic's first segment and its slots. Takes no
+    /// memory. Until the `Ok` a crash may leave anything of the topic's files.
+    fn create<S: Shelf>(
+        alloc: Global,
+        shelf: &mut S,
+        topic: u16,
+        entries_per_ledger: u32,
+    ) -> Result<Self, DeviceError>
+        ensures created { (S.disk shelf.old).honest → IfOk result (λ store. Settled (view store) (S.disk shelf.new) [] map.empty) }
+        ensures works { IfOk result (λ store. (view store).failed ≡ false) }
+        ensures topic { IfOk result (λ store. (view store).topic ≡ topic) }
+        ensures others { (S.disk shelf.old).honest → Within (OfTopic topic) (λ c. Unit {0}) (S.disk shelf.old) (S.disk shelf.new) }
+        ensures cause { IsErr result → Failed (S.disk shelf.old) (S.disk shelf.new) }
+        ensures kept { Counted (S.disk shelf.old) (S.disk shelf.new) };
+
+    /// Opens the store of a topic, whatever a crash left of its files. Where these stand for entries and subscriptions, they
+    /// are opened, unless there is no memory or the device fails.
+    fn open<S: Shelf>(
+        alloc: Global,
+        shelf: &mut S,
+        topic: u16,
+        entries_per_ledger: u32,
+    ) -> Result<Self, Refusal>
+        ensures opened { (ledger : Entries) (kept : Kept) → (S.disk shelf.old).honest → stands topic (S.disk shelf.old).seen ledger kept →
+            IfOk result (λ store. Settled (view store) (S.disk shelf.new) ledger kept) }
+        ensures refused { (ledger : Entries) (kept : Kept) → (S.disk shelf.old).honest → stands topic (S.disk shelf.old).seen ledger kept →
+            IfErr result (λ e. (e ≡ refusal.NoMemory) ⊎ ((e ≡ refusal.Device) × Failed (S.disk shelf.old) (S.disk shelf.new))) }
+        ensures works { IfOk result (λ store. (view store).failed ≡ false) }
+        ensures topic { IfOk result (λ store. (view store).topic ≡ topic) }
+        ensures device { IsErrOf result refusal.Device → Failed (S.disk shelf.old) (S.disk shelf.new) }
+        ensures others { (S.disk shelf.old).honest → Agree (λ f. ¬ OfTopic topic f) (S.disk shelf.old).seen (S.disk shelf.new).seen }
+
+        // A crash at any moment leaves what it might have left before.
+        ensures any_moment { (S.disk shelf.old).honest → Leaves (S.disk shelf.old).may_leave (S.disk shelf.old) (S.disk shelf.new) }
+        ensures kept { Counted (S.disk shelf.old) (S.disk shelf.new) };
+
+    /// The topic whose store it is.
+    fn topic(&self) -> u16
+        ensures { result ≡ (view self.now).topic };
+
+    /// How many entries it remembers.
+    fn len(&self) -> u64
+        ensures len { result ≡ (view self.now).count }
+        ensures few { result ≤ 2 ^ 62 };
+
+    /// In how many files these are.
+    fn segments(&self) -> u64
+        ensures { result ≡ (view self.now).segments };
+
+    /// The subscriptions that it remembers, with sets of their own, in the order of the names' bytes.
+    fn kept(&self) -> Result<Vec<KeptCursor>, AllocError>
+        ensures kept { IfOk result (λ cursors. each (λ (c : Cursor). (c.name, c.acked)) cursors.items ≡ map.entries (view self.now).kept) }
+        ensures few { IfOk result (λ cursors. length cursors.items ≤ 64) }
+        ensures named { IfOk result (λ cursors. AllByRecursion (λ c. is_subscription_name c.name ≡ true) cursors.items) };
+
+    /// Reads the entry of a position, with one read of the device. A failed store answers `Device`. One that isn't there, or is
+    /// longer than any that is accepted, is damage of the first segment.
+    fn read<S: Shelf>(&self, shelf: &mut S, position: u64) -> Result<Vec<u8>, ReadError>
+        ensures entry { (ledger : Entries) (kept : Kept) → (S.disk shelf.old).honest → (view self.now).holds (S.disk shelf.old).seen ledger kept →
+            IfOk result (λ entry. slice_get ledger position ≡ Some entry.items) }
+        ensures refused { (ledger : Entries) (kept : Kept) → (S.disk shelf.old).honest → (view self.now).holds (S.disk shelf.old).seen ledger kept → position < length ledger →
+            IfErr result (λ e. (e ≡ read.NoMemory) ⊎ (e ≡ read.Device)) }
+        ensures short { IfOk result (λ entry. length entry.items ≤ 1048576) }
+        ensures stays_failed { (view self.now).failed ≡ true → IsErrOf result read.Device × (shelf.new ≡ shelf.old) }
+        ensures cause { (view self.now).failed ≡ false → IsErrOf result read.Device → Failed (S.disk shelf.old) (S.disk shelf.new) }
+        ensures seen { (S.disk shelf.old).honest → Same (S.disk shelf.old).seen (S.disk shelf.new).seen }
+        ensures any_moment { (S.disk shelf.old).honest → Leaves (S.disk shelf.old).may_leave (S.disk shelf.old) (S.disk shelf.new) }
+        ensures kept { Counted (S.disk shelf.old) (S.disk shelf.new) };
+
+    /// Whether a batch fits what it remembers: there are numbers for its entries, and each change is of its form at its place.
+    /// Takes no memory.
+    fn fits(&self, batch: &Batch) -> bool
+        ensures { IsTrue result ↔ Fits (view self.now) batch.now };
+
+    /// Adds a batch, the entries before the changes. All memory is taken before the first device call; an empty batch asks
+    /// nothing of the device.
+    fn write<S: Shelf>(&mut self, shelf: &mut S, batch: &Batch) -> Result<(), WriteError>
+        requires fits { Fits (view self.old) batch.now }
+        ensures remembers { Remembers (view self.old) batch.now result (view self.new) }
+        ensures written { (ledger : Entries) (kept : Kept) → Settled (view self.old) (S.disk shelf.old) ledger kept →
+            OnOk result (Settled (view self.new) (S.disk shelf.new) (ledger ++ batch.now.entries.items) (after_all batch.now.changes.items kept)) }
+        ensures unwritten { (ledger : Entries) (kept : Kept) → Settled (view self.old) (S.disk shelf.old) ledger kept →
+            IsErrOf result write.NoMemory → Settled (view self.new) (S.disk shelf.new) ledger kept }
+        ensures no_memory { IsErrOf result write.NoMemory → shelf.new ≡ shelf.old }
+
+        // A crash at any moment of the call leaves the old entries and subscriptions, the ledger with the entries of the batch,
+        // or both with all of it; files of other topics are as they were.
+        ensures within { (ledger : Entries) (kept : Kept) → Settled (view self.old) (S.disk shelf.old) ledger kept →
+            Within (OfTopic (view self.old).topic)
+            (StandsFor (stands (view self.old).topic) (IsLeft ledger kept batch.now.entries.items batch.now.changes.items))
+            (S.disk shelf.old) (S.disk shelf.new) }
+
+        ensures topic { (view self.new).topic ≡ (view self.old).topic }
+        ensures cause { (view self.old).failed ≡ false → IsErrOf result write.Device → Failed (S.disk shelf.old) (S.disk shelf.new) }
+        ensures kept { Counted (S.disk shelf.old) (S.disk shelf.new) };
+
+    ghost laws: { (store : Self) → AreLaws stands (view store) };
+
+    // Files stand for one list of entries, each with metadata that can be read, and one map of subscriptions.
+    ghost stands_one: { (t : ℕ) (files : Image) (one other : Entries) (k j : Kept) → length one ≤ 2 ^ 62 → stands t files one k → stands t files other j → (one ≡ other) × (k ≡ j) };
+
+    ghost stands_entries: { (t : ℕ) (files : Image) (ledger : Entries) (k : Kept) → stands t files ledger k → AreEntries ledger };
+
+    ghost stands_local: { (t : ℕ) (a b : Image) (ledger : Entries) (k : Kept) → Agree (OfTopic t) a b → stands t a ledger k → stands t b ledger k };
+}
