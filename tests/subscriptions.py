@@ -6,13 +6,12 @@ Usage: tests/subscriptions.py [--write]
 The model follows docs/PROTOCOL.md and the contracts of `cursor` and `subscriptions`. Compares the answers with the file stdout; the last line is
 'subscriptions: N lines, M differ', and the exit status is 1 where any does. With --write it puts lines of its own behind the hand-written ones of
 stdin, and writes stdout."""
-import os
 import random
 import sys
 
 sys.dont_write_bytecode = True
+from table import Table
 
-FOLDER = os.path.join(os.path.dirname(os.path.dirname(os.path.realpath(__file__))), "crates", "subscriptions_tests")
 AT_RANDOM = "# at random"
 SEED = 11
 ROUNDS, ACTIONS = 6, 60  # topics of each mode, and actions of a topic
@@ -403,47 +402,5 @@ def lines_at_random():
     return [AT_RANDOM, *topics, *cursors]
 
 
-# Files
-
-
-def read_lines(name):
-    with open(os.path.join(FOLDER, name), encoding="utf-8") as file:
-        return [line.rstrip("\n") for line in file]
-
-
-def write_lines(name, lines):
-    with open(os.path.join(FOLDER, name), "w", encoding="utf-8") as file:
-        file.write("\n".join(lines) + "\n")
-
-
-def write():
-    asked = read_lines("stdin")
-    hand = asked[:asked.index(AT_RANDOM)] if AT_RANDOM in asked else asked
-    asked = hand + lines_at_random()
-    write_lines("stdin", asked)
-    write_lines("stdout", answers_to(asked))
-
-
-def differing(asked, answers):
-    """How many answers aren't those of the model."""
-    count = abs(len(asked) - len(answers))
-    for at, (line, answer, wanted) in enumerate(zip(asked, answers, answers_to(asked)), 1):
-        if answer != wanted:
-            print(f"line {at}: {line}\n  wanted: {wanted}\n  stands: {answer}")
-            count += 1
-    return count
-
-
-def main():
-    if sys.argv[1:] == ["--write"]:
-        write()
-    elif sys.argv[1:]:
-        sys.exit(__doc__)
-    asked = read_lines("stdin")
-    count = differing(asked, read_lines("stdout"))
-    print(f"subscriptions: {len(asked)} lines, {count} differ")
-    return 1 if count else 0
-
-
 if __name__ == "__main__":
-    sys.exit(main())
+    Table("subscriptions_tests", AT_RANDOM, lambda hand: lines_at_random(), answers_to).main("subscriptions", __doc__)

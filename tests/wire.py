@@ -5,14 +5,13 @@ Usage: tests/wire.py [--write]
 
 Compares the answers with the file stdout; the last line is 'wire: N lines, M differ', and the exit status is 1 where any does. With --write
 it puts lines of its own behind the hand-written ones of stdin, and writes stdout."""
-import os
 import random
 import sys
 
 sys.dont_write_bytecode = True
 from encoding import ERRORS, frame, number, text, varint
+from table import Table
 
-FOLDER = os.path.join(os.path.dirname(os.path.dirname(os.path.realpath(__file__))), "crates", "wire_tests")
 AT_RANDOM = "# cut and changed at random"
 OF_TABLES = "# made at random of the tables"
 CHANGES = 6  # of a line
@@ -518,48 +517,5 @@ def made_lines(hand):
     return [AT_RANDOM, *changes, "", OF_TABLES, *lines_of_tables(chance), "", "# each first byte of a tag", *tags, "", *LONG_FRAMES]
 
 
-# Files
-
-
-def read_lines(name):
-    with open(os.path.join(FOLDER, name), encoding="utf-8") as file:
-        return [line.rstrip("\n") for line in file]
-
-
-def write_lines(name, lines):
-    with open(os.path.join(FOLDER, name), "w", encoding="utf-8") as file:
-        file.write("\n".join(lines) + "\n")
-
-
-def write():
-    asked = read_lines("stdin")
-    hand = asked[:asked.index(AT_RANDOM)] if AT_RANDOM in asked else asked
-    asked = hand + made_lines(hand)
-    write_lines("stdin", asked)
-    write_lines("stdout", [answer_to(line) for line in asked])
-
-
-def differing(asked, answers):
-    """How many answers aren't those that the pages give."""
-    count = abs(len(asked) - len(answers))
-    for at, (line, answer) in enumerate(zip(asked, answers), 1):
-        wanted = answer_to(line)
-        if answer != wanted:
-            print(f"line {at}: {line}\n  wanted: {wanted}\n  stands: {answer}")
-            count += 1
-    return count
-
-
-def main():
-    if sys.argv[1:] == ["--write"]:
-        write()
-    elif sys.argv[1:]:
-        sys.exit(__doc__)
-    asked = read_lines("stdin")
-    count = differing(asked, read_lines("stdout"))
-    print(f"wire: {len(asked)} lines, {count} differ")
-    return 1 if count else 0
-
-
 if __name__ == "__main__":
-    sys.exit(main())
+    Table("wire_tests", AT_RANDOM, made_lines, lambda asked: [answer_to(line) for line in asked]).main("wire", __doc__)

@@ -1,4 +1,2 @@
-pub mod Appending
-pub mod Bodies
-pub mod OneFinding
-pub mod Opening
+mod Appending
+mod Taking

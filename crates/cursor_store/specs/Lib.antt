@@ -1,5 +1,4 @@
 pub mod Stores
 pub mod Cursors
-pub mod Findings
-pub mod Reading
+pub mod Folded
 pub mod Laws

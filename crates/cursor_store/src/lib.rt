@@ -7,6 +7,7 @@
 mod cursor_store;
 mod form;
 mod open;
+mod records_fold;
 mod store;
 mod sub_store;
 

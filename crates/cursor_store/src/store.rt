@@ -11,6 +11,7 @@ use two_slot::TwoSlot;
 impl SubStore for CursorStore {
     ghost use Rattle.two_slot.specs.Slots.{SlotsOf};
     ghost use Rattle.cursor_store.specs.Cursors.{Holds, StandsFor, HasRoom, IsFor, content, written, topic_of, failed};
+    ghost use Rattle.cursor_store.specs.Folded as folded;
     ghost use Rattle.cursor_store.specs.Laws as law;
 
     type Prepared = PreparedRecords;
@@ -20,6 +21,8 @@ impl SubStore for CursorStore {
     ghost area = { SlotsOf };
 
     ghost stands = { StandsFor };
+
+    ghost faulty = { folded.IsFault };
 
     ghost holds = { Holds };
 
@@ -102,6 +105,10 @@ impl SubStore for CursorStore {
     ghost stands_longer = { law.stands_longer };
 
     ghost holds_longer = { law.holds_longer };
+
+    ghost faulty_one = { folded.fault_one };
+
+    ghost stands_sound = { folded.stands_sound };
 
     ghost area_slots = { λ t f own. own };
 

@@ -11,6 +11,7 @@ ghost use Rattle.records.specs.declared.record.Record.{Record};
 ghost use Rattle.records.specs.Maps.{Kept};
 ghost use Rattle.records.specs.Records.{AreFormed, after_all};
 ghost use Rattle.records.specs.Bytes.{body_of};
+ghost use Rattle.gated_log.specs.declared.refusal.Refusal.{Refusal};
 ghost use Rattle.gated_log.specs.Batches.{Bodies};
 ghost use Rattle.two_slot.specs.Slots.{SlotsOf};
 ghost use Rattle.cursor_store.specs.Stores.{Settled, InDoubt};
@@ -35,6 +36,9 @@ pub trait SubStore: Drop {
 
     /// What these files alone stand for, beside a ledger of so many entries: whoever opens them finds these subscriptions.
     ghost stands: { ℕ → ℕ → Image → Kept → Type 0 };
+
+    /// Why these files alone are refused, beside a ledger of so many entries: the first fault in them.
+    ghost faulty: { ℕ → ℕ → Image → Refusal → Type 0 };
 
     /// The store works, and the files hold these subscriptions, beside a ledger of so many entries, just as it remembers them.
     ghost holds: { Self → ℕ → Image → Kept → Type 0 };
@@ -65,8 +69,7 @@ pub trait SubStore: Drop {
         ensures kept { Counted (S.disk shelf.old) (S.disk shelf.new) };
 
     /// Opens the store of a topic whose ledger has so many entries, whatever a crash left of its files. They are synced
-    /// first, so what is read stays. Where the files stand for subscriptions, these are opened, unless there is no memory
-    /// or the device fails.
+    /// first, so what is read stays, and read once.
     fn open<S: Shelf>(
         alloc: Global,
         shelf: &mut S,
@@ -74,11 +77,9 @@ pub trait SubStore: Drop {
         entries: u64,
     ) -> Result<Self, Refusal>
         requires { entries ≤ 2 ^ 62 }
-        ensures opened { (kept : Kept) → (S.disk shelf.old).honest → stands topic entries (S.disk shelf.old).seen kept →
-            IfOk result (λ store. Settled (holds store entries) (written store) (S.disk shelf.new) kept) }
-        ensures refused { (kept : Kept) → (S.disk shelf.old).honest → stands topic entries (S.disk shelf.old).seen kept →
-            IfErr result (λ e. (e ≡ Refusal.NoMemory) ⊎ ((e ≡ Refusal.Device) × Failed (S.disk shelf.old) (S.disk shelf.new))) }
-        ensures settled { (S.disk shelf.old).honest → IfOk result (λ store. Settled (holds store entries) (written store) (S.disk shelf.new) (content store)) }
+        ensures opened { (S.disk shelf.old).honest → IfOk result (λ store. Settled (holds store entries) (written store) (S.disk shelf.new) (content store)) }
+        // Or the first fault that stands in the files is told.
+        ensures refused { (S.disk shelf.old).honest → IfErr result (λ e. (e ≡ Refusal.NoMemory) ⊎ ((e ≡ Refusal.Device) ⊎ faulty topic entries (S.disk shelf.old).seen e)) }
         ensures topic { IfOk result (λ store. topic_of store ≡ topic) }
         ensures works { IfOk result (λ store. failed store ≡ false) }
         ensures device { IsErrOf result Refusal.Device → Failed (S.disk shelf.old) (S.disk shelf.new) }
@@ -160,6 +161,11 @@ pub trait SubStore: Drop {
     ghost stands_longer: { (t entries more : ℕ) (image : Image) (kept : Kept) → entries ≤ more → stands t entries image kept → stands t more image kept };
 
     ghost holds_longer: { (store : Self) (entries more : ℕ) (image : Image) (kept : Kept) → entries ≤ more → holds store entries image kept → holds store more image kept };
+
+    // Its files have one first fault, and where they stand for subscriptions they have none.
+    ghost faulty_one: { (t entries : ℕ) (image : Image) (one other : Refusal) → faulty t entries image one → faulty t entries image other → one ≡ other };
+
+    ghost stands_sound: { (t entries : ℕ) (image : Image) (kept : Kept) (refusal : Refusal) → stands t entries image kept → ¬ faulty t entries image refusal };
 
     // It looks at its own files alone, which are slots.
     ghost area_slots: { (t : ℕ) (f : FileId) → area t f → SlotsOf t f };

@@ -4,10 +4,9 @@ mod Exists
 mod Gates
 mod Heads
 mod Made
-mod Opening
 mod Parts
 mod Places
-mod Scan
 mod Torn
 mod Steps
 mod Further
+mod Folding

@@ -2,10 +2,12 @@ pub mod Refusals
 pub mod Batches
 pub mod Gates
 pub mod Headers
-pub mod Findings
+pub mod Head
 pub mod Lists
 pub mod Logs
 pub mod Content
 pub mod One
 pub mod Local
 pub mod Reading
+pub mod Folds
+pub mod OneFault

@@ -1,24 +1,33 @@
 // Laws of the files.
-ghost use Rattle.std.specs.Prelude.{◌≡◌, ◌<◌, ◌++◌, List, ℕ, All, length, drop};
+ghost use Rattle.std.specs.Prelude.{◌≡◌, ◌⊎◌, ◌<◌, ◌++◌, [], ◌∷◌, List, ℕ, All, length, drop};
 ghost use Rattle.gated_log.specs.Batches.{Bodies, AllFit, IsLog, opened, first_bodies};
-ghost use Rattle.gated_log.specs.Findings.{Finding, Finds};
+ghost use Rattle.disk.specs.declared.file_id.FileId.{FileId};
+ghost use Rattle.gated_log.specs.declared.refusal.Refusal.{Refusal};
+ghost use Rattle.gated_log.specs.Folds.{Link, IsFault, any, behind};
+
+use crate::Fold;
 
 /// A file stands for one number and one list of bodies.
 pub fn file_stands_for_one_list()
     ensures { (n m : ℕ) (one other : Bodies) (file : List ℕ) → IsLog n one file → IsLog m other file → (n ≡ m) × (one ≡ other) }
 {}
 
-/// An opening finds one thing in a file.
-pub fn file_has_one_finding()
-    ensures { (file : List ℕ) (one other : Finding) → Finds file one → Finds file other → one ≡ other }
-{}
-
-/// An opening finds something in whatever bytes a file holds.
-pub fn every_file_has_a_finding()
-    ensures { (file : List ℕ) → All (λ byte. byte < 256) file → (finding : Finding) × Finds file finding }
+/// Whatever bytes a file holds, it stands for a log or has a fault that no log has.
+pub fn every_file_is_a_log_or_has_a_fault()
+    ensures { (name : FileId) (file : List ℕ) → All (λ byte. byte < 256) file → ((log : Link) × IsLog log.number log.bodies file) ⊎ ((fault : Refusal) × IsFault any name file fault) }
 {}
 
 /// A file that begins with these batches gives their bodies, whatever stands behind them.
 pub fn batches_give_their_bodies()
     ensures { (number : ℕ) (bodies : Bodies) (rest file : List ℕ) → AllFit bodies → file ≡ opened number bodies ++ rest → first_bodies (length bodies) (drop 16 file) ≡ bodies }
+{}
+
+/// A file has one first fault, whatever fold reads it behind these logs.
+pub fn files_have_one_fault<F: Fold>()
+    ensures { (rule : F.Rule) (before : List Link) (name : FileId) (file : List ℕ) (one other : Refusal) → IsFault (behind (F.form rule) before) name file one → IsFault (behind (F.form rule) before) name file other → one ≡ other }
+{}
+
+/// And a log of its form has none.
+pub fn logs_have_no_fault<F: Fold>()
+    ensures { (rule : F.Rule) (before : List Link) (log : Link) (name : FileId) (file : List ℕ) (refusal : Refusal) → F.form rule (before ++ log ∷ []) → IsLog log.number log.bodies file → ¬ IsFault (behind (F.form rule) before) name file refusal }
 {}

@@ -2,14 +2,16 @@
 mod answers;
 mod damage;
 mod faults;
-mod reader;
+mod openings;
 mod stops;
+mod taken;
 
 use disk::{DeviceError, FileId, Shelf};
 use disk_mem::MemShelf;
 use gated_log::{BatchList, GatedLog, ReadError, Refusal};
 use std::alloc::Global;
 use std::test::Fail;
+use taken::Taken;
 
 const FILE: FileId = FileId::Segment {
     topic: 3,
@@ -45,7 +47,8 @@ fn read_answer<T: Drop>(answered: Result<T, ReadError>) -> Result<Result<T, Read
 
 // What an opening finds: the number of bodies, or why it refuses.
 fn found(alloc: Global, shelf: &mut MemShelf) -> Result<Result<u64, Refusal>, Refusal> {
-    match GatedLog::open(alloc, shelf, FILE) {
+    let mut taken = Taken::new(alloc);
+    match GatedLog::open_with(alloc, shelf, FILE, &mut taken) {
         Ok(log) => Ok(Ok(log.count())),
         Err(e) => answer(Err(e)),
     }

@@ -1,7 +1,7 @@
 //! A journal is one list of bodies over a chain of segment files: an append is whole or not at all, and a roll goes on in
 //! a new file and changes no body, at whatever moment a crash comes. What takes memory is prepared before the first device
-//! call. After a failure the journal remembers the old list, and refuses until it is opened again. An opening hands over the
-//! bodies one by one, and answers the first fault that stands in the segments.
+//! call. After a failure the journal remembers the old list, and refuses until it is opened again. An opening hands the
+//! bodies to a fold in one pass, and answers the first fault that stands in the segments.
 #![tactic(auto)]
 
 mod append;
@@ -11,14 +11,13 @@ mod kind;
 mod law;
 mod open;
 mod read;
-mod reader;
 mod roll;
+mod segment_fold;
 
 pub use builder::BodyBuilder;
 pub use journal::Journal;
 pub use law::{
-    bodies_stay_in_a_roll, chain_is_its_own_files, files_stand_for_one_chain,
-    segments_have_one_finding,
+    bodies_stay_in_a_roll, chain_is_its_own_files, chains_have_no_fault, files_stand_for_one_chain,
+    segments_have_one_fault,
 };
-pub use reader::{JournalReader, Opening};
 pub use roll::PreparedRoll;

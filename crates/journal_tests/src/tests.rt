@@ -3,6 +3,7 @@ mod answers;
 mod failures;
 mod openings;
 mod stops;
+mod taken;
 
 ghost use Rattle.std.specs.Prelude.{IfOk};
 ghost use Rattle.journal.specs.Journals.{HasRoom};
@@ -13,6 +14,7 @@ use gated_log::{PreparedBatch, ReadError, Refusal};
 use journal::Journal;
 use std::alloc::Global;
 use std::test::Fail;
+use taken::Taken;
 
 const fn segment(number: u64) -> FileId {
     FileId::Segment { topic: 3, number }
@@ -59,9 +61,15 @@ fn read_answer<T: Drop>(answered: Result<T, ReadError>) -> Result<Result<T, Read
     }
 }
 
+// The journal that is opened; what it hands over is dropped.
+fn open(alloc: Global, shelf: &mut MemShelf) -> Result<Journal, Refusal> {
+    let (journal, _) = Journal::open_with(alloc, shelf, 3, Taken::new(alloc))?;
+    Ok(journal)
+}
+
 // What an opening finds: the segments and the bodies of the last one, or why it refuses.
 fn found(alloc: Global, shelf: &mut MemShelf) -> Result<Result<[u64; 2], Refusal>, Refusal> {
-    match Journal::open(alloc, shelf, 3) {
+    match open(alloc, shelf) {
         Ok(journal) => Ok(Ok([journal.segments(), journal.last_count()])),
         Err(e) => answer(Err(e)),
     }
@@ -90,7 +98,7 @@ fn add_bodies(
 
 // The bodies that an opened journal has: a comma behind each, and a bar behind each segment.
 fn chain(alloc: Global, shelf: &mut MemShelf) -> Result<Vec<u8>, Fail> {
-    let journal = Journal::open(alloc, shelf, 3)?;
+    let journal = open(alloc, shelf)?;
     let mut bodies = Vec::with_capacity(alloc, 16)?;
     for segment in 0..journal.segments() {
         add_bodies(&journal, shelf, segment, &mut bodies)?;
@@ -123,7 +131,7 @@ fn roll(journal: &mut Journal, shelf: &mut MemShelf, number: u64) -> Result<(), 
 
 // The bodies once the journal was opened, took a body, rolled, and took one more.
 fn chain_gone_on(alloc: Global, shelf: &mut MemShelf) -> Result<Vec<u8>, Fail> {
-    let mut journal = Journal::open(alloc, shelf, 3)?;
+    let mut journal = open(alloc, shelf)?;
     append(&mut journal, shelf, b"f")?;
     roll(&mut journal, shelf, 8)?;
     append(&mut journal, shelf, b"g")?;

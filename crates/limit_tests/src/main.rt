@@ -6,6 +6,7 @@
 mod of_gated_log;
 mod of_journal;
 mod outcome;
+mod sizes;
 
 use crate::outcome::Outcome;
 use anyhow::Error;
@@ -24,12 +25,12 @@ fn main(rt: HostRuntime) -> Result<(), Error> {
     print_outcome(&rt, longer)?;
     print_outcome(&rt, longest)?;
     println!(rt; "a journal")?;
-    let (longer, longest, end) = of_journal::limits(rt.alloc())?;
-    print_outcome(&rt, longer)?;
-    print_outcome(&rt, longest)?;
+    let limits = of_journal::limits(rt.alloc())?;
+    print_outcome(&rt, limits.longer)?;
+    print_outcome(&rt, limits.longest)?;
     println!(rt;
-        "opened again, the last bytes of the first body are {:?}",
-        end
+        "opened again, bodies of {:?} bytes, and the last bytes of the first one are {:?}",
+        limits.sizes, limits.end
     )?;
     Ok(())
 }

@@ -1,4 +1,5 @@
 use crate::outcome::{Outcome, is_too_large, size_of};
+use crate::sizes::Sizes;
 use anyhow::Error;
 use disk::FileId;
 use disk_mem::MemShelf;
@@ -22,16 +23,30 @@ fn append(journal: &mut Journal, shelf: &mut MemShelf, body: &[u8]) -> Result<Ou
     })
 }
 
-/// What became of a body that is a byte too long, and of the longest one behind it, and the end of that one as it is read
-/// once the journal was opened again.
-pub(crate) fn limits(alloc: Global) -> Result<(Outcome, Outcome, Option<Vec<u8>>), Error> {
+/// What became of a body that is a byte too long, and of the longest one behind it; and once the journal was opened again,
+/// the size of each body that was handed over, and the end of the longest one as it is read.
+#[derive(Drop)]
+pub(crate) struct JournalLimits {
+    pub(crate) longer: Outcome,
+    pub(crate) longest: Outcome,
+    pub(crate) sizes: Vec<usize>,
+    pub(crate) end: Option<Vec<u8>>,
+}
+
+/// Tries both, one after another.
+pub(crate) fn limits(alloc: Global) -> Result<JournalLimits, Error> {
     let mut shelf = MemShelf::new(alloc);
     let mut journal = Journal::create(alloc, &mut shelf, TOPIC, 0)?;
     let mut body = vec![in alloc; 9u8; MAX_BODY]?;
     let longer = append(&mut journal, &mut shelf, &body)?;
     body.truncate(MAX_BODY - 1);
     let longest = append(&mut journal, &mut shelf, &body)?;
-    let opened = Journal::open(alloc, &mut shelf, TOPIC)?;
+    let (opened, taken) = Journal::open_with(alloc, &mut shelf, TOPIC, Sizes::new(alloc))?;
     let end = opened.read(&mut shelf, 0, 0, (MAX_BODY - 2) as u32, 9)?;
-    Ok((longer, longest, end))
+    Ok(JournalLimits {
+        longer,
+        longest,
+        sizes: taken.sizes,
+        end,
+    })
 }

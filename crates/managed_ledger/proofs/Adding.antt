@@ -1,8 +1,10 @@
 -- The entries of a body are read one after another.
-use Rattle.std.proofs.Common.{◌≡◌, ◌≢◌, ℕ, suc, ◌+◌, ◌-◌, ◌^◌, ◌<◌, ◌≤◌, List, [], ◌∷◌, ◌++◌, length, map, take, drop, Option, None, Some, refl, sym, ◌∙◌, ap, subst, arith, append_assoc, length-append, length-take, length-drop}
+use Rattle.std.proofs.Common.{◌≡◌, ◌≢◌, ℕ, suc, ◌+◌, ◌-◌, ◌^◌, ◌<◌, ◌≤◌, List, [], ◌∷◌, ◌++◌, length, map, take, drop, Option, None, Some, Ok, refl, sym, ◌∙◌, ap, subst, arith, append_assoc, length-append, length-take, length-drop}
 use Rattle.std.proofs.lemmas.Grind.{flat_map-append}
 use Rattle.std.proofs.lemmas.List.{drop-drop, append-nil, take_all, length-map}
 use Rattle.gated_log.specs.Batches.{sized}
+use Rattle.commands.specs.Metadata.{entry_of}
+use Rattle.managed_ledger.specs.declared.first_entry.FirstEntry.{FirstEntry}
 use Rattle.managed_ledger.specs.declared.place.Place.{Place}
 use Rattle.managed_ledger.specs.Entries.{Entries, IsEntry, AreEntries, body_of}
 use Rattle.managed_ledger.specs.Bodies.{IsBody, IsFirst, BeginsWith}
@@ -134,8 +136,25 @@ module _ (body : List ℕ) (batch first : ℕ) (old : List Place) (at : ℕ) (pl
       bytes_here : drop at body ≡ sized entry ++ drop (at + (4 + size)) body
       bytes_here = next.bytes_are ∙ ap (λ (l : List ℕ). sized entry ++ l) (drop-drop (4 + size) at body)
 
+-- one entry more
+adding_step : (body : List ℕ) (batch first : ℕ) (old : List Place) (at : ℕ) (places : List Place) (so_far : Adding body batch first old at places) → at < length body → (size : ℕ) → BeginsWith size (drop at body) → first + length places < 2 ^ 62
+    → (places' : List Place) → places' ≡ places ++ record { batch = batch; offset = at + 4; size = size } ∷ [] → Adding body batch first old (at + (4 + size)) places'
+unfolding adding_more
+adding_step body batch first old at places so_far some size next few places' is =
+    let more = adding_more body batch first old at places so_far some size next few in
+    record {
+      done = so_far.done ++ take size (drop 4 (drop at body)) ∷ [];
+      within = more.within;
+      bytes = more.bytes;
+      at_is = more.at_is;
+      each = more.each;
+      places_are = is ∙ more.places_are;
+      few = subst (λ (l : List Place). first + length l ≤ 2 ^ 62) (sym is) more.few;
+      only = more.only;
+    }
+
 -- at the end
-pub adding_done : (body : List ℕ) (batch first : ℕ) (old : List Place) (at : ℕ) (places : List Place) → Adding body batch first old at places → length body ≤ at → length body ≤ 33554431
+pub adding_done : (body : List ℕ) (batch first : ℕ) (old : List Place) (at : ℕ) (places : List Place) → Adding body batch first old at places → length body ≤ at → length body ≤ 33554432
     → (entries : Entries) × IsBody body entries × (places ≡ old ++ places_in batch 0 (map length entries))
 adding_done body batch first old at places so_far end fits =
     let none : drop at body ≡ [] = nothing_left (drop at body) (omega (arith, end, length-drop at body)) in
@@ -145,14 +164,52 @@ adding_done body batch first old at places so_far end fits =
     nothing_left [] le = refl
     nothing_left (x ∷ l) le = absurd (omega (arith, le))
 
+-- and a fold that held some entries has taken these behind them
+abbrev pub Handing : (Entries → Type 0) → (Entries → Type 0) → List ℕ → ℕ → ℕ → List Place → ℕ → List Place → Type 0
+Handing held holds body batch first old at places = (so_far : Adding body batch first old at places) × ((before : Entries) → held before → holds (before ++ so_far.done))
+
+pub handing_none : (held : Entries → Type 0) (body : List ℕ) (batch first : ℕ) (old : List Place) → first + length old ≤ 2 ^ 62 → Handing held held body batch first old 0 old
+unfolding adding_none
+handing_none held body batch first old few = (adding_none body batch first old few, λ before is. subst held (sym (append-nil before)) is)
+
+pub handing_step : (held holds holds' : Entries → Type 0) (body : List ℕ) (batch first : ℕ) (old : List Place) (at : ℕ) (places : List Place) (so_far : Handing held holds body batch first old at places) → at < length body → (size : ℕ) → BeginsWith size (drop at body)
+    → first + length places < 2 ^ 62 → (places' : List Place) → places' ≡ places ++ record { batch = batch; offset = at + 4; size = size } ∷ [] → (handed : List ℕ) → handed ≡ take size (drop 4 (drop at body))
+    → ((entries : Entries) → holds entries → holds' (entries ++ handed ∷ [])) → Handing held holds' body batch first old (at + (4 + size)) places'
+unfolding adding_step
+handing_step held holds holds' body batch first old at places so_far some size next few places' is handed handed_is takes = (
+  adding_step body batch first old at places so_far.0 some size next few places' is,
+  λ before before_is. subst holds' (ap (λ (e : List ℕ). (before ++ so_far.0.done) ++ e ∷ []) handed_is ∙ append_assoc before so_far.0.done (take size (drop 4 (drop at body)) ∷ [])) (takes (before ++ so_far.0.done) (so_far.1 before before_is)),
+)
+
+pub handing_done : (held holds : Entries → Type 0) (body : List ℕ) (batch first : ℕ) (old : List Place) (at : ℕ) (places : List Place) → Handing held holds body batch first old at places → length body ≤ at → length body ≤ 33554432
+    → (before : Entries) → held before → (entries : Entries) × IsBody body entries × (places ≡ old ++ places_in batch 0 (map length entries)) × holds (before ++ entries)
+unfolding adding_done
+handing_done held holds body batch first old at places so_far end fits before before_is =
+    let done = adding_done body batch first old at places so_far.0 end fits in
+    (so_far.0.done, done.1, done.2, so_far.1 before before_is)
+
+-- what is handed over
+pub handed_entry : (at : ℕ) (body : List ℕ) (size : ℕ)
+    → take size (take (length (take (length body - at) (drop at body)) - 4) (drop 4 (take (length body - at) (drop at body)))) ≡ take size (drop 4 (drop at body))
+handed_entry at body size =
+    let all : take (length body - at) (drop at body) ≡ drop at body = take_all (length body - at) (drop at body) (omega (arith, length-drop at body)) in
+    ap (λ (l : List ℕ). take size (take (length l - 4) (drop 4 l))) all ∙ ap (λ (l : List ℕ). take size l) (take_all (length (drop at body) - 4) (drop 4 (drop at body)) (omega (arith, length-drop 4 (drop at body))))
+
 sliced : (at : ℕ) (body : List ℕ) → take (length body - at) (drop at body) ≡ drop at body
 sliced at body = take_all (length body - at) (drop at body) (omega (arith, length-drop at body))
 
 -- the first entry of a slice
-pub first_there : (at : ℕ) (body : List ℕ) (found : Option ℕ) (size : ℕ) → found ≡ Some size → IsFirst (take (length body - at) (drop at body)) found → BeginsWith size (drop at body)
-first_there at body (Some n) size is first = let same : n ≡ size = cc in subst (λ (k : ℕ). BeginsWith k (drop at body)) same (subst (λ (l : List ℕ). BeginsWith n l) (sliced at body) first)
-first_there at body None size is first = cc
+abbrev There : List ℕ → FirstEntry → Type 0
+There bytes first = BeginsWith first.size bytes × (entry_of (take first.size (drop 4 bytes)) ≡ Ok first.metadata)
 
-pub first_not_there : (at : ℕ) (body : List ℕ) (found : Option ℕ) → found ≡ None → IsFirst (take (length body - at) (drop at body)) found → (entry rest : List ℕ) → IsEntry entry → drop at body ≢ sized entry ++ rest
+pub first_there : (at : ℕ) (body : List ℕ) (found : Option FirstEntry) (first : FirstEntry) → found ≡ Some first → IsFirst (take (length body - at) (drop at body)) found → There (drop at body) first
+first_there at body (Some f) first is read = let same : f ≡ first = cc in subst (λ (k : FirstEntry). There (drop at body) k) same (subst (λ (l : List ℕ). There l f) (sliced at body) read)
+first_there at body None first is read = cc
+
+pub first_not_there : (at : ℕ) (body : List ℕ) (found : Option FirstEntry) → found ≡ None → IsFirst (take (length body - at) (drop at body)) found → (entry rest : List ℕ) → IsEntry entry → drop at body ≢ sized entry ++ rest
 first_not_there at body None is first = subst (λ (l : List ℕ). (entry rest : List ℕ) → IsEntry entry → l ≢ sized entry ++ rest) (sliced at body) first
 first_not_there at body (Some n) is first = cc
+
+-- its metadata is that of what is handed over
+pub handed_meta : (at : ℕ) (body handed : List ℕ) (first : FirstEntry) → There (drop at body) first → handed ≡ take first.size (drop 4 (drop at body)) → entry_of handed ≡ Ok first.metadata
+handed_meta at body handed first is same = ap entry_of same ∙ is.1

@@ -1,37 +1,36 @@
 // The entries in the body of a batch.
-ghost use Rattle.std.specs.Prelude.{◌≡◌, ◌≤◌, ◌+◌, ◌^◌, ◌++◌, true, false, length, map, IfOk, IfErr};
+ghost use Rattle.std.specs.Prelude.{◌≡◌, ◌≤◌, ◌+◌, ◌^◌, ◌++◌, true, false, length, map, IfOk};
 ghost use Rattle.managed_ledger.specs.Entries.{Entries};
-ghost use Rattle.managed_ledger.specs.Bodies.{IsBody, IsFirst, HasMetaIf};
+ghost use Rattle.managed_ledger.specs.Bodies.{IsBody, IsFirst, IsMetaOf};
 ghost use Rattle.managed_ledger.specs.Ledgers.{places_in};
 
+use crate::entry_fold::EntryFold;
+use crate::first_entry::FirstEntry;
 use crate::place::Place;
-use commands::{CommandFault, read_entry};
-use gated_log::Refusal;
-use std::alloc::Global;
+use commands::{CommandFault, MessageMeta, read_entry};
+use std::alloc::{AllocError, Global};
 
-// A body of more bytes has no room for its kind in a batch.
-const LONGEST_BODY: usize = 33_554_431;
+// No batch has a body of more bytes.
+const LONGEST_BODY: usize = 33_554_432;
 
 const LONGEST_ENTRY: usize = 1_048_576;
 
 const MOST_ENTRIES: u64 = 1 << 62;
 
-// Whether the metadata of these bytes, taken as an entry, can be read.
-fn has_metadata(alloc: Global, entry: &[u8]) -> Result<bool, Refusal>
-    ensures readable { IfOk result (HasMetaIf entry.now) }
-    ensures refusals { IfErr result (λ e. e ≡ Refusal.NoMemory) }
+// The metadata of these bytes, taken as an entry; none where it can't be read.
+fn metadata_of(alloc: Global, entry: &[u8]) -> Result<Option<MessageMeta>, AllocError>
+    ensures readable { IfOk result (IsMetaOf entry.now) }
 {
     match read_entry(alloc, entry) {
-        Ok(_) => Ok(true),
-        Err(CommandFault::NoMemory) => Err(Refusal::NoMemory),
-        Err(CommandFault::Unreadable | CommandFault::Missing) => Ok(false),
+        Ok(metadata) => Ok(Some(metadata)),
+        Err(CommandFault::NoMemory) => Err(AllocError),
+        Err(CommandFault::Unreadable | CommandFault::Missing) => Ok(None),
     }
 }
 
-// The size of the entry with which these bytes begin, behind four bytes that say it; none where they begin with no entry.
-fn first_entry(alloc: Global, bytes: &[u8]) -> Result<Option<usize>, Refusal>
+// The entry with which these bytes begin, behind four bytes that say its size; none where they begin with no entry.
+fn first_entry(alloc: Global, bytes: &[u8]) -> Result<Option<FirstEntry>, AllocError>
     ensures first { IfOk result (IsFirst bytes.now) }
-    ensures refusals { IfErr result (λ e. e ≡ Refusal.NoMemory) }
 {
     if bytes.len() < 4 {
         return Ok(None);
@@ -43,27 +42,28 @@ fn first_entry(alloc: Global, bytes: &[u8]) -> Result<Option<usize>, Refusal>
     if bytes.len() - 4 < size {
         return Ok(None);
     }
-    if !has_metadata(alloc, &bytes[4..][..size])? {
+    let Some(metadata) = metadata_of(alloc, &bytes[4..][..size])? else {
         return Ok(None);
-    }
-    Ok(Some(size))
+    };
+    Ok(Some(FirstEntry { size, metadata }))
 }
 
-// Adds the places of the entries in the body of this batch, and answers whether it is a body of entries. It is none where
+// Adds the places of the entries in the body of this batch, hands the entries to a fold, and answers whether it is a body of entries. It is none where
 // there would be more than 2^62 entries, of which `first` stand before those at `places`. Otherwise some places may have
 // been added.
-pub(crate) fn add_places(
+pub(crate) fn add_places<E: EntryFold>(
     alloc: Global,
     body: &[u8],
     batch: u64,
     first: u64,
     places: &mut Vec<Place>,
-) -> Result<bool, Refusal>
+    fold: &mut E,
+) -> Result<bool, AllocError>
     requires few { first + length places.old.items ≤ 2 ^ 62 }
-    ensures added { IfOk result (λ formed. formed ≡ true → (entries : Entries) × IsBody body.now entries × (places.new.items ≡ places.old.items ++ places_in batch 0 (map length entries))) }
+    ensures added { (before : Entries) → E.holds fold.old before →
+        IfOk result (λ formed. formed ≡ true → (entries : Entries) × IsBody body.now entries × (places.new.items ≡ places.old.items ++ places_in batch 0 (map length entries)) × E.holds fold.new (before ++ entries)) }
     ensures unformed { IfOk result (λ formed. formed ≡ false → (entries : Entries) → IsBody body.now entries → ¬ (first + (length places.old.items + length entries) ≤ 2 ^ 62)) }
     ensures few { first + length places.new.items ≤ 2 ^ 62 }
-    ensures refusals { IfErr result (λ e. e ≡ Refusal.NoMemory) }
 {
     if body.len() > LONGEST_BODY {
         return Ok(false);
@@ -73,9 +73,12 @@ pub(crate) fn add_places(
         if first + places.len() as u64 >= MOST_ENTRIES {
             return Ok(false);
         }
-        let Some(size) = first_entry(alloc, &body[at..])? else {
+        let rest = &body[at..];
+        let Some(found) = first_entry(alloc, rest)? else {
             return Ok(false);
         };
+        let size = found.size;
+        fold.entry(&rest[4..][..size], &found.metadata)?;
         places.push(Place {
             batch,
             offset: at as u32 + 4,

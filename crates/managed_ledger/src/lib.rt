@@ -7,11 +7,14 @@
 mod append;
 mod body;
 mod build;
+mod entry_fold;
 mod entry_store;
 mod extend;
 mod find;
+mod first_entry;
 mod getters;
 mod law;
+mod ledger_fold;
 mod ledger_index;
 mod ledger_store;
 mod managed_ledger;
@@ -19,10 +22,10 @@ mod open;
 mod place;
 mod prepare;
 mod prepared;
-mod reader;
 mod segment_index;
 
+pub use entry_fold::EntryFold;
 pub use entry_store::EntryStore;
-pub use law::ledgers_have_one_finding;
+pub use law::{ledgers_have_no_fault, ledgers_have_one_fault};
 pub use managed_ledger::ManagedLedger;
 pub use prepared::PreparedEntries;

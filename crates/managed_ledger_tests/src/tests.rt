@@ -1,6 +1,8 @@
 // Each list and each answer was worked out by hand from the format of the files.
 mod damage;
+mod openings;
 mod stops;
+mod taken;
 
 ghost use Rattle.std.specs.Prelude.{◌<◌, IfOk, length};
 ghost use Rattle.managed_ledger.specs.Entries.{IsEntry, AreEntries};
@@ -13,6 +15,7 @@ use gated_log::{ReadError, Refusal};
 use managed_ledger::{EntryStore, ManagedLedger};
 use std::alloc::Global;
 use std::test::Fail;
+use taken::Taken;
 
 const FIRST: FileId = FileId::Segment {
     topic: 0,
@@ -206,9 +209,10 @@ fn has_three<E: EntryStore>(alloc: Global, shelf: &mut MemShelf, store: &E) -> R
     Ok(true)
 }
 
-// Opens a store, as one knows it by its contract.
-fn opened<E: EntryStore>(alloc: Global, shelf: &mut MemShelf) -> Result<E, Refusal> {
-    E::open(alloc, shelf, 0, 2)
+// Opens a store, as one knows it by its contract, and answers the entries as text too.
+fn opened<E: EntryStore>(alloc: Global, shelf: &mut MemShelf) -> Result<(E, Vec<u8>), Refusal> {
+    let (store, taken) = E::open(alloc, shelf, 0, 2, Taken::new(alloc))?;
+    Ok((store, taken.text))
 }
 
 #[test]
@@ -216,7 +220,9 @@ fn entries_are_read_by_their_positions(rt: HostRuntime) -> Result<(), Fail> {
     let mut shelf = roomy(rt.alloc())?;
     let ledger = three(rt.alloc(), &mut shelf)?;
     assert!(rt; has_three(rt.alloc(), &mut shelf, &ledger)?);
-    let again: ManagedLedger = opened(rt.alloc(), &mut shelf)?;
+    let (again, text): (ManagedLedger, Vec<u8>) = opened(rt.alloc(), &mut shelf)?;
+    let entries = joined(rt.alloc(), &[PLAIN, b",", PLAIN, b"b,", PLAIN, b"cc,"])?;
+    assert_eq!(rt; text, entries);
     assert_eq!(rt; told(&again), (0, 3, 2));
     assert!(rt; has_three(rt.alloc(), &mut shelf, &again)?);
     Ok(())

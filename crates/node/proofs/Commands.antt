@@ -28,12 +28,6 @@ use Rattle.topic_core.proofs.Subscribing.{accepts}
 use Rattle.topic_core.proofs.Closings.{close-works, unsubscribe-works}
 use Rattle.node.specs.Telling.{IsAtOnce}
 
-not_later : (r : Reply) → Now r ≡ Later → ⊥
-not_later r is = cc
-
-not_now : (r : Reply) → Later ≡ Now r → ⊥
-not_now r is = cc
-
 producer_cases : (o : Option ServerError) (t : Topic) (who id request : ℕ) (name : List ℕ) (u : Topic)
     → u ≡ (refused_or o (λ error. Now (Error request error)) t (record { answer = Now (ProducerSuccess request name); topic = with_producer t who id name })).topic
     → (u ≡ t) ⊎ (u ≡ with_producer t who id name)
@@ -46,39 +40,26 @@ producer_topic (Now r) t who id request name u step = producer_cases (first_stan
 producer_topic Nothing t who id request name u step = producer_cases (first_standing (producer_refusals t name)) t who id request name u step.1
 producer_topic Later t who id request name u step = producer_cases (first_standing (producer_refusals t name)) t who id request name u step.1
 
-nothing_cases : (o : Option ServerError) (t : Topic) (who : ℕ) (send : Send) (u : Topic)
-    → u ≡ (refused_or o (λ error. Now (SendError send.producer_id send.sequence_id error)) t (record { answer = Later; topic = accepted t who send.producer_id send.sequence_id (bytes_of send.entry) })).topic
-    → Nothing ≡ (refused_or o (λ error. Now (SendError send.producer_id send.sequence_id error)) t (record { answer = Later; topic = accepted t who send.producer_id send.sequence_id (bytes_of send.entry) })).answer
-    → u ≡ t
-nothing_cases None t who send u is answer = absurd (let no : ⊥ = cc in no)
-nothing_cases (Some e) t who send u is answer = is
+send_cases : (o : Option ServerError) (t : Topic) (who : ℕ) (send : Send) (a : Answer) (u : Topic)
+    → let made : Outcome = refused_or o (λ error. Now (SendError send.producer_id send.sequence_id error)) t (record { answer = Later; topic = accepted t who send.producer_id send.sequence_id (bytes_of send.entry) }) in
+    a ≡ made.answer → u ≡ made.topic → ((u ≡ t) × (a ≡ Later → ⊥)) ⊎ ((a ≡ Later) × (o ≡ None) × (u ≡ accepted t who send.producer_id send.sequence_id (bytes_of send.entry)))
+send_cases None t who send a u answer is = inr (answer, refl, is)
+send_cases (Some e) t who send a u answer is = inl (is, λ later. cc)
 
 -- a SEND is never left without an answer
 pub silent_topic : (t : Topic) (who : ℕ) (send : Send) (u : Topic) → TopicStep t who (asked.Send send) Nothing u → u ≡ t
-silent_topic t who send u step = nothing_cases (first_standing (send_refusals t who send)) t who send u step.1 step.0
-
-now_cases : (o : Option ServerError) (t : Topic) (who : ℕ) (send : Send) (r : Reply) (u : Topic)
-    → Now r ≡ (refused_or o (λ error. Now (SendError send.producer_id send.sequence_id error)) t (record { answer = Later; topic = accepted t who send.producer_id send.sequence_id (bytes_of send.entry) })).answer
-    → u ≡ (refused_or o (λ error. Now (SendError send.producer_id send.sequence_id error)) t (record { answer = Later; topic = accepted t who send.producer_id send.sequence_id (bytes_of send.entry) })).topic
-    → u ≡ t
-now_cases None t who send r u answer is = absurd (not_later r answer)
-now_cases (Some e) t who send r u answer is = is
+silent_topic t who send u step =
+    ⊎_elim (λ same. same.0) (λ is. absurd (let later : Nothing ≡ Later = is.0 in cc)) (send_cases (first_standing (send_refusals t who send)) t who send Nothing u step.0 step.1)
 
 pub refused_topic : (t : Topic) (who : ℕ) (send : Send) (r : Reply) (u : Topic) → TopicStep t who (asked.Send send) (Now r) u → u ≡ t
-refused_topic t who send r u step = now_cases (first_standing (send_refusals t who send)) t who send r u step.0 step.1
-
-later_cases : (o : Option ServerError) (t : Topic) (who : ℕ) (send : Send) (u : Topic)
-    → Later ≡ (refused_or o (λ error. Now (SendError send.producer_id send.sequence_id error)) t (record { answer = Later; topic = accepted t who send.producer_id send.sequence_id (bytes_of send.entry) })).answer
-    → u ≡ (refused_or o (λ error. Now (SendError send.producer_id send.sequence_id error)) t (record { answer = Later; topic = accepted t who send.producer_id send.sequence_id (bytes_of send.entry) })).topic
-    → (o ≡ None) × (u ≡ accepted t who send.producer_id send.sequence_id (bytes_of send.entry))
-later_cases None t who send u answer is = (refl, is)
-later_cases (Some e) t who send u answer is = absurd (not_now (SendError send.producer_id send.sequence_id e) answer)
+refused_topic t who send r u step =
+    ⊎_elim (λ same. same.0) (λ is. absurd (let later : Now r ≡ Later = is.0 in cc)) (send_cases (first_standing (send_refusals t who send)) t who send (Now r) u step.0 step.1)
 
 -- a SEND is accepted by a topic that works
 pub accepted_topic : (t : Topic) (who : ℕ) (send : Send) (u : Topic) → TopicStep t who (asked.Send send) Later u → (t.failed ≡ false) × (u ≡ accepted t who send.producer_id send.sequence_id (bytes_of send.entry))
 accepted_topic t who send u step =
-    let cases = later_cases (first_standing (send_refusals t who send)) t who send u step.0 step.1 in
-    ((takes_entry t who send cases.0).0, cases.1)
+    let is = ⊎_elim (λ same. absurd (same.1 refl)) (λ is. is) (send_cases (first_standing (send_refusals t who send)) t who send Later u step.0 step.1) in
+    ((takes_entry t who send is.1).0, is.2)
 
 -- a session's command leaves the entries as they are; a topic that works may then owe the session one more reply
 pub record Awaits (who : ℕ) (t u : Topic) : Type 0 where
@@ -105,54 +86,14 @@ refused_awaits : (who : ℕ) (o : Option ServerError) (refused : ServerError →
 refused_awaits who None refused t effect h = h refl
 refused_awaits who (Some e) refused t effect h = awaits_nothing who t
 
-not_none : (e : ServerError) → Some e ≡ None → ⊥
-not_none e is = cc
-
 no_first : (b : Bool) (e : ServerError) (o : Option ServerError) → cond b (Some e) o ≡ None → b ≡ false
-no_first true e o h = absurd (not_none e h)
+no_first true e o h = absurd cc
 no_first false e o h = refl
 
-subscribed_awaits : (t : Topic) (who : ℕ) (subscribe : Subscribe) → t.failed ≡ false → Awaits who t (subscribed t who subscribe)
-subscribed_awaits t who subscribe works = record {
-  per_ledger = refl;
-  committed = refl;
-  ledger = refl;
-  waiting = refl;
-  doubt = refl;
-  handed = refl;
-  failed = refl;
-  queues = inr (Success subscribe.request_id, record { no_receipt = refl; no_message = refl }, works, refl);
-}
-
-pub subscribe_topic : (a : Answer) (t : Topic) (who : ℕ) (subscribe : Subscribe) (u : Topic) → TopicStep t who (asked.Subscribe subscribe) a u → Awaits who t u
-subscribe_topic a t who subscribe u step = awaits_by who _ t a u
-    (refused_awaits who (subscribe_refusal t subscribe) (λ error. Now (Error subscribe.request_id error)) t (record { answer = Later; topic = subscribed t who subscribe })
-    (λ none. subscribed_awaits t who subscribe (no_first t.failed PersistenceError (attach_refusal t subscribe) none)))
-    step
-
-accepted_awaits : (request : Option ℕ) (t : Topic) (who : ℕ) (ack : Ack) → t.failed ≡ false → Awaits who t (ack_accepted t who ack request).topic
-accepted_awaits None t who ack works = record { per_ledger = refl; committed = refl; ledger = refl; waiting = refl; doubt = refl; handed = refl; failed = refl; queues = inl refl }
-accepted_awaits (Some request) t who ack works = record {
-  per_ledger = refl;
-  committed = refl;
-  ledger = refl;
-  waiting = refl;
-  doubt = refl;
-  handed = refl;
-  failed = refl;
-  queues = inr (AckResponse ack.consumer_id None request, record { no_receipt = refl; no_message = refl }, works, refl);
-}
-
-pub ack_topic : (a : Answer) (t : Topic) (who : ℕ) (ack : Ack) (u : Topic) → TopicStep t who (asked.Ack ack) a u → Awaits who t u
-ack_topic a t who ack u step = awaits_by who _ t a u
-    (refused_awaits who (first_standing (ack_refusals t who ack)) (ack_refused ack.consumer_id ack.request_id) t (ack_accepted t who ack ack.request_id)
-    (λ none. accepted_awaits ack.request_id t who ack (accepts t who ack none).works))
-    step
-
 -- a reply that is no receipt and no message awaits a flush
-awaits_success : (who request : ℕ) (t u : Topic) → u.per_ledger ≡ t.per_ledger → u.committed ≡ t.committed → u.ledger ≡ t.ledger → u.waiting ≡ t.waiting → u.doubt ≡ t.doubt → u.handed ≡ t.handed
-    → u.failed ≡ t.failed → t.failed ≡ false → u.queues ≡ queued who (Success request) t.queues → Awaits who t u
-awaits_success who request t u per_ledger committed ledger waiting doubt handed failed works queues = record {
+awaits_one : (who : ℕ) (r : Reply) → IsAtOnce r → (t u : Topic) → u.per_ledger ≡ t.per_ledger → u.committed ≡ t.committed → u.ledger ≡ t.ledger → u.waiting ≡ t.waiting → u.doubt ≡ t.doubt → u.handed ≡ t.handed
+    → u.failed ≡ t.failed → t.failed ≡ false → u.queues ≡ queued who r t.queues → Awaits who t u
+awaits_one who r plain t u per_ledger committed ledger waiting doubt handed failed works queues = record {
   per_ledger = per_ledger;
   committed = committed;
   ledger = ledger;
@@ -160,19 +101,36 @@ awaits_success who request t u per_ledger committed ledger waiting doubt handed 
   doubt = doubt;
   handed = handed;
   failed = failed;
-  queues = inr (Success request, record { no_receipt = refl; no_message = refl }, works, queues);
+  queues = inr (r, plain, works, queues);
 }
+
+pub subscribe_topic : (a : Answer) (t : Topic) (who : ℕ) (subscribe : Subscribe) (u : Topic) → TopicStep t who (asked.Subscribe subscribe) a u → Awaits who t u
+subscribe_topic a t who subscribe u step = awaits_by who _ t a u
+    (refused_awaits who (subscribe_refusal t subscribe) (λ error. Now (Error subscribe.request_id error)) t (record { answer = Later; topic = subscribed t who subscribe })
+    (λ none. awaits_one who (Success subscribe.request_id) (record { no_receipt = refl; no_message = refl }) t (subscribed t who subscribe) refl refl refl refl refl refl refl (no_first t.failed PersistenceError (attach_refusal t subscribe) none) refl))
+    step
+
+accepted_awaits : (request : Option ℕ) (t : Topic) (who : ℕ) (ack : Ack) → t.failed ≡ false → Awaits who t (ack_accepted t who ack request).topic
+accepted_awaits None t who ack works = record { per_ledger = refl; committed = refl; ledger = refl; waiting = refl; doubt = refl; handed = refl; failed = refl; queues = inl refl }
+accepted_awaits (Some request) t who ack works =
+    awaits_one who (AckResponse ack.consumer_id None request) (record { no_receipt = refl; no_message = refl }) t (ack_accepted t who ack (Some request)).topic refl refl refl refl refl refl refl works refl
+
+pub ack_topic : (a : Answer) (t : Topic) (who : ℕ) (ack : Ack) (u : Topic) → TopicStep t who (asked.Ack ack) a u → Awaits who t u
+ack_topic a t who ack u step = awaits_by who _ t a u
+    (refused_awaits who (first_standing (ack_refusals t who ack)) (ack_refused ack.consumer_id ack.request_id) t (ack_accepted t who ack ack.request_id)
+    (λ none. accepted_awaits ack.request_id t who ack (accepts t who ack none).works))
+    step
 
 pub close_topic : (a : Answer) (t : Topic) (who : ℕ) (close : CloseProducer) (u : Topic) → TopicStep t who (asked.CloseProducer close) a u → Awaits who t u
 close_topic a t who close u step = awaits_by who _ t a u
     (refused_awaits who (first_standing (close_refusals t who close)) (λ error. Now (Error close.request_id error)) t (record { answer = Later; topic = closing t who close })
-    (λ none. awaits_success who close.request_id t (closing t who close) refl refl refl refl refl refl refl (close-works t who close none) refl))
+    (λ none. awaits_one who (Success close.request_id) (record { no_receipt = refl; no_message = refl }) t (closing t who close) refl refl refl refl refl refl refl (close-works t who close none) refl))
     step
 
 pub unsubscribe_topic : (a : Answer) (t : Topic) (who : ℕ) (unsubscribe : Unsubscribe) (u : Topic) → TopicStep t who (asked.Unsubscribe unsubscribe) a u → Awaits who t u
 unsubscribe_topic a t who unsubscribe u step = awaits_by who _ t a u
     (refused_awaits who (unsubscribe_refusal t who unsubscribe) (λ error. Now (Error unsubscribe.request_id error)) t (record { answer = Later; topic = unsubscribed t who unsubscribe })
-    (λ none. awaits_success who unsubscribe.request_id t (unsubscribed t who unsubscribe) refl refl refl refl refl refl refl (unsubscribe-works t who unsubscribe none) refl))
+    (λ none. awaits_one who (Success unsubscribe.request_id) (record { no_receipt = refl; no_message = refl }) t (unsubscribed t who unsubscribe) refl refl refl refl refl refl refl (unsubscribe-works t who unsubscribe none) refl))
     step
 
 granted_by : (failed : Bool) (who : ℕ) (t : Topic) (subs : Subscriptions) → Awaits who t (cond failed t (record t { subs = subs }))

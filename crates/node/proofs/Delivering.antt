@@ -45,11 +45,8 @@ queued_none who r qs one none = all-queued HasNoMessage HasNoMessage who r qs (�
     (λ q h. record { due = h.due; pending = all-append IsNoMessage q.pending (r ∷ []) h.pending (one, tt) })
     (record { due = tt; pending = (one, tt) }) none
 
-no_reply : (r : Reply) (rs : List Reply) → [] ≡ r ∷ rs → ⊥
-no_reply r rs is = cc
-
 due_none : (who : ℕ) (qs : List SessionReplies) (r : Reply) (rs : List Reply) → OweNoMessage qs → due_to who qs ≡ r ∷ rs → IsNoMessage r
-due_none who [] r rs none is = absurd (no_reply r rs is)
+due_none who [] r rs none is = absurd cc
 due_none who (q ∷ qs) r rs none is = elim (is_for who q) as (λ b. cond b q.due (due_to who qs) ≡ r ∷ rs → IsNoMessage r) [
   | true ↦ λ due. (subst (λ (l : List Reply). AllByRecursion IsNoMessage l) due none.0.due).0
   | false ↦ λ later. due_none who qs r rs none.1 later

@@ -28,9 +28,6 @@ use Rattle.node.proofs.Owed.{handed, same_handed, AllOwed, each_owed, queued_owe
 not_receipt : (r : Reply) → is_receipt r ≡ false → is_receipt r ≡ true → ⊥
 not_receipt r isnt is = cc
 
-works_and_failed : (b : Bool) → b ≡ false → b ≡ true → ⊥
-works_and_failed b works fails = cc
-
 -- what a failure makes of a reply is no receipt
 refused_plain : (r : Reply) → is_receipt (refused r) ≡ false
 refused_plain Connected = refl
@@ -46,15 +43,12 @@ refused_plain Pong = refl
 -- ---- lists
 
 module _ {A : Type 0} where
-  none_some : (x : A) → None ≡ Some x → ⊥
-  none_some x is = cc
-
   -- what stands in one list stands in the other one
   abbrev pub Extends : List A → List A → Type 0
   Extends xs ys = (i : ℕ) (x : A) → slice_get xs i ≡ Some x → slice_get ys i ≡ Some x
 
   pub stays : (xs ys : List A) → Extends xs (xs ++ ys)
-  stays [] ys i x is = absurd (none_some x is)
+  stays [] ys i x is = absurd cc
   stays (y ∷ xs) ys zero x is = is
   stays (y ∷ xs) ys (suc i) x is = stays xs ys i x is
 
@@ -65,13 +59,10 @@ module _ {A : Type 0} where
   last (y ∷ xs) x zero is = absurd (omega (arith, is))
   last (y ∷ xs) x (suc n) is = last xs x n (omega (arith, is))
 
-  same_one : (x y : A) → Some x ≡ Some y → x ≡ y
-  same_one x y is = cc
-
   -- one that was there, or the one that is added
   there_or_last : (xs : List A) (x : A) (i : ℕ) (y : A) → slice_get (xs ++ x ∷ []) i ≡ Some y → (slice_get xs i ≡ Some y) ⊎ ((length xs ≡ i) × (x ≡ y))
-  there_or_last [] x zero y is = inr (refl, same_one x y is)
-  there_or_last [] x (suc i) y is = absurd (none_some y is)
+  there_or_last [] x zero y is = inr (refl, cc)
+  there_or_last [] x (suc i) y is = absurd cc
   there_or_last (z ∷ xs) x zero y is = inl is
   there_or_last (z ∷ xs) x (suc i) y is = ⊎_elim (λ there. inl there) (λ new. inr (omega (arith, new.0), new.1)) (there_or_last xs x i y is)
 
@@ -404,8 +395,8 @@ module _ (base : ℕ) (before : List Sent) where
   -- a failed topic is opened again: nothing of it is pending
   on_again : (t u : Topic) → t.failed ≡ true → ((h : Handed) → Finds before t.ledger h → Finds before u.ledger h) → (who : ℕ) (d : Debt) → FoundIn before t who d → FoundIn before u who d
   on_again t u fails more who (Due r) f = more (handed who r) f
-  on_again t u fails more who (HandedOn r) f = absurd (works_and_failed t.failed f.1 fails)
-  on_again t u fails more who (Pending r) f = absurd (works_and_failed t.failed f.1 fails)
+  on_again t u fails more who (HandedOn r) f = absurd (let works = f.1 in cc)
+  on_again t u fails more who (Pending r) f = absurd (let works = f.1 in cc)
 
   opens_again : (t u : Topic) → Reopened t u → Owes base before t → KeepsOn t u
   opens_again t u s o =

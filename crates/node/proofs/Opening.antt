@@ -1,37 +1,53 @@
 -- A node that was opened.
-use Rattle.std.proofs.Common.{◌≡◌, inl, ℕ, zero, suc, ◌≤◌, [], length, map as each, refl, sym, ap, subst, ◌∙◌}
+use Rattle.std.proofs.Common.{◌≡◌, ◌⊎◌, inl, ℕ, zero, suc, ◌≤◌, true, Result, Ok, Err, [], length, map as each, refl, sym, ap, subst, ◌∙◌}
+use Rattle.std.specs.Prelude.{IfErr, OnOk, IsErrOf}
 use Rattle.std.specs.FinMap as map
-use Rattle.disk.specs.Disk.{Disk, Image}
+use Rattle.disk.specs.Disk.{Disk, Image, Same, Failed}
+use Rattle.gated_log.specs.declared.refusal.Refusal.{Refusal}
+use Rattle.gated_log.specs.declared.refusal.Refusal.TheVariants as refusal
 use Rattle.managed_ledger.specs.Entries.{Entries}
 use Rattle.records.specs.Maps.{Kept}
 use Rattle.topic_stores.specs.Views.{StoreView, Settled, AreLaws}
 use Rattle.topic_core.specs.Slots.{slot_of_entry}
 use Rattle.topic_core.specs.State.{Topic, opened}
-use Rattle.topic_core.specs.Crashes.{IsLeft, TopicCrash}
+use Rattle.topic_core.specs.Crashes.{IsLeft, IsShorter, TopicCrash, reopened}
 use Rattle.topic_core.specs.Standing.{Before, resting, Match, Standing}
-use Rattle.topic_core.proofs.Filling.{OnlyReads, settled_read}
 use Rattle.topic_core.proofs.Standings.{reopened_standing}
 use Rattle.session.specs.Broker.{Broker, topic_at}
-use Rattle.node.specs.State.{State, Resting, broker_with}
+use Rattle.node.specs.State.{State, Resting, broker_with, verdict_for}
+use Rattle.node.specs.Opening.{ReopenTells}
 use Rattle.node.specs.Driving.{IsServed}
 use Rattle.node.specs.Runs.{StateCrash}
+use Rattle.node.specs.declared.event.Verdict.TheVariants as verdict
 
--- a topic over a store that was just opened, and whose entries were read since
-module _ (stands : ℕ → Image → Entries → Kept → Type 0) (n : ℕ) (t : Topic) (v : StoreView) (before now : Disk) (ledger found : Entries) (kept : Kept) (laws : AreLaws stands v) (hold : Settled v before ledger kept) (reads : OnlyReads before now)
-    (as_found : t ≡ opened n found (each slot_of_entry found) v.kept) (is_ledger : t.ledger ≡ ledger) where
-  is : t ≡ opened n ledger (each slot_of_entry ledger) kept
-  is =
-      as_found ∙ ap (λ (l : Entries). opened n l (each slot_of_entry l) v.kept) (sym (ap (λ (x : Topic). x.ledger) as_found) ∙ is_ledger)
-      ∙ ap (λ k. opened n ledger (each slot_of_entry ledger) k) (laws.remembers before.seen ledger kept hold.now)
+-- what a crash left, found again
+pub left_as : (was t : Topic) (ledger : Entries) (kept : Kept) → t.ledger ≡ ledger → t.kept ≡ kept → IsLeft was ledger kept → IsLeft was t.ledger t.kept
+left_as was t ledger kept same same_kept left = subst (λ (l : Entries). IsLeft was l t.kept) (sym same) (subst (λ (k : Kept). IsLeft was ledger k) (sym same_kept) left)
 
-  pub opened_standing : Match Before t v → Standing stands (resting t.failed) t v now
-  opened_standing matched =
-      subst (λ b. Standing stands (resting b) t v now) (sym (ap (λ (x : Topic). x.failed) is))
-      (reopened_standing stands (opened n [] [] map.empty) t v now ledger kept laws is matched (settled_read v before now ledger kept reads hold))
+-- a topic over a store that was just opened
+module _ (stands : ℕ → Image → Entries → Kept → Type 0) (n : ℕ) (t : Topic) (v : StoreView) (as_opened : t ≡ opened n t.ledger (each slot_of_entry t.ledger) v.kept) where
+  is_kept : t.kept ≡ v.kept
+  is_kept = ap (λ (x : Topic). x.kept) as_opened
 
-  pub opened_crash : (was : Topic) → was.per_ledger ≡ n → IsLeft was ledger kept → TopicCrash was t
-  opened_crash was numbered left =
-      subst (λ (x : Topic). TopicCrash was x) (sym is) (record { left = left; again = ap (λ m. opened m ledger (each slot_of_entry ledger) kept) (sym numbered) })
+  pub is_new : t ≡ opened n t.ledger (each slot_of_entry t.ledger) t.kept
+  is_new = as_opened ∙ ap (λ k. opened n t.ledger (each slot_of_entry t.ledger) k) (sym is_kept)
+
+  pub opened_standing : (d : Disk) → AreLaws stands v → Settled v d t.ledger v.kept → Match Before t v → Standing stands (resting t.failed) t v d
+  opened_standing d laws hold matched =
+      subst (λ b. Standing stands (resting b) t v d) (sym (ap (λ (x : Topic). x.failed) as_opened))
+      (reopened_standing stands (opened n [] [] map.empty) t v d t.ledger v.kept laws as_opened matched hold)
+
+  -- the files stood for what it has
+  pub opened_stands : (topic : ℕ) (before d : Disk) → AreLaws stands v → v.topic ≡ topic → Same before.seen d.seen → Settled v d t.ledger v.kept → stands topic before.seen t.ledger t.kept
+  opened_stands topic before d laws number same hold =
+      subst (λ (i : Image). stands topic i t.ledger t.kept) same
+      (subst (λ m. stands m d.seen t.ledger t.kept) number (subst (λ k. stands v.topic d.seen t.ledger k) (sym is_kept) (laws.stands d.seen t.ledger v.kept hold.now)))
+
+  pub opened_broker : broker_with t.per_ledger t ≡ broker_with n (opened n t.ledger (each slot_of_entry t.ledger) t.kept)
+  opened_broker = ap (λ m. broker_with m t) (ap (λ (x : Topic). x.per_ledger) as_opened) ∙ ap (λ (x : Topic). broker_with n x) is_new
+
+  pub opened_crash : (was : Topic) → was.per_ledger ≡ n → IsLeft was t.ledger t.kept → TopicCrash was t
+  opened_crash was numbered left = record { left = left; again = is_new ∙ ap (λ m. opened m t.ledger (each slot_of_entry t.ledger) t.kept) (sym numbered) }
 
 -- the topics that aren't there are fresh ones before and after
 crash_each : (n : ℕ) (was now : Topic) → TopicCrash was now → (number : ℕ) → TopicCrash (topic_at (broker_with n was) number) (topic_at (broker_with n now) number)
@@ -56,3 +72,28 @@ state_crash per_ledger old new served n now numbered is crash stage none unused 
       used = unused;
       faults = faults;
     }
+
+-- ---- a topic again
+
+module _ (stands : ℕ → Image → Entries → Kept → Type 0) (faulty : ℕ → Image → Refusal → Type 0) (old new : Topic) (before after : Disk) where
+  pub unknown_tells : ReopenTells stands faulty old new before after verdict.Unknown
+  unknown_tells = record { cause = λ is. absurd cc; found = λ honest fails is. absurd cc; refused = λ honest why is. absurd cc }
+
+  -- the topic's number is 0
+  pub reopen_tells : (number : ℕ) → number ≡ 0 → (result : Result (Unit {0}) Refusal) → (IsErrOf result refusal.Device → Failed before after)
+      → (before.honest → old.failed ≡ true → OnOk result (stands number before.seen new.ledger new.kept × (new ≡ reopened old new.ledger (each slot_of_entry new.ledger) new.kept)))
+      → (before.honest → IfErr result (λ e. (e ≡ refusal.NoMemory) ⊎ ((e ≡ refusal.Device) ⊎ (faulty number before.seen e ⊎ IsShorter stands number old before.seen e))))
+      → ReopenTells stands faulty old new before after (verdict_for result)
+  reopen_tells number is_zero (Ok done) cause found refused = record {
+    cause = λ is. absurd cc;
+    found = λ honest fails is. subst (λ n. stands n before.seen new.ledger new.kept × (new ≡ reopened old new.ledger (each slot_of_entry new.ledger) new.kept)) is_zero (found honest fails);
+    refused = λ honest why is. absurd cc;
+  }
+  reopen_tells number is_zero (Err e) cause found refused = record {
+    cause = λ is. cause (let same : e ≡ refusal.Device = cc in ap (λ r. Err r) same);
+    found = λ honest fails is. absurd cc;
+    refused = λ honest why is.
+        let same : e ≡ why = cc in
+        subst (λ (r : Refusal). (r ≡ refusal.NoMemory) ⊎ ((r ≡ refusal.Device) ⊎ (faulty 0 before.seen r ⊎ IsShorter stands 0 old before.seen r))) same
+        (subst (λ n. (e ≡ refusal.NoMemory) ⊎ ((e ≡ refusal.Device) ⊎ (faulty n before.seen e ⊎ IsShorter stands n old before.seen e))) is_zero (refused honest));
+  }

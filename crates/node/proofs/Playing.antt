@@ -279,12 +279,9 @@ fed None old bytes result new s =
     (for_client (ended_if s.0.read s.0.worked).client s.0.worked new refl (settles (ended_if s.0.read s.0.worked) new s.0.ends))
 fed (Some why) old bytes result new s = still_play old new s.1
 
-no_reply : (r : Reply) (rs : List Reply) → [] ≡ r ∷ rs → ⊥
-no_reply r rs is = cc
-
 -- a topic that has something due is there
 is_there : (topics : List Topic) (at who n : ℕ) (r : Reply) (rs : List Reply) → due_to who (get_or topics at (fresh n)).queues ≡ r ∷ rs → at < length topics
-is_there [] at who n r rs is = absurd (no_reply r rs is)
+is_there [] at who n r rs is = absurd cc
 is_there (x ∷ xs) zero who n r rs is = omega arith
 is_there (x ∷ xs) (suc at) who n r rs is = omega (arith, is_there xs at who n r rs is)
 

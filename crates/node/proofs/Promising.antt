@@ -45,15 +45,6 @@ HoldsIn t kept word = Holds (changes_of t.doubt) t.subs.changes kept t.queues wo
 
 -- ---- commands
 
-now_later : (r : Reply) → Now r ≡ Later → ⊥
-now_later r is = cc
-
-now_nothing : (r : Reply) → Now r ≡ Nothing → ⊥
-now_nothing r is = cc
-
-later_nothing : Later ≡ Nothing → ⊥
-later_nothing is = cc
-
 -- a refused command changed nothing, and an accepted one had its effect
 either : (o : Option ServerError) (refused : ServerError → Answer) (t : Topic) (effect : Outcome) (a : Answer) (u : Topic) → a ≡ (refused_or o refused t effect).answer → u ≡ (refused_or o refused t effect).topic
     → ((e : ServerError) × (a ≡ refused e) × (u ≡ t)) ⊎ ((a ≡ effect.answer) × (u ≡ effect.topic))
@@ -62,13 +53,13 @@ either (Some e) refused t effect a u answer after = inl (e, answer, after)
 
 -- no refusal of an ACK awaits a flush
 not_awaited : (id : ℕ) (request : Option ℕ) (e : ServerError) → Later ≡ ack_refused id request e → ⊥
-not_awaited id None e is = later_nothing is
-not_awaited id (Some request) e is = now_later (AckResponse id (Some e) request) (sym is)
+not_awaited id None e is = let no : Later ≡ Nothing = is in cc
+not_awaited id (Some request) e is = let no : Later ≡ Now (AckResponse id (Some e) request) = is in cc
 
 -- an answer at once is a refusal of an ACK
 not_now : (t : Topic) (who : ℕ) (ack : Ack) (request : Option ℕ) (r : Reply) → Now r ≡ (ack_accepted t who ack request).answer → ⊥
-not_now t who ack None r is = now_nothing r is
-not_now t who ack (Some request) r is = now_later r is
+not_now t who ack None r is = let no : Now r ≡ Nothing = is in cc
+not_now t who ack (Some request) r is = let no : Now r ≡ Later = is in cc
 
 module _ (t : Topic) (kept : Kept) (word : Word) (sound : IsSound t) (h : HoldsIn t kept word) where
   same : (u : Topic) → u ≡ t → HoldsIn u kept word
@@ -123,7 +114,7 @@ module _ (t : Topic) (kept : Kept) (word : Word) (sound : IsSound t) (h : HoldsI
 
   acks_later : (request : Option ℕ) (who : ℕ) (ack : Ack) (u : Topic) → Later ≡ (ack_accepted t who ack request).answer → u ≡ (ack_accepted t who ack request).topic → AreKeptIn u
       → HoldsIn u kept (with_owed (record { session = who; reply = ack_reply ack.consumer_id request; promise = promise_of t who (asked.Ack ack) }) word)
-  acks_later None who ack u answer is are = absurd (later_nothing answer)
+  acks_later None who ack u answer is are = absurd (let no : Later ≡ Nothing = answer in cc)
   acks_later (Some request) who ack u answer is are =
       let c = (ack_accepted t who ack (Some request)).topic in
       let key = key_of who ack.consumer_id in
@@ -138,7 +129,7 @@ module _ (t : Topic) (kept : Kept) (word : Word) (sound : IsSound t) (h : HoldsI
       let c = (ack_accepted t who ack None).topic in
       let are' = at_topic u c is are in
       back u c word is (grows t.committed c.subs.changes None are'.formed (adds_acked ack.ack_type t.subs (key_of who ack.consumer_id) (positions_of t.per_ledger ack)))
-  acks_silently (Some request) who ack u answer is are = absurd (later_nothing (sym answer))
+  acks_silently (Some request) who ack u answer is are = absurd (let no : Nothing ≡ Later = answer in cc)
 
   closes : (who : ℕ) (close : CloseProducer) (u : Topic) → u ≡ closing t who close → AreKeptIn t → HoldsIn u kept (answered t who (asked.CloseProducer close) Later word)
   closes who close u is are =
@@ -154,35 +145,21 @@ module _ (t : Topic) (kept : Kept) (word : Word) (sound : IsSound t) (h : HoldsI
       (adds_removal t.subs.changes (find (subscriptions.is_on (key_of who unsubscribe.consumer_id)) t.subs.subs)) tt)
 
   -- a command whose refusals are told at once, and whose effect awaits a flush
-  module _ (who : ℕ) (c : TopicCommand) (o : Option ServerError) (f : ServerError → Reply) (effect : Topic) (takes : (u : Topic) → u ≡ effect → AreKeptIn u → HoldsIn u kept (answered t who c Later word)) where
-    abbrev outcome : Outcome
-    outcome = refused_or o (λ error. Now (f error)) t (record { answer = Later; topic = effect })
+  module _ (who : ℕ) (c : TopicCommand) (f : ServerError → Reply) (effect : Topic) (takes : (u : Topic) → u ≡ effect → AreKeptIn u → HoldsIn u kept (answered t who c Later word)) where
+    abbrev outcome : Option ServerError → Outcome
+    outcome o = refused_or o (λ error. Now (f error)) t (record { answer = Later; topic = effect })
 
-    awaited : (a : Answer) (u : Topic) → a ≡ outcome.answer → u ≡ outcome.topic → AreKeptIn u → HoldsIn u kept (answered t who c a word)
-    awaited (Now r) u answer after are = ⊎_elim
-        (λ refused. same u refused.2)
-        (λ effected. absurd (now_later r effected.0))
-        (either o (λ error. Now (f error)) t (record { answer = Later; topic = effect }) (Now r) u answer after)
-    awaited Later u answer after are = ⊎_elim
-        (λ refused. absurd (now_later (f refused.0) (sym refused.1)))
-        (λ effected. takes u effected.1 are)
-        (either o (λ error. Now (f error)) t (record { answer = Later; topic = effect }) Later u answer after)
-    awaited Nothing u answer after are = ⊎_elim
-        (λ refused. same u refused.2)
-        (λ effected. absurd (later_nothing (sym effected.0)))
-        (either o (λ error. Now (f error)) t (record { answer = Later; topic = effect }) Nothing u answer after)
-    awaited NoMemory u answer after are = ⊎_elim
-        (λ refused. same u refused.2)
-        (λ effected. let no : ⊥ = cc in absurd no)
-        (either o (λ error. Now (f error)) t (record { answer = Later; topic = effect }) NoMemory u answer after)
+    awaited : (o : Option ServerError) (a : Answer) (u : Topic) → a ≡ (outcome o).answer → u ≡ (outcome o).topic → AreKeptIn u → HoldsIn u kept (answered t who c a word)
+    awaited None a u answer after are = subst (λ (b : Answer). HoldsIn u kept (answered t who c b word)) (sym answer) (takes u after are)
+    awaited (Some e) a u answer after are = subst (λ (b : Answer). HoldsIn u kept (answered t who c b word)) (sym answer) (same u after)
 
   produces : (who id request : ℕ) (name : List ℕ) (u : Topic) → (u ≡ t) ⊎ (u ≡ with_producer t who id name) → HoldsIn u kept word
   produces who id request name u cases = ⊎_elim (λ is. same u is) (λ is. back u (with_producer t who id name) word is h) cases
 
   -- no PRODUCER awaits a flush
   no_producer : (o : Option ServerError) (f : ServerError → Reply) (r : Reply) (effect : Topic) → Later ≡ (refused_or o (λ error. Now (f error)) t (record { answer = Now r; topic = effect })).answer → ⊥
-  no_producer None f r effect is = now_later r (sym is)
-  no_producer (Some e) f r effect is = now_later (f e) (sym is)
+  no_producer None f r effect is = let no : Later ≡ Now r = is in cc
+  no_producer (Some e) f r effect is = let no : Later ≡ Now (f e) = is in cc
 
   acks : (who : ℕ) (ack : Ack) (a : Answer) (u : Topic) → TopicStep t who (asked.Ack ack) a u → AreKeptIn u → HoldsIn u kept (answered t who (asked.Ack ack) a word)
   acks who ack NoMemory u step are = same u step
@@ -240,16 +217,16 @@ module _ (t : Topic) (kept : Kept) (word : Word) (sound : IsSound t) (h : HoldsI
   commanded who (asked.Send send) Later u step are are' = sent who send u (accepted_topic t who send u step).1 are
   commanded who (asked.Subscribe subscribe) a u step are are' =
       meets _ (λ b. answered t who (asked.Subscribe subscribe) b word)
-      (awaited who (asked.Subscribe subscribe) (subscribe_refusal t subscribe) (λ error. Error subscribe.request_id error) (subscribed t who subscribe) (λ x is kept_x. subscribes who subscribe x is kept_x))
+      (awaited who (asked.Subscribe subscribe) (λ error. Error subscribe.request_id error) (subscribed t who subscribe) (λ x is kept_x. subscribes who subscribe x is kept_x) (subscribe_refusal t subscribe))
       refl a u step are'
   commanded who (asked.Ack ack) a u step are are' = acks who ack a u step are'
   commanded who (asked.CloseProducer close) a u step are are' =
       meets _ (λ b. answered t who (asked.CloseProducer close) b word)
-      (awaited who (asked.CloseProducer close) (first_standing (close_refusals t who close)) (λ error. Error close.request_id error) (closing t who close) (λ x is _. closes who close x is are))
+      (awaited who (asked.CloseProducer close) (λ error. Error close.request_id error) (closing t who close) (λ x is _. closes who close x is are) (first_standing (close_refusals t who close)))
       refl a u step are'
   commanded who (asked.Unsubscribe unsubscribe) a u step are are' =
       meets _ (λ b. answered t who (asked.Unsubscribe unsubscribe) b word)
-      (awaited who (asked.Unsubscribe unsubscribe) (unsubscribe_refusal t who unsubscribe) (λ error. Error unsubscribe.request_id error) (unsubscribed t who unsubscribe) (λ x is kept_x. unsubscribes who unsubscribe x is kept_x))
+      (awaited who (asked.Unsubscribe unsubscribe) (λ error. Error unsubscribe.request_id error) (unsubscribed t who unsubscribe) (λ x is kept_x. unsubscribes who unsubscribe x is kept_x) (unsubscribe_refusal t who unsubscribe))
       refl a u step are'
   commanded who (asked.CloseConsumer close) a u step are are' =
       meets (detach_outcome t who close) (λ b. answered t who (asked.CloseConsumer close) b word)

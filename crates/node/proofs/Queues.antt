@@ -1,11 +1,11 @@
 -- What each session is owed, after each change of the queues.
-use Rattle.std.proofs.Common.{◌≡◌, ◌∙◌, ℕ, zero, suc, ◌≤◌, true, false, cond, not, nat_eq, List, [], ◌∷◌, ◌++◌, length, map, filter, take, drop, refl, sym, ap, subst, arith, length-append, append-nil, append_assoc}
+use Rattle.std.proofs.Common.{◌≡◌, ◌∙◌, ℕ, ◌≤◌, true, false, cond, not, nat_eq, List, [], ◌∷◌, ◌++◌, length, map, filter, take, drop, refl, sym, ap, subst, arith, length-append, append-nil, append_assoc}
 use Rattle.std.proofs.lemmas.Bool.{eqb-true, eq-eqb}
-use Rattle.std.proofs.lemmas.List.{take_all, drop_all, take-append-drop, take-append-le, drop-append-le}
+use Rattle.std.proofs.lemmas.List.{map-append, take_all, drop_all, take-append-drop, take-append-le, drop-append-le}
 use Rattle.std.specs.List.{AllByRecursion}
 use Rattle.commands.specs.declared.reply.Reply.{Reply}
 use Rattle.reply_queues.specs.Replies.{SessionReplies, is_for, due_to, with_pending, queued, without_first, collected_from, hand_on, make_due, take_back, refused, refuse_pending}
-use Rattle.std.proofs.lemmas.List.{map-append}
+use Rattle.std.proofs.Math.Seq.{take-nil, drop-nil}
 use Rattle.topic_core.proofs.Queues.{all-queued, all-collected, all-filter}
 
 -- a reply that a topic owes to a session
@@ -38,20 +38,8 @@ apart_at who other session apart here = ap (λ n. nat_eq n other) (eqb-true sess
 
 -- ---- one more reply
 
-behind : (due on pending : List Reply) (r : Reply) → debts_of due on (pending ++ r ∷ []) ≡ debts_of due on pending ++ Pending r ∷ []
-behind due on pending r =
-    let first : List Debt = map (λ x. Due x) due in
-    let second : List Debt = map (λ x. HandedOn x) on in
-    let third : List Debt = map (λ x. Pending x) pending in
-    ap (λ (l : List Debt). first ++ (second ++ l)) (map-append (λ x. Pending x) pending (r ∷ []))
-    ∙ ap (λ (l : List Debt). first ++ l) (sym (append_assoc second third (Pending r ∷ [])))
-    ∙ sym (append_assoc first (second ++ third) (Pending r ∷ []))
-
 one_more : (q : SessionReplies) (r : Reply) → q.handed_on ≤ length q.pending → debts_in (with_pending r q) ≡ debts_in q ++ Pending r ∷ []
-one_more q r fits =
-    ap (λ (l : List Reply). debts_of q.due l (drop q.handed_on (q.pending ++ r ∷ []))) (take-append-le q.handed_on q.pending (r ∷ []) fits)
-    ∙ ap (λ (l : List Reply). debts_of q.due (take q.handed_on q.pending) l) (drop-append-le q.handed_on q.pending (r ∷ []) fits)
-    ∙ behind q.due (take q.handed_on q.pending) (drop q.handed_on q.pending) r
+one_more q r fits = rw (take-append-le q.handed_on q.pending (r ∷ []) fits, drop-append-le q.handed_on q.pending (r ∷ []) fits) (simp (map-append, append_assoc))
 
 -- no flush was handed more than what is pending
 abbrev pub AreWithin : List SessionReplies → Type 0
@@ -81,9 +69,6 @@ within-queued who r qs within =
 
 -- ---- a due reply leaves
 
-no_reply : (r : Reply) (rs : List Reply) → [] ≡ r ∷ rs → ⊥
-no_reply r rs is = cc
-
 first_due : (q : SessionReplies) (r : Reply) (rs : List Reply) → q.due ≡ r ∷ rs → debts_in q ≡ Due r ∷ debts_in (without_first q)
 first_due q r rs is =
     let on : List Reply = take q.handed_on q.pending in
@@ -91,7 +76,7 @@ first_due q r rs is =
     ap (λ (l : List Reply). debts_of l on pending) is ∙ ap (λ (l : List Reply). Due r ∷ debts_of (drop 1 l) on pending) (sym is)
 
 pub debts-collected : (who : ℕ) (qs : List SessionReplies) (r : Reply) (rs : List Reply) → due_to who qs ≡ r ∷ rs → debts_to who qs ≡ Due r ∷ debts_to who (collected_from who qs)
-debts-collected who [] r rs is = absurd (no_reply r rs is)
+debts-collected who [] r rs is = absurd cc
 debts-collected who (q ∷ qs) r rs is =
     elim (is_for who q) as (λ b. is_for who q ≡ b → cond b q.due (due_to who qs) ≡ r ∷ rs
     → cond b (debts_in q) (debts_to who qs) ≡ Due r ∷ debts_to who (cond b (without_first q ∷ qs) (q ∷ collected_from who qs))) [
@@ -160,64 +145,32 @@ refuses (Due r) = Due r
 refuses (HandedOn r) = Due (refused r)
 refuses (Pending r) = Due (refused r)
 
-twice : {A B : Type 0} (g : A → B) (c : Reply → A) (c' : Reply → B) → ((r : Reply) → g (c r) ≡ c' r) → (xs : List Reply) → map (λ a. g a) (map (λ r. c r) xs) ≡ map (λ r. c' r) xs
-twice g c c' same [] = refl
-twice g c c' same (x ∷ xs) = ap (λ b. b ∷ map (λ a. g a) (map (λ r. c r) xs)) (same x) ∙ ap (λ bs. c' x ∷ bs) (twice g c c' same xs)
+each : {A : Type 0} (g : A → Debt) (c : Reply → A) (xs : List Reply) → map (λ a. g a) (map (λ r. c r) xs) ≡ map (λ r. g (c r)) xs
+each g c [] = refl
+each g c (x ∷ xs) = ap (λ l. g (c x) ∷ l) (each g c xs)
 
 -- of all that one queue has
-turned : (g : Debt → Debt) (first second third : Reply → Debt) → ((r : Reply) → g (Due r) ≡ first r) → ((r : Reply) → g (HandedOn r) ≡ second r) → ((r : Reply) → g (Pending r) ≡ third r)
-    → (due on pending : List Reply) → map (λ d. g d) (debts_of due on pending) ≡ map (λ r. first r) due ++ (map (λ r. second r) on ++ map (λ r. third r) pending)
-turned g first second third f s t due on pending =
-    let a : List Debt = map (λ r. Due r) due in
-    let b : List Debt = map (λ r. HandedOn r) on in
-    let c : List Debt = map (λ r. Pending r) pending in
-    map-append (λ d. g d) a (b ++ c)
-    ∙ ap (λ (l : List Debt). l ++ map (λ d. g d) (b ++ c)) (twice g (λ r. Due r) first f due)
-    ∙ ap (λ (l : List Debt). map (λ r. first r) due ++ l)
-    (map-append (λ d. g d) b c
-    ∙ ap (λ (l : List Debt). l ++ map (λ d. g d) c) (twice g (λ r. HandedOn r) second s on)
-    ∙ ap (λ (l : List Debt). map (λ r. second r) on ++ l) (twice g (λ r. Pending r) third t pending))
+turned : (g : Debt → Debt) (due on pending : List Reply) → map (λ d. g d) (debts_of due on pending) ≡ map (λ r. g (Due r)) due ++ (map (λ r. g (HandedOn r)) on ++ map (λ r. g (Pending r)) pending)
+turned g due on pending = simp (map-append, each g (λ r. Due r), each g (λ r. HandedOn r), each g (λ r. Pending r))
+
+of_both : (c : Reply → Debt) (n : ℕ) (p : List Reply) → map (λ r. c r) (take n p) ++ map (λ r. c r) (drop n p) ≡ map (λ r. c r) p
+of_both c n p = sym (map-append c (take n p) (drop n p)) ∙ ap (λ (l : List Reply). map (λ r. c r) l) (take-append-drop n p)
 
 handed_on-in : (q : SessionReplies) → debts_in (hand_on q) ≡ map (λ d. hands_on d) (debts_in q)
 handed_on-in q =
     let n : ℕ = q.handed_on in
     let p : List Reply = q.pending in
-    let due : List Debt = map (λ r. Due r) q.due in
-    ap (λ (l : List Reply). debts_of q.due l (drop (length p) p)) (take_all (length p) p (omega arith))
-    ∙ ap (λ (l : List Reply). debts_of q.due p l) (drop_all (length p) p (omega arith))
-    ∙ ap (λ (l : List Debt). due ++ l)
-    (append-nil (map (λ r. HandedOn r) p)
-    ∙ ap (λ (l : List Reply). map (λ r. HandedOn r) l) (sym (take-append-drop n p))
-    ∙ map-append (λ r. HandedOn r) (take n p) (drop n p))
-    ∙ sym (turned hands_on (λ r. Due r) (λ r. HandedOn r) (λ r. HandedOn r) (λ r. refl) (λ r. refl) (λ r. refl) q.due (take n p) (drop n p))
+    rw (turned hands_on q.due (take n p) (drop n p), of_both (λ r. HandedOn r) n p, take_all (length p) p (omega arith), drop_all (length p) p (omega arith), append-nil (map (λ r. HandedOn r) p)) refl
 
 made_due-in : (q : SessionReplies) → debts_in (make_due q) ≡ map (λ d. makes_due d) (debts_in q)
-made_due-in q =
-    let on : List Reply = take q.handed_on q.pending in
-    let rest : List Reply = drop q.handed_on q.pending in
-    ap (λ (l : List Debt). l ++ map (λ r. Pending r) rest) (map-append (λ r. Due r) q.due on)
-    ∙ append_assoc (map (λ r. Due r) q.due) (map (λ r. Due r) on) (map (λ r. Pending r) rest)
-    ∙ sym (turned makes_due (λ r. Due r) (λ r. Due r) (λ r. Pending r) (λ r. refl) (λ r. refl) (λ r. refl) q.due on rest)
+made_due-in q = rw (turned makes_due q.due (take q.handed_on q.pending) (drop q.handed_on q.pending)) (simp (map-append, append_assoc))
 
 taken_back-in : (q : SessionReplies) → debts_in (take_back q) ≡ map (λ d. takes_back d) (debts_in q)
-taken_back-in q =
-    let n : ℕ = q.handed_on in
-    let p : List Reply = q.pending in
-    ap (λ (l : List Debt). map (λ r. Due r) q.due ++ l) (ap (λ (l : List Reply). map (λ r. Pending r) l) (sym (take-append-drop n p)) ∙ map-append (λ r. Pending r) (take n p) (drop n p))
-    ∙ sym (turned takes_back (λ r. Due r) (λ r. Pending r) (λ r. Pending r) (λ r. refl) (λ r. refl) (λ r. refl) q.due (take n p) (drop n p))
+taken_back-in q = rw (turned takes_back q.due (take q.handed_on q.pending) (drop q.handed_on q.pending), of_both (λ r. Pending r) q.handed_on q.pending) refl
 
 refused-in : (q : SessionReplies) → debts_in (refuse_pending q) ≡ map (λ d. refuses d) (debts_in q)
 refused-in q =
-    let n : ℕ = q.handed_on in
-    let p : List Reply = q.pending in
-    let due : List Debt = map (λ r. Due r) q.due in
-    append-nil (map (λ r. Due r) (q.due ++ map (λ r. refused r) p))
-    ∙ map-append (λ r. Due r) q.due (map (λ r. refused r) p)
-    ∙ ap (λ (l : List Debt). due ++ l)
-    (twice (λ r. Due r) (λ r. refused r) (λ r. Due (refused r)) (λ r. refl) p
-    ∙ ap (λ (l : List Reply). map (λ r. Due (refused r)) l) (sym (take-append-drop n p))
-    ∙ map-append (λ r. Due (refused r)) (take n p) (drop n p))
-    ∙ sym (turned refuses (λ r. Due r) (λ r. Due (refused r)) (λ r. Due (refused r)) (λ r. refl) (λ r. refl) (λ r. refl) q.due (take n p) (drop n p))
+    rw (turned refuses q.due (take q.handed_on q.pending) (drop q.handed_on q.pending), of_both (λ r. Due (refused r)) q.handed_on q.pending) (simp (map-append, append-nil, each (λ r. Due r) (λ r. refused r)))
 
 -- of all queues
 module _ (f : SessionReplies → SessionReplies) (g : Debt → Debt) (same : (q : SessionReplies) → (f q).session ≡ q.session) (turns : (q : SessionReplies) → debts_in (f q) ≡ map (λ d. g d) (debts_in q)) where
@@ -250,21 +203,8 @@ module _ (f : SessionReplies → SessionReplies) (fits : (q : SessionReplies) �
 
 -- ---- nothing is pending
 
-none_taken : (n : ℕ) (rs : List Reply) → rs ≡ [] → take n rs ≡ []
-none_taken zero rs none = refl
-none_taken (suc n) [] none = refl
-none_taken (suc n) (r ∷ rs) none = absurd (no_reply r rs (sym none))
-
-none_dropped : (n : ℕ) (rs : List Reply) → rs ≡ [] → drop n rs ≡ []
-none_dropped zero rs none = none
-none_dropped (suc n) [] none = refl
-none_dropped (suc n) (r ∷ rs) none = absurd (no_reply r rs (sym none))
-
 due_alone : (q : SessionReplies) → q.pending ≡ [] → debts_in q ≡ map (λ r. Due r) q.due
-due_alone q none =
-    ap (λ (l : List Reply). debts_of q.due l (drop q.handed_on q.pending)) (none_taken q.handed_on q.pending none)
-    ∙ ap (λ (l : List Reply). debts_of q.due [] l) (none_dropped q.handed_on q.pending none)
-    ∙ append-nil (map (λ r. Due r) q.due)
+due_alone q none = simp (none, take-nil, drop-nil, append-nil)
 
 pub debts-due : (who : ℕ) (qs : List SessionReplies) → AllByRecursion (λ q. q.pending ≡ []) qs → debts_to who qs ≡ map (λ r. Due r) (due_to who qs)
 debts-due who [] none = refl

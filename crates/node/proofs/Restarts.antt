@@ -7,10 +7,10 @@ use Rattle.topic_stores.specs.declared.store.TopicStore.{Ghosts as StoreMembers}
 use Rattle.gated_log.specs.declared.refusal.Refusal.{Refusal}
 use Rattle.gated_log.specs.declared.refusal.Refusal.TheVariants as refusal
 use Rattle.topic_core.specs.State.{Topic}
-use Rattle.topic_core.proofs.Filling.{OnlyReads}
 use Rattle.session.specs.Broker.{Broker}
 use Rattle.node.specs.State.{State, broker_with}
 use Rattle.node.specs.Standing.{StandsForBroker, AtRest}
+use Rattle.node.specs.Passing.{OnlyReads}
 use Rattle.node.specs.Runs.{Life, OpeningStep, StateCrash}
 use Rattle.node.specs.Driving.{IsServed, Holds}
 use Rattle.node.specs.declared.event.Output.{Output}

@@ -1,5 +1,5 @@
 -- A flush, its parts and an opening of the topic, as steps of the node.
-use Rattle.std.proofs.Common.{◌≡◌, ◌≢◌, ℕ, ◌<◌, ◌≤◌, Bool, true, false, Option, Some, None, Result, Err, List, [], ◌∷◌, refl, sym, ap, subst}
+use Rattle.std.proofs.Common.{◌≡◌, ◌≢◌, ℕ, ◌<◌, ◌≤◌, Bool, true, false, Option, Some, None, Result, Err, List, [], ◌∷◌, refl, sym, ap, subst, arith}
 use Rattle.disk.specs.Disk.{Disk, Image, Leaves}
 use Rattle.disk.specs.Moments.{starts}
 use Rattle.disk.specs.Areas.{OfTopic, Within, own_files}
@@ -19,6 +19,7 @@ use Rattle.session.specs.Client.{Client}
 use Rattle.node.specs.State.{State, Stage, Resting, Taken, Written, broker_with, place_in, verdict_for, verdict_of_flush, stage_after}
 use Rattle.node.specs.Flights.{stage_of}
 use Rattle.node.specs.Steps.{Moves, FlushStep, TakeStep, WriteStep, WritesIn, FinishStep, FinishesIn, ReopenStep, flushing}
+use Rattle.node.proofs.UnderWay.{take_numbers}
 use Rattle.node.specs.declared.event.Output.{Output}
 use Rattle.node.specs.declared.event.Verdict.{Verdict}
 use Rattle.node.specs.declared.event.Verdict.TheVariants as verdict
@@ -53,16 +54,6 @@ module _ (n m : ℕ) (t u : Topic) (stage : Stage) (sessions : List Client) (use
         cause = cause;
       })
 
-  pub takes : (result : Result (Option Batch) WriteError) → topics.TakeStep t result u → TakeStep (place_in (t ∷ []) topic) was (answer (verdict_of_flush result)) (is (stage_after result stage))
-  takes result step =
-      subst (λ x. TakeStep (place_in (t ∷ []) x) was (answer (verdict_of_flush result)) (is (stage_after result stage))) (sym zero) (record {
-        taken = u;
-        result = result;
-        step = step;
-        answer = refl;
-        moves = moves (stage_after result stage);
-      })
-
   pub reopens : (result : Result (Unit {0}) Refusal) → topics_again.ReopenStep t result u → (result ≡ Err refusal.Device → f < f') → ReopenStep (place_in (t ∷ []) topic) was (answer (verdict_for result)) (is stage)
   reopens result step cause =
       subst (λ x. ReopenStep (place_in (t ∷ []) x) was (answer (verdict_for result)) (is stage)) (sym zero) (record {
@@ -84,6 +75,17 @@ module _ (n m : ℕ) (t u : Topic) (stage : Stage) (sessions : List Client) (use
         answer = refl;
         moves = moves Resting;
       }))
+
+-- what is told of the taking, and what it was
+pub takes : (t u : Topic) (stage : Stage) (sessions : List Client) (used f topic : ℕ) → topic ≡ 0 → (was result : Result (Option Batch) WriteError) → was ≡ result → topics.TakeStep t was u
+    → TakeStep (place_in (t ∷ []) topic) (state_with t.per_ledger t stage sessions used f) (answer (verdict_of_flush result)) (state_with u.per_ledger u (stage_after result stage) sessions used f)
+takes t u stage sessions used f topic zero was result is step =
+    let old = state_with t.per_ledger t stage sessions used f in
+    let new : Result (Option Batch) WriteError → State = λ r. state_with u.per_ledger u (stage_after r stage) sessions used f in
+    let same = take_numbers t was u step in
+    subst (λ r. TakeStep (place_in (t ∷ []) topic) old (answer (verdict_of_flush r)) (new r)) is
+    (subst (λ x. TakeStep (place_in (t ∷ []) x) old (answer (verdict_of_flush was)) (new was)) (sym zero)
+    (record { taken = u; result = was; step = step; answer = refl; moves = moves t.per_ledger u.per_ledger t u stage sessions used f f topic zero same (omega arith) (stage_after was stage) }))
 
 module _ (n : ℕ) (t : Topic) (stage : Stage) (sessions : List Client) (used f f' topic : ℕ) (zero : topic ≡ 0) (more : f ≤ f') where
   pub writes : (result : Result (Unit {0}) WriteError) → stage ≡ Taken → (result ≡ Err Device → f < f') → WriteStep (place_in (t ∷ []) topic) (state_with n t stage sessions used f) (answer (verdict_of_flush result)) (state_with n t (Written result) sessions used f')

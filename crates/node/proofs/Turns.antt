@@ -1,5 +1,5 @@
 -- Which of the answers that a session is owed each reply is that its topic owes it.
-use Rattle.std.proofs.Common.{◌≡◌, ◌⊎◌, inl, inr, ◌∙◌, ℕ, Bool, true, false, cond, not, nat_eq, Some, List, [], ◌∷◌, ◌++◌, map, filter, refl, sym, ap}
+use Rattle.std.proofs.Common.{◌≡◌, ◌⊎◌, inl, inr, ◌∙◌, ℕ, true, false, cond, not, nat_eq, Some, List, [], ◌∷◌, ◌++◌, map, filter, refl, sym, ap}
 use Rattle.std.proofs.lemmas.Bool.{eqb-true}
 use Rattle.std.specs.List.{AllByRecursion, find}
 use Rattle.commands.specs.declared.reply.Reply.{Reply}
@@ -45,9 +45,6 @@ refused_no_acceptance (Error request_id error) = refl
 refused_no_acceptance (AckResponse consumer_id error request_id) = refl
 refused_no_acceptance Pong = refl
 
-false_true : (b : Bool) → b ≡ false → b ≡ true → ⊥
-false_true b isnt is = cc
-
 pub to_each : (P P' : Promise → Type 0) → ((p : Promise) → P p → P' p) → (ps : List Promise) → AllByRecursion P ps → AllByRecursion P' ps
 to_each P P' f [] all = tt
 to_each P P' f (p ∷ ps) all = (f p all.0, to_each P P' f ps all.1)
@@ -67,7 +64,7 @@ module _ (P P' : Promise → Type 0) (f : (p : Promise) → P p → P' p) where
 
 -- the device failed
 pub now_refused : (P Q : Promise → Type 0) (o : Owed) (r : Reply) → IsPending Q o r → IsDue P o (refused r)
-now_refused P Q o r is = record { reply = r; answers = is.answers; same = inr refl; kept = λ accepted. absurd (false_true (is_acceptance (refused r)) (refused_no_acceptance r) accepted) }
+now_refused P Q o r is = record { reply = r; answers = is.answers; same = inr refl; kept = λ accepted. absurd (let none = refused_no_acceptance r in cc) }
 
 -- ---- all that is owed
 
@@ -125,9 +122,6 @@ module _ (R R' : Owed → Debt → Type 0) where
 abbrev pub owed_to : ℕ → List Owed → List Owed
 owed_to who owed = filter (is_to who) owed
 
-no_owed : (o : Owed) (os : List Owed) → [] ≡ o ∷ os → ⊥
-no_owed o os is = cc
-
 pub owed-map : (f : Owed → Owed) → ((o : Owed) → (f o).session ≡ o.session) → (who : ℕ) (os : List Owed) → owed_to who (map (λ o. f o) os) ≡ map (λ o. f o) (owed_to who os)
 owed-map f same who [] = refl
 owed-map f same who (o ∷ os) =
@@ -147,7 +141,7 @@ owed-more who (x ∷ os) o =
 
 -- the first owed one
 pub first-owed : (who : ℕ) (os : List Owed) (o : Owed) (rest : List Owed) → owed_to who os ≡ o ∷ rest → first_owed who os ≡ Some o
-first-owed who [] o rest is = absurd (no_owed o rest is)
+first-owed who [] o rest is = absurd cc
 first-owed who (x ∷ os) o rest is =
     elim (is_to who x) as (λ b. cond b (x ∷ owed_to who os) (owed_to who os) ≡ o ∷ rest → cond b (Some x) (find (is_to who) os) ≡ Some o) [
       | true ↦ λ is. let same : x ≡ o = cc in ap (λ (y : Owed). Some y) same
@@ -155,7 +149,7 @@ first-owed who (x ∷ os) o rest is =
     ] is
 
 pub first-gone : (who : ℕ) (os : List Owed) (o : Owed) (rest : List Owed) → owed_to who os ≡ o ∷ rest → owed_to who (without_first who os) ≡ rest
-first-gone who [] o rest is = absurd (no_owed o rest is)
+first-gone who [] o rest is = absurd cc
 first-gone who (x ∷ os) o rest is =
     elim (is_to who x) as (λ b. is_to who x ≡ b → cond b (x ∷ owed_to who os) (owed_to who os) ≡ o ∷ rest → owed_to who (cond b os (x ∷ without_first who os)) ≡ rest) [
       | true ↦ λ _ is. let same : owed_to who os ≡ rest = cc in same

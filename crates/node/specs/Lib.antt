@@ -3,6 +3,7 @@ pub mod Flights
 pub mod Matching
 pub mod Steps
 pub mod Standing
+pub mod Opening
 pub mod Passing
 pub mod Runs
 pub mod Driving

@@ -13,7 +13,7 @@ use Rattle.subscriptions.specs.Laws.{AreDurable, IsKept}
 use Rattle.topic_stores.specs.declared.batch.Batch.{Batch}
 use Rattle.topic_stores.specs.Views.{StoreView}
 use Rattle.topic_core.specs.State.{Topic}
-use Rattle.topic_core.specs.Standing.{Phase, Before, Written, Lost, IsBefore, IsWritten, IsLost, IsFor, Remembers, Match}
+use Rattle.topic_core.specs.Standing.{Phase, Before, Written, Lost, IsFor, Remembers, Match}
 use Rattle.node.specs.Flights.{batch_of, IsUnderWay}
 use Rattle.node.specs.declared.flight.Flight.{Flight}
 

@@ -1,16 +1,15 @@
 -- Calls of a port, one after another.
 use Rattle.std.proofs.Common.{◌≡◌, ℕ, refl, sym, subst, ◌∙◌, arith}
-use Rattle.disk.specs.Disk.{Disk, Image, Leaves}
+use Rattle.disk.specs.Disk.{Disk, Image, Same, Leaves, Kept as Counted}
 use Rattle.disk.specs.Moments.{starts, joins, weaken}
 use Rattle.managed_ledger.specs.Entries.{Entries}
 use Rattle.records.specs.Maps.{Kept}
 use Rattle.topic_stores.specs.declared.store.TopicStore.{Ghosts as StoreMembers}
-use Rattle.topic_stores.specs.Views.{StoreView}
+use Rattle.topic_stores.specs.Views.{StoreView, Settled}
 use Rattle.topic_stores.specs.Writing.{StandsFor}
 use Rattle.topic_core.specs.State.{Topic, entries_in_doubt, changes_in_doubt}
 use Rattle.topic_core.specs.Crashes.{IsLeft, longer, changed}
 use Rattle.topic_core.specs.Standing.{Phase, Before, Written, Lost, Match, Holds, Standing, GoesOn}
-use Rattle.topic_core.proofs.Filling.{OnlyReads, settled_read}
 use Rattle.topic_core.proofs.Standings.{left_like, standing_goes_on}
 use Rattle.node.specs.declared.topics.Topics.{Topics}
 use Rattle.node.specs.State.{Stage}
@@ -21,6 +20,21 @@ use Rattle.node.specs.Standing.{StandsForBroker, view_in, broker_of, TopicsStand
 left_before : (old new : Topic) → GoesOn old new → (l : Entries) (k : Kept) → IsLeft new l k → IsLeft old l k
 left_before old new go =
     left_like new.ledger old.ledger new.kept old.kept (entries_in_doubt new) (entries_in_doubt old) (changes_in_doubt new) (changes_in_doubt old) go.ledger go.durable go.entries go.changes
+
+-- what a call does to a device that it only reads
+pub record OnlyReads (old new : Disk) : Type 0 where
+  pub seen : old.honest → Same old.seen new.seen
+  pub any_moment : old.honest → Leaves old.may_leave old new
+  pub kept : Counted old new
+
+-- a settled store stays so
+settled_read : (v : StoreView) (old new : Disk) (ledger : Entries) (kept : Kept) → OnlyReads old new → Settled v old ledger kept → Settled v new ledger kept
+settled_read v old new ledger kept reads x = record {
+  honest = reads.kept.honest x.honest;
+  now = subst (λ (i : Image). v.holds i ledger kept) (sym (reads.seen x.honest)) x.now;
+  left = λ c may. x.left c ((reads.any_moment x.honest).now c may);
+  steady = λ c may. subst (λ (i : Image). v.written c ≡ v.written i) (sym (reads.seen x.honest)) (x.steady c ((reads.any_moment x.honest).now c may));
+}
 
 holds_read : (phase : Phase) (t : Topic) (v : StoreView) (old new : Disk) → OnlyReads old new → Holds phase t v old → Holds phase t v new
 holds_read Before t v old new reads x = settled_read v old new t.ledger t.kept reads x

@@ -1,9 +1,10 @@
 ghost use Rattle.std.specs.Prelude.{◌≡◌, ◌<◌, ◌≤◌, [], length, IfSome, vec_len};
 ghost use Rattle.disk.specs.Disk.{Leaves};
 ghost use Rattle.session.specs.Broker.{Broker};
-ghost use Rattle.node.specs.State.{is_full, place_in, place_of, verdict_of, verdict_of_pump, verdict_of_flush, settled};
+ghost use Rattle.node.specs.State.{is_full, place_in, place_of, verdict_of, verdict_of_pump, verdict_for, verdict_of_flush, settled};
 ghost use Rattle.node.specs.Standing.{state_of, disk_of, Stands, StandsForBroker, Passes};
 ghost use Rattle.node.specs.Steps.{OpenStep, BytesStep, PumpStep, CloseStep, FlushStep, TakeStep, WriteStep, FinishStep, ReopenStep, BrokerStep, during};
+ghost use Rattle.node.specs.Opening.{ReopenTells, TellsIn};
 ghost use Rattle.node.specs.Runs.{Ran, Reached};
 ghost use Rattle.node.specs.declared.event.Event.TheVariants as event;
 
@@ -56,6 +57,15 @@ fn verdict_of(fault: Option<Fault>) -> Verdict
     match fault {
         None => Verdict::Done,
         Some(why) => Verdict::Ended(why),
+    }
+}
+
+fn verdict_for(reopened: Result<(), Refusal>) -> Verdict
+    ensures { result ≡ verdict_for reopened }
+{
+    match reopened {
+        Ok(()) => Verdict::Done,
+        Err(why) => Verdict::Refused(why),
     }
 }
 
@@ -261,6 +271,7 @@ impl<T: TopicStore, S: Shelf> Node<T, S> {
         ensures step { Stands S.disk self.old →
             ReopenStep (place_in (state_of S.disk self.old).broker.topics topic) (state_of S.disk self.old) result (state_of S.disk self.new) }
         ensures stands { Stands S.disk self.old → Stands S.disk self.new }
+        ensures tells { ReopenTells T.stands T.faulty self.old.topics.core self.new.topics.core (disk_of S.disk self.old) (disk_of S.disk self.new) result.result }
         ensures any_moment { Stands S.disk self.old →
             Leaves (StandsForBroker T.stands (state_of S.disk self.old).broker) (disk_of S.disk self.old) (disk_of S.disk self.new) }
         ensures numbered { self.new.topics.core.per_ledger ≡ self.old.topics.core.per_ledger }
@@ -274,10 +285,8 @@ impl<T: TopicStore, S: Shelf> Node<T, S> {
             shelf,
             ..
         } = &mut self.topics;
-        match core.reopen(stores, shelf) {
-            Ok(()) => only(self.alloc, Verdict::Done),
-            Err(why) => only(self.alloc, Verdict::Refused(why)),
-        }
+        let reopened = core.reopen(stores, shelf);
+        only(self.alloc, verdict_for(reopened))
     }
 
     /// Works one event. A crash at any moment of it leaves what a crash leaves of the broker; within a flush all that waits is
@@ -286,6 +295,8 @@ impl<T: TopicStore, S: Shelf> Node<T, S> {
         ensures step { Stands S.disk self.old →
             BrokerStep (state_of S.disk self.old) event result (state_of S.disk self.new) }
         ensures stands { Stands S.disk self.old → Stands S.disk self.new }
+        // Whatever the device holds, this is what the opening of a topic tells.
+        ensures tells { TellsIn T.stands T.faulty event self.old.topics.core self.new.topics.core (disk_of S.disk self.old) (disk_of S.disk self.new) result.result }
         ensures any_moment { Stands S.disk self.old →
             Leaves (StandsForBroker T.stands (during (state_of S.disk self.old).broker event)) (disk_of S.disk self.old) (disk_of S.disk self.new) }
         ensures numbered { Stands S.disk self.old → self.new.topics.core.per_ledger ≡ self.old.topics.core.per_ledger }

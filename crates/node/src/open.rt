@@ -1,15 +1,16 @@
-ghost use Rattle.std.specs.Prelude.{◌≡◌, ◌⊎◌, ◌<◌, ◌≤◌, ℕ, IfOk, IfErr, OnOk, MatchResult, IsErrOf};
-ghost use Rattle.disk.specs.Disk.{Leaves, Kept, Failed};
-ghost use Rattle.disk.specs.Areas.{OfTopic, Within};
+ghost use Rattle.std.specs.Prelude.{◌≡◌, ◌≢◌, ◌⊎◌, ◌<◌, ◌≤◌, ℕ, IfOk, IfErr, OnOk};
+ghost use Rattle.disk.specs.Disk.{Same, Leaves, Kept, Failed};
+ghost use Rattle.disk.specs.Areas.{Agree, OfTopic};
 ghost use Rattle.gated_log.specs.declared.refusal.Refusal.TheVariants.{Device, NoMemory};
 ghost use Rattle.node.specs.State.{State, fresh_broker};
-ghost use Rattle.node.specs.Standing.{state_of, disk_of, Stands, StandsForBroker, AtRest};
+ghost use Rattle.node.specs.Standing.{state_of, Stands, AtRest};
+ghost use Rattle.node.specs.Opening.{IsJustOpened, disk_after};
 ghost use Rattle.node.specs.Driving.{IsServed};
 ghost use Rattle.node.specs.Runs.{StateCrash};
 
 use crate::node::Node;
 use crate::topics::Topics;
-use disk::{DeviceError, Shelf};
+use disk::Shelf;
 use gated_log::Refusal;
 use std::alloc::Global;
 use topic_core::{TopicCore, TopicStore};
@@ -31,8 +32,9 @@ impl<T: TopicStore, S: Shelf + Drop> Node<T, S> {
         Ok(())
     }
 
-    /// Opens the node that the device holds, whatever a crash left of it, where a ledger id has `per_ledger` entry ids. Each
-    /// entry is read once, for its hash slot. No session is open. A refusal hands the device back.
+    /// Opens the node that the device holds, whatever its files hold, where a ledger id has `per_ledger` entry ids. Each file is
+    /// synced once and read once, and nothing is written. No session is open. The first fault that stands in the files is
+    /// told. A refusal hands the device back.
     pub fn open(alloc: Global, per_ledger: u32, mut shelf: S) -> Result<Node<T, S>, (Refusal, S)>
         requires numbered { 1 ≤ per_ledger }
         ensures opened { (old : State) → AtRest T.stands old (S.disk shelf) → IsServed per_ledger old →
@@ -40,16 +42,21 @@ impl<T: TopicStore, S: Shelf + Drop> Node<T, S> {
         ensures refused { (old : State) → AtRest T.stands old (S.disk shelf) →
             IfErr result (λ e. AtRest T.stands old (S.disk e.1) × ((e.0 ≡ NoMemory) ⊎ ((e.0 ≡ Device) × Failed (S.disk shelf) (S.disk e.1)))) }
 
+        // Whatever the files hold, a node has what they stand for, or the first fault that stands in them is told.
+        ensures found { (S.disk shelf).honest → IfOk result (λ node. Stands S.disk node × IsJustOpened T.stands per_ledger (S.disk shelf).seen (state_of S.disk node)) }
+        ensures faulty { (S.disk shelf).honest → IfErr result (λ e. (e.0 ≡ NoMemory) ⊎ ((e.0 ≡ Device) ⊎ T.faulty SERVED (S.disk shelf).seen e.0)) }
+        ensures cause { IfErr result (λ e. e.0 ≡ Device → Failed (S.disk shelf) (S.disk e.1)) }
+
+        // What reads give stays, but of a file whose sync failed.
+        ensures seen { (S.disk shelf).honest → IfErr result (λ e. e.0 ≢ Device) → Same (S.disk shelf).seen (disk_after S.disk result).seen }
+        ensures others { (S.disk shelf).honest → Agree (λ f. ¬ OfTopic SERVED f) (S.disk shelf).seen (disk_after S.disk result).seen }
+
         // A crash at any moment leaves what it might have left before.
-        ensures any_moment { (old : State) → AtRest T.stands old (S.disk shelf) →
-            MatchResult result (λ node. Leaves (StandsForBroker T.stands old.broker) (S.disk shelf) (disk_of S.disk node)) (λ e. Leaves (StandsForBroker T.stands old.broker) (S.disk shelf) (S.disk e.1)) }
+        ensures any_moment { (S.disk shelf).honest → Leaves (S.disk shelf).may_leave (S.disk shelf) (disk_after S.disk result) }
+        ensures kept { Kept (S.disk shelf) (disk_after S.disk result) }
     {
-        let stores = match T::open(alloc, &mut shelf, SERVED, per_ledger) {
-            Ok(stores) => stores,
-            Err(why) => return Err((why, shelf)),
-        };
-        let core = match TopicCore::open(alloc, per_ledger, &stores, &mut shelf) {
-            Ok(core) => core,
+        let (core, stores) = match TopicCore::open(alloc, &mut shelf, SERVED, per_ledger) {
+            Ok(opened) => opened,
             Err(why) => return Err((why, shelf)),
         };
         Ok(Node {

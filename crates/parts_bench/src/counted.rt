@@ -9,6 +9,7 @@ use disk::{DeviceError, FileId, Shelf};
 pub struct Counts {
     /// Writes, cuts and syncs.
     pub calls: u64,
+    pub syncs: u64,
     pub written: u64,
     pub reads: u64,
     pub read: u64,
@@ -43,6 +44,13 @@ impl<S: Shelf> CountedShelf<S> {
         self.counts.written = self.counts.written.saturating_add(bytes as u64);
     }
 
+    fn count_sync(&mut self)
+        ensures { self.new.shelf ≡ self.old.shelf }
+    {
+        self.counts.calls = self.counts.calls.saturating_add(1);
+        self.counts.syncs = self.counts.syncs.saturating_add(1);
+    }
+
     fn count_read(&mut self, bytes: usize)
         ensures { self.new.shelf ≡ self.old.shelf }
     {
@@ -53,6 +61,7 @@ impl<S: Shelf> CountedShelf<S> {
 
 const NONE: Counts = Counts {
     calls: 0,
+    syncs: 0,
     written: 0,
     reads: 0,
     read: 0,
@@ -79,7 +88,7 @@ impl<S: Shelf> Shelf for CountedShelf<S> {
     }
 
     fn sync(&mut self, file: FileId) -> Result<(), DeviceError> {
-        self.count_call(0);
+        self.count_sync();
         self.shelf.sync(file)
     }
 

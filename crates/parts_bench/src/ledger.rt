@@ -6,9 +6,10 @@ use disk_mem::MemShelf;
 use managed_ledger::{EntryStore, ManagedLedger};
 use std::alloc::Global;
 
-type Device = CountedShelf<MemShelf>;
+pub(crate) type Device = CountedShelf<MemShelf>;
 
-fn bytes_of(shelf: &mut Device, segments: u64) -> Result<u64, Error> {
+/// How many bytes these segments have.
+pub(crate) fn bytes_of(shelf: &mut Device, segments: u64) -> Result<u64, Error> {
     let mut bytes: u64 = 0;
     for number in 0..segments {
         let file = FileId::Segment {
@@ -21,7 +22,8 @@ fn bytes_of(shelf: &mut Device, segments: u64) -> Result<u64, Error> {
 }
 
 fn again(alloc: Global, shelf: &mut Device) -> Result<ManagedLedger, Error> {
-    Ok(ManagedLedger::open(alloc, shelf, TOPIC, PER_LEDGER)?)
+    let (ledger, ()) = ManagedLedger::open(alloc, shelf, TOPIC, PER_LEDGER, ())?;
+    Ok(ledger)
 }
 
 // What a read of this entry asks of the device.
@@ -54,10 +56,12 @@ pub(crate) fn work<R: AllocGlobal + Print>(
             let opened = again(alloc, &mut shelf)?;
             let counts = shelf.take_counts();
             println!(rt;
-                "{} entries, {} bytes, {} bytes read",
+                "{} entries, {} segments, {} bytes, {} bytes read, {} syncs",
                 opened.len(),
+                opened.segments(),
                 size,
-                counts.read
+                counts.read,
+                counts.syncs
             )?;
         }
         "read" => {

@@ -68,17 +68,21 @@ impl Subscriptions {
         }
     }
 
-    /// The subscriptions of a topic that was opened, with these durable ones.
-    pub fn opened(alloc: Global, kept: Vec<KeptCursor>) -> Result<Subscriptions, AllocError>
+    /// The subscriptions of a topic that was opened, with these durable ones, and the slots of its entries.
+    pub fn opened(
+        alloc: Global,
+        kept: Vec<KeptCursor>,
+        slots: Vec<u16>,
+    ) -> Result<Subscriptions, AllocError>
         requires few { length kept.items ≤ 64 }
         requires distinct { IsDistinct bytes_eq (each (λ (c : KeptCursor). c.name) kept.items) }
-        ensures { IfOk result (λ t. t ≡ opened_all (each (λ (c : KeptCursor). (c.name, c.acked)) kept.items)) }
+        ensures { IfOk result (λ t. t ≡ slotted (opened_all (each (λ (c : KeptCursor). (c.name, c.acked)) kept.items)) slots.items) }
     {
         Ok(Subscriptions {
             alloc,
             subs: open_all(alloc, kept)?,
             changes: Vec::new(alloc),
-            slots: Vec::new(alloc),
+            slots,
             hints: Vec::new(alloc),
         })
     }

@@ -9,7 +9,6 @@ pub mod Subscribing
 pub mod GivenBack
 pub mod Closings
 pub mod Openings
-pub mod Filling
 pub mod Flushing
 pub mod Steps
 pub mod Cursors

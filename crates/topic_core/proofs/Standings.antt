@@ -1,5 +1,5 @@
 -- The three parts of a flush, and how a topic stands on its device after each.
-use Rattle.std.proofs.Common.{◌≡◌, inl, inr, ⊎_elim, ℕ, ◌+◌, ◌≤◌, Bool, true, false, ◌||◌, ◌&&◌, not, nat_eq, None, is_some, Result, Ok, Err, List, [], ◌++◌, length, take, map, refl, sym, ap, subst, ◌∙◌, arith, append-nil, length-append}
+use Rattle.std.proofs.Common.{◌≡◌, inl, inr, ⊎_elim, ℕ, ◌+◌, ◌≤◌, ◌^◌, Bool, true, false, ◌||◌, ◌&&◌, not, nat_eq, None, is_some, Result, Ok, Err, List, [], ◌++◌, length, take, map, refl, sym, ap, subst, ◌∙◌, arith, append-nil, length-append}
 use Rattle.std.proofs.lemmas.Bool.{true≢false, false≢true}
 use Rattle.std.proofs.lemmas.List.{take_all, length-take-le}
 use Rattle.disk.specs.Disk.{Disk, Image}
@@ -263,6 +263,24 @@ pub reopened_standing : (stands : ℕ → Image → Entries → Kept → Type 0)
 reopened_standing stands t t2 v d ledger kept laws core m x =
     subst (λ (k : Topic). Match Before k v → Standing stands Before k v d) (sym core)
     (λ m2. standing_before stands (reopened t ledger (map slot_of_entry ledger) kept) v d laws m2 refl (ap (λ (z : Entries). map slot_of_entry z) (sym (append-nil ledger))) x) m
+
+-- what was left has as many entries at least
+pub left_more : (t : Topic) (ledger : Entries) (kept : Kept) → IsLeft t ledger kept → length t.ledger ≤ length ledger
+left_more t ledger kept (inl is) = omega (arith, ap (λ (l : Entries). length l) is.0)
+left_more t ledger kept (inr (inl is)) = omega (arith, ap (λ (l : Entries). length l) is.0, length-append t.ledger (entries_in_doubt t))
+left_more t ledger kept (inr (inr is)) = omega (arith, ap (λ (l : Entries). length l) is.0, length-append t.ledger (entries_in_doubt t))
+
+module _ (stands : ℕ → Image → Entries → Kept → Type 0) (v v1 : StoreView) (old new : Disk) (topic : ℕ) (ledger : Entries) (laws : AreLaws stands v1) (held : Settled v1 new ledger v1.kept) (topic_is : v1.topic ≡ topic) (same_topic : topic ≡ v.topic) (same : new.seen ≡ old.seen) where
+  -- a store that was opened again has what the files stand for
+  pub again_stands : stands v.topic old.seen ledger v1.kept
+  again_stands = subst (λ (n : ℕ). stands n old.seen ledger v1.kept) (topic_is ∙ same_topic) (subst (λ (i : Image). stands v1.topic i ledger v1.kept) same (laws.stands new.seen ledger v1.kept held.now))
+
+  -- which is what was left of the topic
+  pub again_left : ((n : ℕ) (files : Image) (one other : Entries) (k j : Kept) → length one ≤ 2 ^ 62 → stands n files one k → stands n files other j → (one ≡ other) × (k ≡ j))
+      → (t : Topic) → length ledger ≤ 2 ^ 62 → StandsFor (stands v.topic) (IsLeft t) old.seen → IsLeft t ledger v1.kept
+  again_left one t few s =
+      let is = one v.topic old.seen ledger s.ledger v1.kept s.kept few again_stands s.stands in
+      subst (λ (l : Entries). IsLeft t l v1.kept) (sym is.0) (subst (λ (k : Kept). IsLeft t s.ledger k) (sym is.1) s.is_left)
 
 -- ---- other calls
 

@@ -1,5 +1,7 @@
 -- What a crash leaves of a topic, and what an opening makes of a failed one.
-use Rattle.std.specs.Prelude.{◌≡◌, ℕ, Bool, true, false, Result, Ok, Err, List, ◌++◌, map}
+use Rattle.std.specs.Prelude.{◌≡◌, ℕ, ◌<◌, Bool, true, false, Result, Ok, Err, List, ◌++◌, length, map}
+use Rattle.disk.specs.declared.file_id.FileId.TheVariants.{Segment}
+use Rattle.disk.specs.Disk.{Image}
 use Rattle.gated_log.specs.declared.refusal.Refusal.{Refusal}
 use Rattle.gated_log.specs.declared.refusal.Refusal.TheVariants as refusal
 use Rattle.records.specs.Maps.{Kept}
@@ -46,3 +48,11 @@ ReopenIn false old result new = (result ≡ Ok tt) × (new ≡ old)
 
 abbrev pub ReopenStep : Topic → Result (Unit {0}) Refusal → Topic → Type 0
 ReopenStep old result new = ReopenIn old.failed old result new
+
+-- files that stand for fewer entries than the topic had committed are told as damage of its first segment
+pub record IsShorter (files_stand : ℕ → Image → List (List ℕ) → Kept → Type 0) (topic : ℕ) (core : Topic) (files : Image) (why : Refusal) : Type 0 where
+  pub ledger : List (List ℕ)
+  pub kept : Kept
+  pub stands : files_stand topic files ledger kept
+  pub fewer : length ledger < core.committed
+  pub told : why ≡ refusal.Damaged (Segment topic 0) 0

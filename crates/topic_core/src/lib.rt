@@ -13,6 +13,7 @@ mod consuming;
 mod dispatch;
 mod durable;
 mod flush;
+mod found_entries;
 mod laws;
 mod opening;
 mod producer;

@@ -1,20 +1,19 @@
-// The opening of a topic over a store, and of a topic that failed.
-ghost use Rattle.std.specs.Prelude.{◌≡◌, ◌⊎◌, ◌<◌, ◌≤◌, ◌^◌, List, [], true, false, length, map, IfOk, IfErr, OnOk, OnErr, IsErr, IsErrOf};
+// The opening of a topic, and of one that failed.
+ghost use Rattle.std.specs.Prelude.{◌≡◌, ◌⊎◌, ◌<◌, ◌≤◌, ◌^◌, [], true, false, length, map, IfOk, IfErr, OnOk, IsErr, IsErrOf};
 ghost use Rattle.disk.specs.Disk.{Same, Leaves, Kept as Counted, Failed};
-ghost use Rattle.disk.specs.Areas.{OfTopic, Within};
+ghost use Rattle.disk.specs.Areas.{Agree, OfTopic, Within};
 ghost use Rattle.gated_log.specs.declared.refusal.Refusal.TheVariants.{Device, NoMemory};
-ghost use Rattle.managed_ledger.specs.Entries.{Entries};
 ghost use Rattle.subscriptions.specs.Steps.{slotted, opened as opened_subscriptions};
 ghost use Rattle.subscriptions.specs.Laws.{AreDurable};
-ghost use Rattle.records.specs.Maps.{Kept};
+ghost use Rattle.topic_stores.specs.Views.{Settled};
 ghost use Rattle.topic_stores.specs.Writing.{StandsFor};
 ghost use Rattle.topic_core.specs.Slots.{slot_of_entry};
 ghost use Rattle.topic_core.specs.State.{CountsStay, opened};
-ghost use Rattle.topic_core.specs.Crashes.{IsLeft, ReopenStep, reopened};
+ghost use Rattle.topic_core.specs.Crashes.{IsLeft, IsShorter, ReopenStep, reopened};
 ghost use Rattle.topic_core.specs.Standing.{Phase, resting, Match, Standing, phase_then};
 
-use crate::durable::{Durable, Found, KeptCursors};
-use crate::slots::slot_of_entry;
+use crate::durable::{Durable, Found};
+use crate::found_entries::FoundEntries;
 use crate::topic::TopicCore;
 use disk::{FileId, Shelf};
 use gated_log::Refusal;
@@ -23,29 +22,36 @@ use subscriptions::Subscriptions;
 use topic_stores::TopicStore;
 
 impl TopicCore {
-    /// A topic over a store that was just opened, where a ledger id has so many entry ids. Each entry is read once, for its
-    /// slot.
+    /// Opens the store of a topic, where a ledger id has so many entry ids, and the topic over it. Each file is synced once and
+    /// read once: the slots of the entries are known from that pass. The first fault is told, and nothing is written.
     pub fn open<T: TopicStore, S: Shelf>(
         alloc: Global,
-        per_ledger: u32,
-        stores: &T,
         shelf: &mut S,
-    ) -> Result<TopicCore, Refusal>
+        topic: u16,
+        per_ledger: u32,
+    ) -> Result<(TopicCore, T), Refusal>
         requires numbered { 0 < per_ledger }
-        requires works { (T.view stores.now).failed ≡ false }
-        ensures opened { IfOk result (λ core. (ledger : Entries) × (length ledger ≡ (T.view stores.now).count) × (core ≡ opened per_ledger ledger (map slot_of_entry ledger) (T.view stores.now).kept)) }
-        ensures found { (ledger : Entries) (kept : Kept) → (S.disk shelf.old).honest → (T.view stores.now).holds (S.disk shelf.old).seen ledger kept → IfOk result (λ core. core.ledger ≡ ledger) }
-        ensures matched { IfOk result (λ core. Match (resting false) core (T.view stores.now)) }
-        ensures refused { (ledger : Entries) (kept : Kept) → (S.disk shelf.old).honest → (T.view stores.now).holds (S.disk shelf.old).seen ledger kept →
-            IfErr result (λ e. (e ≡ NoMemory) ⊎ ((e ≡ Device) × Failed (S.disk shelf.old) (S.disk shelf.new))) }
+        ensures opened { IfOk result (λ o. (length o.0.ledger ≡ (T.view o.1).count) × (o.0 ≡ opened per_ledger o.0.ledger (map slot_of_entry o.0.ledger) (T.view o.1).kept)) }
+        ensures settled { (S.disk shelf.old).honest → IfOk result (λ o. Settled (T.view o.1) (S.disk shelf.new) o.0.ledger (T.view o.1).kept) }
+        ensures matched { IfOk result (λ o. Match (resting false) o.0 (T.view o.1)) }
+        ensures few { IfOk result (λ o. (T.view o.1).count ≤ 2 ^ 62) }
+        // Or the first fault that stands in the files is told.
+        ensures refused { (S.disk shelf.old).honest → IfErr result (λ e. (e ≡ NoMemory) ⊎ ((e ≡ Device) ⊎ T.faulty topic (S.disk shelf.old).seen e)) }
+        ensures topic { IfOk result (λ o. (T.view o.1).topic ≡ topic) }
         ensures cause { IsErrOf result Device → Failed (S.disk shelf.old) (S.disk shelf.new) }
-        ensures seen { (S.disk shelf.old).honest → Same (S.disk shelf.old).seen (S.disk shelf.new).seen }
+        ensures seen { (S.disk shelf.old).honest → ¬ IsErrOf result Device → Same (S.disk shelf.old).seen (S.disk shelf.new).seen }
+        ensures others { (S.disk shelf.old).honest → Agree (λ f. ¬ OfTopic topic f) (S.disk shelf.old).seen (S.disk shelf.new).seen }
         ensures any_moment { (S.disk shelf.old).honest → Leaves (S.disk shelf.old).may_leave (S.disk shelf.old) (S.disk shelf.new) }
         ensures kept { Counted (S.disk shelf.old) (S.disk shelf.new) }
     {
+        let opened: Opened<T> = open_stores(alloc, shelf, topic, per_ledger)?;
+        let Opened {
+            stores,
+            subs,
+            durable,
+        } = opened;
         let committed = stores.len();
-        let Opened { subs, durable } = open_subscriptions(alloc, stores, shelf)?;
-        Ok(TopicCore {
+        let core = TopicCore {
             alloc,
             per_ledger,
             committed,
@@ -59,11 +65,12 @@ impl TopicCore {
             queues: Vec::new(alloc),
             doubt: None,
             failed: false,
-        })
+        };
+        Ok((core, stores))
     }
 
-    /// Opens a failed topic again. Where that is refused it stays as it was; another topic stays as it is. Over a device that
-    /// isn't honest fewer entries than were committed are damage of the first segment.
+    /// Opens a failed topic again. Where that is refused it stays as it was; another topic stays as it is. Fewer entries
+    /// than were committed, which no honest device leaves of a topic's own files, are damage of the first segment.
     pub fn reopen<T: TopicStore, S: Shelf>(
         &mut self,
         stores: &mut T,
@@ -73,6 +80,12 @@ impl TopicCore {
         ensures step { (phase : Phase) → Standing T.stands phase self.old (T.view stores.old) (S.disk shelf.old) → ReopenStep self.old result self.new }
         ensures standing { (phase : Phase) → Standing T.stands phase self.old (T.view stores.old) (S.disk shelf.old) →
             Standing T.stands (phase_then self.old.failed self.new.failed phase) self.new (T.view stores.new) (S.disk shelf.new) }
+
+        // Whatever the files hold: what a failed topic finds is what they stand for, or the first fault in them is told.
+        ensures found { (S.disk shelf.old).honest → self.old.failed ≡ true →
+            OnOk result (T.stands (T.view stores.old).topic (S.disk shelf.old).seen self.new.ledger self.new.kept × (self.new ≡ reopened self.old self.new.ledger (map slot_of_entry self.new.ledger) self.new.kept)) }
+        ensures told { (S.disk shelf.old).honest →
+            IfErr result (λ e. (e ≡ NoMemory) ⊎ ((e ≡ Device) ⊎ (T.faulty (T.view stores.old).topic (S.disk shelf.old).seen e ⊎ IsShorter T.stands (T.view stores.old).topic self.old (S.disk shelf.old).seen e))) }
 
         // A crash at any moment leaves what it might have left before, and files of other topics are as they were.
         ensures any_moment { (S.disk shelf.old).honest → Leaves (S.disk shelf.old).may_leave (S.disk shelf.old) (S.disk shelf.new) }
@@ -91,36 +104,34 @@ impl TopicCore {
             return Ok(());
         }
         let topic = stores.topic();
-        let again = T::open(self.alloc, shelf, topic, self.per_ledger)?;
-        if again.len() < self.committed {
+        let again: Opened<T> = open_stores(self.alloc, shelf, topic, self.per_ledger)?;
+        if again.stores.len() < self.committed {
             return Err(Refusal::Damaged {
                 file: FileId::Segment { topic, number: 0 },
                 offset: 0,
             });
         }
-        self.restart(&again, shelf)?;
-        *stores = again;
+        *stores = self.restart(again);
         Ok(())
     }
 
     /// Goes on over a store that was just opened. What it owes and what it counted stay.
-    fn restart<T: TopicStore, S: Shelf>(&mut self, stores: &T, shelf: &mut S) -> Result<(), Refusal>
+    fn restart<T: TopicStore>(&mut self, again: Opened<T>) -> T
         requires failed { self.old.failed ≡ true }
-        requires more { self.old.committed ≤ (T.view stores.now).count }
-        requires few { (T.view stores.now).count ≤ 2 ^ 62 }
-        requires works { (T.view stores.now).failed ≡ false }
-        ensures ok { OnOk result ((ledger : Entries) × (length ledger ≡ (T.view stores.now).count) × (self.new ≡ reopened self.old ledger (map slot_of_entry ledger) (T.view stores.now).kept)) }
-        ensures found { (ledger : Entries) (kept : Kept) → (S.disk shelf.old).honest → (T.view stores.now).holds (S.disk shelf.old).seen ledger kept → OnOk result (self.new.ledger ≡ ledger) }
-        ensures matched { OnOk result (Match (resting false) self.new (T.view stores.now)) }
-        ensures err { OnErr result (self.new ≡ self.old) }
-        ensures refused { (ledger : Entries) (kept : Kept) → (S.disk shelf.old).honest → (T.view stores.now).holds (S.disk shelf.old).seen ledger kept →
-            IfErr result (λ e. (e ≡ NoMemory) ⊎ ((e ≡ Device) × Failed (S.disk shelf.old) (S.disk shelf.new))) }
-        ensures cause { IsErrOf result Device → Failed (S.disk shelf.old) (S.disk shelf.new) }
-        ensures seen { (S.disk shelf.old).honest → Same (S.disk shelf.old).seen (S.disk shelf.new).seen }
-        ensures any_moment { (S.disk shelf.old).honest → Leaves (S.disk shelf.old).may_leave (S.disk shelf.old) (S.disk shelf.new) }
-        ensures kept { Counted (S.disk shelf.old) (S.disk shelf.new) }
+        requires more { self.old.committed ≤ (T.view again.stores).count }
+        requires few { (T.view again.stores).count ≤ 2 ^ 62 }
+        requires works { (T.view again.stores).failed ≡ false }
+        requires added { (length again.durable.ledger ≡ (T.view again.stores).count) × (again.subs ≡ slotted (opened_subscriptions (T.view again.stores).kept) (map slot_of_entry again.durable.ledger)) × (again.durable.kept ≡ (T.view again.stores).kept) }
+        requires durable { AreDurable (T.view again.stores).kept }
+        ensures again { self.new ≡ reopened self.old again.durable.ledger (map slot_of_entry again.durable.ledger) (T.view again.stores).kept }
+        ensures matched { Match (resting false) self.new (T.view again.stores) }
+        ensures stores { result ≡ again.stores }
     {
-        let Opened { subs, durable } = open_subscriptions(self.alloc, stores, shelf)?;
+        let Opened {
+            stores,
+            subs,
+            durable,
+        } = again;
         self.committed = stores.len();
         self.durable = durable;
         self.waiting = Vec::new(self.alloc);
@@ -129,68 +140,50 @@ impl TopicCore {
         self.subs = subs;
         self.doubt = None;
         self.failed = false;
-        Ok(())
+        stores
     }
 }
 
-/// The subscriptions with the slots of all entries, and what is durable.
+/// A store that was opened: the subscriptions with the slots of all entries, and what is durable.
 #[derive(Drop)]
-struct Opened {
+struct Opened<T> {
+    stores: T,
     subs: Subscriptions,
     durable: Durable,
 }
 
-/// The subscriptions of a store, with the slots of all its entries, each of which is read once.
-fn open_subscriptions<T: TopicStore, S: Shelf>(
+/// Opens the store of a topic, whose entries are known by their slots from the same pass.
+fn open_stores<T: TopicStore, S: Shelf>(
     alloc: Global,
-    stores: &T,
     shelf: &mut S,
-) -> Result<Opened, Refusal>
-    requires { (T.view stores.now).failed ≡ false }
-    ensures added { IfOk result (λ t. (length t.durable.ledger ≡ (T.view stores.now).count) × (t.subs ≡ slotted (opened_subscriptions (T.view stores.now).kept) (map slot_of_entry t.durable.ledger)) × (t.durable.kept ≡ (T.view stores.now).kept)) }
-    ensures durable { IfOk result (λ t. AreDurable (T.view stores.now).kept) }
-    ensures found { (ledger : Entries) (kept : Kept) → (S.disk shelf.old).honest → (T.view stores.now).holds (S.disk shelf.old).seen ledger kept → IfOk result (λ t. t.durable.ledger ≡ ledger) }
-    ensures refused { (ledger : Entries) (kept : Kept) → (S.disk shelf.old).honest → (T.view stores.now).holds (S.disk shelf.old).seen ledger kept →
-        IfErr result (λ e. (e ≡ NoMemory) ⊎ ((e ≡ Device) × Failed (S.disk shelf.old) (S.disk shelf.new))) }
+    topic: u16,
+    per_ledger: u32,
+) -> Result<Opened<T>, Refusal>
+    ensures added { IfOk result (λ t. (length t.durable.ledger ≡ (T.view t.stores).count) × (t.subs ≡ slotted (opened_subscriptions (T.view t.stores).kept) (map slot_of_entry t.durable.ledger)) × (t.durable.kept ≡ (T.view t.stores).kept)) }
+    ensures durable { IfOk result (λ t. AreDurable (T.view t.stores).kept) }
+    ensures settled { (S.disk shelf.old).honest → IfOk result (λ t. Settled (T.view t.stores) (S.disk shelf.new) t.durable.ledger (T.view t.stores).kept) }
+    ensures refused { (S.disk shelf.old).honest → IfErr result (λ e. (e ≡ NoMemory) ⊎ ((e ≡ Device) ⊎ T.faulty topic (S.disk shelf.old).seen e)) }
+    ensures works { IfOk result (λ t. (T.view t.stores).failed ≡ false) }
+    ensures topic { IfOk result (λ t. (T.view t.stores).topic ≡ topic) }
     ensures cause { IsErrOf result Device → Failed (S.disk shelf.old) (S.disk shelf.new) }
-    ensures seen { (S.disk shelf.old).honest → Same (S.disk shelf.old).seen (S.disk shelf.new).seen }
+    ensures seen { (S.disk shelf.old).honest → ¬ IsErrOf result Device → Same (S.disk shelf.old).seen (S.disk shelf.new).seen }
+    ensures others { (S.disk shelf.old).honest → Agree (λ f. ¬ OfTopic topic f) (S.disk shelf.old).seen (S.disk shelf.new).seen }
     ensures any_moment { (S.disk shelf.old).honest → Leaves (S.disk shelf.old).may_leave (S.disk shelf.old) (S.disk shelf.new) }
     ensures kept { Counted (S.disk shelf.old) (S.disk shelf.new) }
 {
+    let entries = FoundEntries {
+        slots: Vec::new(alloc),
+        durable: Durable::none(),
+    };
+    let (stores, entries) = T::open(alloc, shelf, topic, per_ledger, entries)?;
+    let FoundEntries { slots, durable } = entries;
     let cursors = stores.kept()?;
-    let kept = KeptCursors { cursors };
-    let durable = Durable::of(&kept);
-    let subs = Subscriptions::opened(alloc, kept.cursors)?;
-    with_slots(alloc, Opened { subs, durable }, stores, shelf)
-}
-
-/// What was opened, with the slots of all entries, each of which is read once.
-fn with_slots<T: TopicStore, S: Shelf>(
-    alloc: Global,
-    opened: Opened,
-    stores: &T,
-    shelf: &mut S,
-) -> Result<Opened, Refusal>
-    requires works { (T.view stores.now).failed ≡ false }
-    requires none { opened.durable.ledger ≡ [] }
-    ensures added { IfOk result (λ t. (length t.durable.ledger ≡ (T.view stores.now).count) × (t.subs ≡ slotted opened.subs (map slot_of_entry t.durable.ledger)) × (t.durable.kept ≡ opened.durable.kept)) }
-    ensures found { (ledger : Entries) (kept : Kept) → (S.disk shelf.old).honest → (T.view stores.now).holds (S.disk shelf.old).seen ledger kept → IfOk result (λ t. t.durable.ledger ≡ ledger) }
-    ensures refused { (ledger : Entries) (kept : Kept) → (S.disk shelf.old).honest → (T.view stores.now).holds (S.disk shelf.old).seen ledger kept →
-        IfErr result (λ e. (e ≡ NoMemory) ⊎ ((e ≡ Device) × Failed (S.disk shelf.old) (S.disk shelf.new))) }
-    ensures cause { IsErrOf result Device → Failed (S.disk shelf.old) (S.disk shelf.new) }
-    ensures seen { (S.disk shelf.old).honest → Same (S.disk shelf.old).seen (S.disk shelf.new).seen }
-    ensures any_moment { (S.disk shelf.old).honest → Leaves (S.disk shelf.old).may_leave (S.disk shelf.old) (S.disk shelf.new) }
-    ensures kept { Counted (S.disk shelf.old) (S.disk shelf.new) }
-{
-    let Opened {
-        mut subs,
-        mut durable,
-    } = opened;
-    for position in 0..stores.len() {
-        let entry = stores.read(shelf, position)?;
-        let slot = slot_of_entry(alloc, entry.as_slice())?;
-        subs.add_slot(slot)?;
-        durable = Durable::and_entry(&Found { durable, entry });
-    }
-    Ok(Opened { subs, durable })
+    let found = Found { durable, cursors };
+    let durable = Durable::of(&found);
+    let subs = Subscriptions::opened(alloc, found.cursors, slots)?;
+    Ok(Opened {
+        stores,
+        subs,
+        durable,
+    })
 }

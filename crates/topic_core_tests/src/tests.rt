@@ -41,8 +41,8 @@ impl Topic {
         ensures { IfOk result (λ t. AreMatched t.core t.stores) }
     {
         let mut shelf = MemShelf::new(alloc);
-        let stores = FileStores::create(alloc, &mut shelf, 0, 1)?;
-        let core = TopicCore::open(alloc, 1, &stores, &mut shelf)?;
+        drop(FileStores::create(alloc, &mut shelf, 0, 1)?);
+        let (core, stores) = TopicCore::open(alloc, &mut shelf, 0, 1)?;
         Ok(Topic {
             core,
             stores,

@@ -1,16 +1,17 @@
 -- What holds of a store of a topic at any time.
-use Rattle.std.proofs.Common.{◌≡◌, ℕ, ◌≤◌, List, Bool, false, ◌||◌, length, sym, ap, subst, ◌∙◌}
+use Rattle.std.proofs.Common.{◌≡◌, inl, inr, ⊎_elim, ℕ, ◌≤◌, List, Bool, false, ◌||◌, length, sym, ap, subst, ◌∙◌}
 use Rattle.disk.specs.declared.file_id.FileId.{FileId}
 use Rattle.disk.specs.declared.file_id.FileId.TheVariants.{Catalog, Segment, Slot}
 use Rattle.disk.specs.Disk.{Disk, Image, Undisturbed}
 use Rattle.disk.specs.Areas.{Agree, OfTopic}
 use Rattle.journal.specs.Chains.{SegmentsOf}
 use Rattle.two_slot.specs.Slots.{SlotsOf}
+use Rattle.gated_log.specs.declared.refusal.Refusal.{Refusal}
 use Rattle.gated_log.specs.Batches.{Bodies}
 use Rattle.managed_ledger.specs.Entries.{Entries}
 use Rattle.managed_ledger.specs.Shape.{total}
 use Rattle.records.specs.Maps.{Kept}
-use Rattle.topic_stores.specs.Views.{StoreView, EntryView, SubView, Settled, AreLaws, entry_view, sub_view, both, stand}
+use Rattle.topic_stores.specs.Views.{StoreView, EntryView, SubView, Settled, AreLaws, entry_view, sub_view, both, stand, fault}
 
 -- a store stays settled where the files of its topic are left alone
 pub settled_stays : (stands : ℕ → Image → Entries → Kept → Type 0) (v : StoreView) → AreLaws stands v → (old new : Disk) (ledger : Entries) (kept : Kept) → Undisturbed (OfTopic v.topic) old new → Settled v old ledger kept → Settled v new ledger kept
@@ -107,3 +108,23 @@ module _ (es : ℕ → Image → Entries → Type 0) (ss : ℕ → ℕ → Image
     };
     written_local = λ a b l k same x. sl.written_local a b (λ f own. same f (slot_of_topic x.one_topic f own));
   }
+
+-- ---- faults
+
+module _ (es : ℕ → Image → Entries → Type 0) (ef : ℕ → Image → Refusal → Type 0) (sf : ℕ → ℕ → Image → Refusal → Type 0) where
+  -- files have one first fault
+  pub fault_one : ((t : ℕ) (c : Image) (one other : Refusal) → ef t c one → ef t c other → one ≡ other) → ((t n : ℕ) (c : Image) (one other : Refusal) → sf t n c one → sf t n c other → one ≡ other)
+      → ((t : ℕ) (c : Image) (one other : Entries) → es t c one → es t c other → one ≡ other) → ((t : ℕ) (c : Image) (l : Entries) (e : Refusal) → es t c l → ¬ ef t c e)
+      → (t : ℕ) (c : Image) (one other : Refusal) → fault es ef sf t c one → fault es ef sf t c other → one ≡ other
+  fault_one segments_one slots_one one_ledger no_fault t c one other (inl is) (inl is') = segments_one t c one other is is'
+  fault_one segments_one slots_one one_ledger no_fault t c one other (inl is) (inr is') = absurd (no_fault t c is'.0 one is'.1 is)
+  fault_one segments_one slots_one one_ledger no_fault t c one other (inr is) (inl is') = absurd (no_fault t c is.0 other is.1 is')
+  fault_one segments_one slots_one one_ledger no_fault t c one other (inr is) (inr is') =
+      slots_one t (length is'.0) c one other (subst (λ (l : Entries). sf t (length l) c one) (one_ledger t c is.0 is'.0 is.1 is'.1) is.2) is'.2
+
+  -- where they stand for something they have none
+  pub stand_sound : (ss : ℕ → ℕ → Image → Kept → Type 0) → ((t : ℕ) (c : Image) (one other : Entries) → es t c one → es t c other → one ≡ other) → ((t : ℕ) (c : Image) (l : Entries) (e : Refusal) → es t c l → ¬ ef t c e)
+      → ((t n : ℕ) (c : Image) (k : Kept) (e : Refusal) → ss t n c k → ¬ sf t n c e)
+      → (t : ℕ) (c : Image) (l : Entries) (k : Kept) (e : Refusal) → stand es ss t c l k → ¬ fault es ef sf t c e
+  stand_sound ss one_ledger no_fault no_slot_fault t c l k e is =
+      ⊎_elim (λ bad. no_fault t c l e is.0 bad) (λ bad. no_slot_fault t (length bad.0) c k e (subst (λ (m : Entries). ss t (length m) c k) (one_ledger t c l bad.0 is.0 bad.1) is.1) bad.2)

@@ -1,7 +1,8 @@
 -- The durable half of a topic, in one view.
-use Rattle.std.specs.Prelude.{◌≡◌, ℕ, Bool, false, ◌||◌, List, length}
+use Rattle.std.specs.Prelude.{◌≡◌, ◌⊎◌, ℕ, Bool, false, ◌||◌, List, length}
 use Rattle.disk.specs.Disk.{Disk, Image}
 use Rattle.disk.specs.Areas.{Agree, OfTopic}
+use Rattle.gated_log.specs.declared.refusal.Refusal.{Refusal}
 use Rattle.gated_log.specs.Batches.{Bodies}
 use Rattle.managed_ledger.specs.Entries.{Entries}
 use Rattle.managed_ledger.specs.Shape.{total}
@@ -76,3 +77,7 @@ sub_view topic_of content failed holds written store = record { topic = topic_of
 -- the files of a topic stand for these entries and subscriptions
 abbrev pub stand : (ℕ → Image → Entries → Type 0) → (ℕ → ℕ → Image → Kept → Type 0) → ℕ → Image → Entries → Kept → Type 0
 stand entries_stand subscriptions_stand topic files ledger kept = entries_stand topic files ledger × subscriptions_stand topic (length ledger) files kept
+
+-- the first fault of the segments, or of the slots beside segments that stand for entries
+abbrev pub fault : (ℕ → Image → Entries → Type 0) → (ℕ → Image → Refusal → Type 0) → (ℕ → ℕ → Image → Refusal → Type 0) → ℕ → Image → Refusal → Type 0
+fault entries_stand segments_faulty slots_faulty topic files refusal = segments_faulty topic files refusal ⊎ ((ledger : Entries) × entries_stand topic files ledger × slots_faulty topic (length ledger) files refusal)

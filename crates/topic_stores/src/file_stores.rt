@@ -4,7 +4,7 @@ use crate::{Batch, ReadError, TopicStore, TopicStores, WriteError};
 use cursor_store::CursorStore;
 use disk::{DeviceError, Shelf};
 use gated_log::Refusal;
-use managed_ledger::ManagedLedger;
+use managed_ledger::{EntryFold, ManagedLedger};
 use records::KeptCursor;
 use std::alloc::{AllocError, Global};
 
@@ -20,16 +20,24 @@ impl TopicStore for FileStores {
     ghost use Rattle.journal.specs.Chains.{SegmentsOf};
     ghost use Rattle.two_slot.specs.Slots.{SlotsOf};
     ghost use Rattle.managed_ledger.specs.Entries.{Entries, Stands};
+    ghost use Rattle.managed_ledger.specs.Folded as ledger_faults;
     ghost use Rattle.managed_ledger.specs.Ledgers as ledgers;
     ghost use Rattle.managed_ledger.specs.Settled as ledger_laws;
     ghost use Rattle.cursor_store.specs.Cursors as cursors;
+    ghost use Rattle.cursor_store.specs.Folded as cursor_faults;
     ghost use Rattle.cursor_store.specs.Laws as cursor_laws;
     ghost use Rattle.topic_stores.specs.Views.{entry_view, sub_view};
-    ghost use Rattle.topic_stores.specs.Laws.{both_laws, entry_laws, sub_laws, segment_own, slot_own};
+    ghost use Rattle.topic_stores.specs.Laws.{both_laws, entry_laws, sub_laws, segment_own, slot_own, fault_one, stand_sound};
 
     ghost view = { λ s. ⟦<TopicStores<ManagedLedger, CursorStore> as TopicStore>⟧.view s.stores };
 
     ghost stands = { ⟦<TopicStores<ManagedLedger, CursorStore> as TopicStore>⟧.stands };
+
+    ghost faulty = { ⟦<TopicStores<ManagedLedger, CursorStore> as TopicStore>⟧.faulty };
+
+    ghost faulty_one = { fault_one Stands ledger_faults.IsFault cursor_faults.IsFault ledger_faults.fault_one cursor_faults.fault_one ledger_laws.stand_one ledger_faults.ledger_no_fault };
+
+    ghost stands_sound = { stand_sound Stands ledger_faults.IsFault cursor_faults.IsFault cursors.StandsFor ledger_laws.stand_one ledger_faults.ledger_no_fault cursor_faults.stands_sound };
 
     ghost laws = { λ s. both_laws Stands cursors.StandsFor SegmentsOf SlotsOf
         (entry_view ledgers.ledger_topic ledgers.counts_of ledgers.failed ledgers.Holds s.stores.entries) (sub_view cursors.topic_of cursors.content cursors.failed cursors.Holds cursors.written s.stores.subscriptions)
@@ -57,14 +65,15 @@ impl TopicStore for FileStores {
         Ok(FileStores { stores })
     }
 
-    fn open<S: Shelf>(
+    fn open<S: Shelf, F: EntryFold + Drop>(
         alloc: Global,
         shelf: &mut S,
         topic: u16,
         entries_per_ledger: u32,
-    ) -> Result<Self, Refusal> {
-        match TopicStores::open(alloc, shelf, topic, entries_per_ledger) {
-            Ok(stores) => Ok(FileStores { stores }),
+        fold: F,
+    ) -> Result<(Self, F), Refusal> {
+        match TopicStores::open(alloc, shelf, topic, entries_per_ledger, fold) {
+            Ok((stores, fold)) => Ok((FileStores { stores }, fold)),
             Err(why) => Err(why),
         }
     }

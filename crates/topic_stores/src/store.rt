@@ -4,6 +4,7 @@ ghost use Rattle.std.specs.List.{AllByRecursion};
 ghost use Rattle.std.specs.FinMap as map;
 ghost use Rattle.disk.specs.Disk.{Image, Same, Leaves, Kept as Counted, Failed};
 ghost use Rattle.disk.specs.Areas.{Agree, OfTopic, Within};
+ghost use Rattle.gated_log.specs.declared.refusal.Refusal.{Refusal};
 ghost use Rattle.gated_log.specs.declared.refusal.Refusal.TheVariants as refusal;
 ghost use Rattle.managed_ledger.specs.Entries.{Entries, AreEntries};
 ghost use Rattle.records.specs.declared.kept_cursor.KeptCursor.{KeptCursor as Cursor};
@@ -18,6 +19,7 @@ ghost use Rattle.topic_stores.specs.Writing.{Fits, IsLeft, StandsFor, Remembers}
 use crate::{Batch, ReadError, WriteError};
 use disk::{DeviceError, Shelf};
 use gated_log::Refusal;
+use managed_ledger::EntryFold;
 use records::KeptCursor;
 use std::alloc::{AllocError, Global};
 
@@ -28,6 +30,9 @@ pub trait TopicStore: Drop {
 
     /// What the files of a topic alone stand for: whoever opens them finds these entries and subscriptions.
     ghost stands: { ℕ → Image → Entries → Kept → Type 0 };
+
+    /// Why the files of a topic alone are refused: the first fault in them, by the segments, slot 0 and slot 1.
+    ghost faulty: { ℕ → Image → Refusal → Type 0 };
 
     /// Makes a store without entries and subscriptions, whatever was in the topic's first segment and its slots. Takes no
     /// memory. Until the `Ok` a crash may leave anything of the topic's files.
@@ -44,23 +49,28 @@ pub trait TopicStore: Drop {
         ensures cause { IsErr result → Failed (S.disk shelf.old) (S.disk shelf.new) }
         ensures kept { Counted (S.disk shelf.old) (S.disk shelf.new) };
 
-    /// Opens the store of a topic, whatever a crash left of its files. Where these stand for entries and subscriptions, they
-    /// are opened, unless there is no memory or the device fails.
-    fn open<S: Shelf>(
+    /// Opens the store of a topic, whatever a crash left of its files, and hands its entries to a fold. Each file is synced
+    /// once, so what is read stays, and read once. Nothing is written.
+    fn open<S: Shelf, F: EntryFold + Drop>(
         alloc: Global,
         shelf: &mut S,
         topic: u16,
         entries_per_ledger: u32,
-    ) -> Result<Self, Refusal>
-        ensures opened { (ledger : Entries) (kept : Kept) → (S.disk shelf.old).honest → stands topic (S.disk shelf.old).seen ledger kept →
-            IfOk result (λ store. Settled (view store) (S.disk shelf.new) ledger kept) }
-        ensures refused { (ledger : Entries) (kept : Kept) → (S.disk shelf.old).honest → stands topic (S.disk shelf.old).seen ledger kept →
-            IfErr result (λ e. (e ≡ refusal.NoMemory) ⊎ ((e ≡ refusal.Device) × Failed (S.disk shelf.old) (S.disk shelf.new))) }
-        ensures works { IfOk result (λ store. (view store).failed ≡ false) }
-        ensures topic { IfOk result (λ store. (view store).topic ≡ topic) }
+        fold: F,
+    ) -> Result<(Self, F), Refusal>
+        // The store has the entries that the fold has taken; where the device isn't honest it has taken as many.
+        ensures opened { F.holds fold [] →
+            IfOk result (λ opened. (ledger : Entries) × ((S.disk shelf.old).honest → Settled (view opened.0) (S.disk shelf.new) ledger (view opened.0).kept) × (length ledger ≡ (view opened.0).count) × F.holds opened.1 ledger) }
+        // Or the first fault that stands in the files is told.
+        ensures refused { (S.disk shelf.old).honest → F.holds fold [] →
+            IfErr result (λ e. (e ≡ refusal.NoMemory) ⊎ ((e ≡ refusal.Device) ⊎ faulty topic (S.disk shelf.old).seen e)) }
+        ensures works { IfOk result (λ opened. (view opened.0).failed ≡ false) }
+        ensures topic { IfOk result (λ opened. (view opened.0).topic ≡ topic) }
         ensures device { IsErrOf result refusal.Device → Failed (S.disk shelf.old) (S.disk shelf.new) }
-        ensures others { (S.disk shelf.old).honest → Agree (λ f. ¬ OfTopic topic f) (S.disk shelf.old).seen (S.disk shelf.new).seen }
 
+        // What reads give stays, but of a file whose sync failed.
+        ensures seen { (S.disk shelf.old).honest → ¬ IsErrOf result refusal.Device → Same (S.disk shelf.old).seen (S.disk shelf.new).seen }
+        ensures others { (S.disk shelf.old).honest → Agree (λ f. ¬ OfTopic topic f) (S.disk shelf.old).seen (S.disk shelf.new).seen }
         // A crash at any moment leaves what it might have left before.
         ensures any_moment { (S.disk shelf.old).honest → Leaves (S.disk shelf.old).may_leave (S.disk shelf.old) (S.disk shelf.new) }
         ensures kept { Counted (S.disk shelf.old) (S.disk shelf.new) };
@@ -129,6 +139,11 @@ pub trait TopicStore: Drop {
 
     // Files stand for one list of entries, each with metadata that can be read, and one map of subscriptions.
     ghost stands_one: { (t : ℕ) (files : Image) (one other : Entries) (k j : Kept) → length one ≤ 2 ^ 62 → stands t files one k → stands t files other j → (one ≡ other) × (k ≡ j) };
+
+    // Files have one first fault, and where they stand for entries and subscriptions they have none.
+    ghost faulty_one: { (t : ℕ) (files : Image) (one other : Refusal) → faulty t files one → faulty t files other → one ≡ other };
+
+    ghost stands_sound: { (t : ℕ) (files : Image) (ledger : Entries) (k : Kept) (refusal : Refusal) → stands t files ledger k → ¬ faulty t files refusal };
 
     ghost stands_entries: { (t : ℕ) (files : Image) (ledger : Entries) (k : Kept) → stands t files ledger k → AreEntries ledger };
 

@@ -6,7 +6,7 @@ use crate::{Batch, ReadError, TopicStore, WriteError};
 use cursor_store::SubStore;
 use disk::{DeviceError, Shelf};
 use gated_log::Refusal;
-use managed_ledger::EntryStore;
+use managed_ledger::{EntryFold, EntryStore};
 use records::KeptCursor;
 use std::alloc::{AllocError, Global};
 
@@ -24,12 +24,14 @@ impl<E: EntryStore, C: SubStore> TopicStore for TopicStores<E, C> {
     ghost use Rattle.std.specs.Prelude.{length};
     ghost use Rattle.std.proofs.Common.{subst, sym};
     ghost use Rattle.managed_ledger.specs.Entries.{Entries};
-    ghost use Rattle.topic_stores.specs.Views.{both, entry_view, sub_view, stand};
-    ghost use Rattle.topic_stores.specs.Laws.{both_laws, entry_laws, sub_laws, segment_own, slot_own};
+    ghost use Rattle.topic_stores.specs.Views.{both, entry_view, sub_view, stand, fault};
+    ghost use Rattle.topic_stores.specs.Laws.{both_laws, entry_laws, sub_laws, segment_own, slot_own, fault_one, stand_sound};
 
     ghost view = { λ s. both (entry_view E.topic_of E.counts E.failed E.holds s.entries) (sub_view C.topic_of C.content C.failed C.holds C.written s.subscriptions) };
 
     ghost stands = { stand E.stands C.stands };
+
+    ghost faulty = { fault E.stands E.faulty C.faulty };
 
     ghost laws = { λ s. both_laws E.stands C.stands E.area C.area
         (entry_view E.topic_of E.counts E.failed E.holds s.entries) (sub_view C.topic_of C.content C.failed C.holds C.written s.subscriptions)
@@ -39,6 +41,10 @@ impl<E: EntryStore, C: SubStore> TopicStore for TopicStores<E, C> {
     ghost stands_one = { λ t files one other k j few a b.
         let same = E.stands_one t files one other a.0 b.0 in
         (same, C.stands_one t (length one) files k j few a.1 (subst (λ (l : Entries). C.stands t (length l) files j) (sym same) b.1)) };
+
+    ghost faulty_one = { fault_one E.stands E.faulty C.faulty E.faulty_one C.faulty_one E.stands_one E.stands_sound };
+
+    ghost stands_sound = { stand_sound E.stands E.faulty C.faulty C.stands E.stands_one E.stands_sound C.stands_sound };
 
     ghost stands_entries = { λ t files ledger k x. E.stands_entries t files ledger x.0 };
 
@@ -61,18 +67,20 @@ impl<E: EntryStore, C: SubStore> TopicStore for TopicStores<E, C> {
         })
     }
 
-    fn open<S: Shelf>(
+    fn open<S: Shelf, F: EntryFold + Drop>(
         alloc: Global,
         shelf: &mut S,
         topic: u16,
         entries_per_ledger: u32,
-    ) -> Result<Self, Refusal> {
-        let entries = E::open(alloc, shelf, topic, entries_per_ledger)?;
+        fold: F,
+    ) -> Result<(Self, F), Refusal> {
+        let (entries, fold) = E::open(alloc, shelf, topic, entries_per_ledger, fold)?;
         let subscriptions = C::open(alloc, shelf, topic, entries.len())?;
-        Ok(TopicStores {
+        let stores = TopicStores {
             entries,
             subscriptions,
-        })
+        };
+        Ok((stores, fold))
     }
 
     fn topic(&self) -> u16 {

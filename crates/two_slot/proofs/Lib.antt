@@ -1,4 +1,2 @@
 mod Appending
 mod Opening
-mod Found
-mod Headers

@@ -1,107 +1,162 @@
--- What an opening finds by the headers.
-use Rattle.std.proofs.Common.{◌≡◌, ◌⊎◌, inl, inr, ℕ, refl, ap, subst, Result, Ok, Err}
-use Rattle.std.specs.Result.{IsErrOf}
+-- Two slots are opened as their headers say.
+use Rattle.std.proofs.Common.{◌≡◌, ◌⊎◌, inl, inr, ℕ, ◌+◌, ◌<◌, ◌^◌, Bool, true, false, List, sym, ◌∙◌, ap, subst, arith}
+use Rattle.std.specs.Prelude.{nat_lt, if◌then◌else◌}
+use Rattle.std.proofs.lemmas.Bool.{cases_lt}
+use Rattle.std.proofs.lemmas.Bool.Decides.{nat_tests}
 use Rattle.disk.specs.declared.file_id.CursorSlot.{CursorSlot}
-use Rattle.disk.specs.declared.file_id.CursorSlot.TheVariants.{Zero}
+use Rattle.disk.specs.declared.file_id.CursorSlot.TheVariants.{Zero, One}
 use Rattle.disk.specs.declared.file_id.FileId.{FileId}
 use Rattle.disk.specs.declared.file_id.FileId.TheVariants.{Slot}
-use Rattle.disk.specs.Disk.{Disk, Image, Synced}
-use Rattle.gated_log.specs.declared.log.GatedLog.{GatedLog}
+use Rattle.disk.specs.Disk.{Disk, Image, Synced, Leaves}
 use Rattle.gated_log.specs.declared.refusal.Refusal.{Refusal}
-use Rattle.gated_log.specs.declared.refusal.Refusal.TheVariants.{Device, NotInitialised, Version, Damaged, NoMemory, TooLarge}
-use Rattle.gated_log.specs.Findings.{Finding as LogFinding, Uninitialised, OtherVersion as LogVersion, Damage as LogDamage, Batches, Finds as LogFinds}
-use Rattle.gated_log.specs.Logs.{LogHolds, log_id, log_content, IsAnswerTo as IsLogAnswerTo}
-use Rattle.two_slot.specs.declared.slot_header.HeaderFault.{HeaderFault}
-use Rattle.two_slot.specs.declared.slot_header.HeaderFault.TheVariants.{Damage as HeaderDamage, Version as HeaderVersion}
+use Rattle.gated_log.specs.declared.refusal.Refusal.TheVariants.{Device, NoMemory}
+use Rattle.gated_log.specs.Batches.{Bodies, IsLog}
+use Rattle.gated_log.specs.Folds.{Link, Form, IsFault}
+use Rattle.gated_log.specs.Head.{IsHead, HasHead, head_file}
+use Rattle.gated_log.specs.Headers.{IsOpen}
+use Rattle.gated_log.specs.Lists.{Settled}
+use Rattle.gated_log.specs.Logs.{LogHolds, log_id}
+use Rattle.two_slot.specs.declared.slot_header.HeaderFault.TheVariants.{Damage as HeaderDamage}
 use Rattle.two_slot.specs.declared.slot_header.SlotHeader.{SlotHeader}
+use Rattle.two_slot.specs.declared.slot_header.SlotHeader.TheVariants.{CutShort, Closed, Open, Faulty}
 use Rattle.two_slot.specs.declared.choice.Choice.{Choice}
 use Rattle.two_slot.specs.declared.choice.Choice.TheVariants.{Refuse, Read, ReadZero}
+use Rattle.two_slot.specs.declared.heads.SlotHeads.{SlotHeads}
 use Rattle.two_slot.specs.declared.spare.Spare.{Spare}
+use Rattle.two_slot.specs.declared.spare.Spare.TheVariants.{Lower}
 use Rattle.two_slot.specs.declared.two_slot.TwoSlot.{TwoSlot}
-use Rattle.two_slot.specs.Findings.{Finding, header_finding, log_finding, fault_behind, FindsBy, Finds, IsAnswerTo, Told, Says, HaveHeaders, header_refusal, refusal_of_named, LogAnswer, IsLogAnswer}
-use Rattle.two_slot.specs.Choices.{choice}
-use Rattle.two_slot.specs.One.{finds_one}
+use Rattle.two_slot.specs.Slots.{other_of}
+use Rattle.two_slot.specs.SlotHeaders.{IsSlotHeader}
+use Rattle.two_slot.specs.Choices.{choice, if_open}
+use Rattle.two_slot.specs.TwoSlots.{Holds, IsSpare, generation_of}
+use Rattle.two_slot.specs.Heads.{HaveHeads, head_in}
+use Rattle.two_slot.specs.Faults.{IsFaultBy, IsSlotsFault}
+use Rattle.two_slot.specs.One.{generation_one, log_open}
 
-err_same : {R : Type 0} {e x : Refusal} → IsErrOf {T = R} {E = Refusal} (Err e) x → e ≡ x
-err_same same = cc
+-- the slots of the topic have these headers
+pub record HaveHeaders (topic : ℕ) (image : Image) (zero one : SlotHeader) : Type 0 where
+  pub zero_is : IsSlotHeader (image (Slot topic Zero)) zero
+  pub one_is : IsSlotHeader (image (Slot topic One)) one
 
-err_of : {R R' : Type 0} {e x : Refusal} → IsErrOf {T = R} {E = Refusal} (Err e) x → IsErrOf {T = R'} {E = Refusal} (Err e) x
-err_of same = ap Err (err_same same)
+-- these are the headers of both slots, a crash leaves the slots so, and this is what the headers say
+pub record Says (topic : ℕ) (disk : Disk) (zero one : SlotHeader) (by : Choice) : Type 0 where
+  pub headers : HaveHeaders topic disk.seen zero one
+  pub synced : (slot : CursorSlot) → Synced (Slot topic slot) disk
+  pub choice_is : by ≡ choice zero one
 
--- something that stands is answered so, and each finding is
-pub found_of : (topic : ℕ) (was seen : Image) (result : Result TwoSlot Refusal) (finding : Finding) → Told topic was seen result → Finds topic was finding → IsAnswerTo topic seen finding result ⊎ (IsErrOf result NoMemory ⊎ IsErrOf result Device)
-found_of topic was seen result finding (inl told) is = inl (subst (λ (f : Finding). IsAnswerTo topic seen f result) (finds_one topic was told.0 finding told.1 is) told.2)
-found_of topic was seen result finding (inr other) is = inr other
+pub says_of : (heads : SlotHeads) (disk : Disk) (zero one : SlotHeader) (by : Choice) → HaveHeads heads disk → ((image : Image) → IsHead heads.zero image → IsSlotHeader (image (head_file heads.zero)) zero)
+    → ((image : Image) → IsHead heads.one image → IsSlotHeader (image (head_file heads.one)) one) → by ≡ choice zero one → Says heads.topic disk zero one by
+says_of heads disk zero one by are zero_of one_of is = record {
+  headers = record {
+    zero_is = subst (λ (f : FileId). IsSlotHeader (disk.seen f) zero) heads.zero_is (zero_of disk.seen are.zero.is);
+    one_is = subst (λ (f : FileId). IsSlotHeader (disk.seen f) one) heads.one_is (one_of disk.seen are.one.is);
+  };
+  synced = each;
+  choice_is = is;
+}
+  where
+    each : (slot : CursorSlot) → Synced (Slot heads.topic slot) disk
+    each Zero = subst (λ (f : FileId). Synced f disk) heads.zero_is are.zero.synced
+    each One = subst (λ (f : FileId). Synced f disk) heads.one_is are.one.synced
 
--- the answer of a log, said of its slot
-pub log_told : (topic : ℕ) (slot : CursorSlot) (was seen : Image) (log : GatedLog) → (log_id log).file ≡ Slot topic slot → LogHolds log seen (log_content log seen)
-    → ((finding : LogFinding) → IsLogAnswerTo (Slot topic slot) seen finding (Ok log) → LogFinds (was (Slot topic slot)) finding) → IsLogAnswer topic slot was seen (Ok log)
-log_told topic slot was seen log file holds told =
-    let answer : (log_id log ≡ record { file = Slot topic slot; number = (log_id log).number }) × LogHolds log seen (log_content log seen) = ((λ i. record { file = file i; number = (log_id log).number }), holds) in
-    inl (Batches (log_id log).number (log_content log seen), told (Batches (log_id log).number (log_content log seen)) answer, answer)
-
-pub refusal_told : (topic : ℕ) (slot : CursorSlot) (was seen : Image) (e : Refusal) → (e ≡ TooLarge → ⊥) → ((f : FileId) (at : ℕ) → e ≡ Damaged f at → f ≡ Slot topic slot)
-    → ((finding : LogFinding) → IsLogAnswerTo (Slot topic slot) seen finding (Err e) → LogFinds (was (Slot topic slot)) finding) → IsLogAnswer topic slot was seen (Err (refusal_of_named (Slot topic slot) e))
-refusal_told topic slot was seen Device not_large file told = inr (inr refl)
-refusal_told topic slot was seen (Damaged f at) not_large file told =
-    let same : f ≡ Slot topic slot = file f at refl in
-    inl (LogDamage at, told (LogDamage at) (λ i. Err (Damaged (same i) at)), (λ i. Err (Damaged (same i) at)))
-refusal_told topic slot was seen NotInitialised not_large file told = inl (Uninitialised, told Uninitialised refl, refl)
-refusal_told topic slot was seen Version not_large file told = inl (LogVersion, told LogVersion refl, refl)
-refusal_told topic slot was seen NoMemory not_large file told = inr (inl refl)
-refusal_told topic slot was seen TooLarge not_large file told = absurd (not_large refl)
-
--- what is found by the headers
-finds_by : (topic : ℕ) (disk : Disk) (zero one : SlotHeader) (by : Choice) (finding : Finding) → Says topic disk zero one by → FindsBy by topic disk.seen finding → Finds topic disk.seen finding
-finds_by topic disk zero one by finding says found = record {
+-- the first fault is told
+pub fault_of : (form : Form) (topic : ℕ) (disk : Disk) (zero one : SlotHeader) (by : Choice) (refusal : Refusal) → Says topic disk zero one by → IsFaultBy by form topic disk.seen refusal → IsSlotsFault form topic disk.seen refusal
+fault_of form topic disk zero one by refusal says fault = record {
   zero = zero;
   one = one;
   zero_is = says.headers.zero_is;
   one_is = says.headers.one_is;
-  found = subst (λ (c : Choice). FindsBy c topic disk.seen finding) says.choice_is found;
+  fault = subst (λ (c : Choice). IsFaultBy c form topic disk.seen refusal) says.choice_is fault;
 }
 
-pub header_answer : (topic : ℕ) (seen : Image) (slot : CursorSlot) (fault : HeaderFault) → IsAnswerTo topic seen (header_finding slot fault) (Err (header_refusal topic slot fault))
-header_answer topic seen slot HeaderDamage = refl
-header_answer topic seen slot HeaderVersion = refl
+-- no memory, the device, or a fault
+abbrev pub Told : (Refusal → Type 0) → Refusal → Type 0
+Told fault e = (e ≡ NoMemory) ⊎ ((e ≡ Device) ⊎ fault e)
 
-pub refuse_told : (topic : ℕ) (disk : Disk) (seen : Image) (zero one : SlotHeader) (slot : CursorSlot) (fault : HeaderFault) → Says topic disk zero one (Refuse slot fault) → Told topic disk.seen seen (Err (header_refusal topic slot fault))
-refuse_told topic disk seen zero one slot fault says =
-    inl (header_finding slot fault, finds_by topic disk zero one (Refuse slot fault) (header_finding slot fault) says refl, header_answer topic seen slot fault)
+pub told_of : (fault fault' : Refusal → Type 0) (e : Refusal) → (fault e → fault' e) → Told fault e → Told fault' e
+told_of fault fault' e by (inl none) = inl none
+told_of fault fault' e by (inr (inl device)) = inr (inl device)
+told_of fault fault' e by (inr (inr is)) = inr (inr (by is))
 
-log_refusal : (topic : ℕ) (seen : Image) (slot : CursorSlot) (found : LogFinding) (e : Refusal) → LogAnswer slot topic seen found (Err e) → IsAnswerTo topic seen (log_finding slot found) (Err e)
-log_refusal topic seen slot Uninitialised e is = err_of is
-log_refusal topic seen slot LogVersion e is = err_of is
-log_refusal topic seen slot (LogDamage at) e is = err_of is
-log_refusal topic seen slot (Batches number bodies) e is = is
+-- by the order of two generations
+by_order : (P : Choice → Type 0) (h g : ℕ) (x y z : Choice) → (h < g → P x) → (g < h → P y) → (h ≡ g → P z) → P (if nat_lt h g then x else if nat_lt g h then y else z)
+by_order P h g x y z less more same = elim (cases_lt h g) [
+  | inl low ↦ let t : nat_lt h g ≡ true = grind (arith, nat_tests) in subst (λ (b : Bool). P (if b then x else if nat_lt g h then y else z)) (sym t) (less low)
+  | inr high ↦ let t : nat_lt h g ≡ false = grind (arith, nat_tests) in subst (λ (b : Bool). P (if b then x else if nat_lt g h then y else z)) (sym t) (elim (cases_lt g h) [
+    | inl low ↦ let u : nat_lt g h ≡ true = grind (arith, nat_tests) in subst (λ (b : Bool). P (if b then y else z)) (sym u) (more low)
+    | inr tied ↦ let u : nat_lt g h ≡ false = grind (arith, nat_tests) in subst (λ (b : Bool). P (if b then y else z)) (sym u) (same (omega (arith, high, tied)))
+  ])
+]
 
-fault_refusal : (topic : ℕ) (seen : Image) (fault : HeaderFault) (found : LogFinding) (e : Refusal) → LogAnswer Zero topic seen found (Err e) → IsAnswerTo topic seen (fault_behind fault found) (Err e)
-fault_refusal topic seen fault Uninitialised e is = err_of is
-fault_refusal topic seen fault LogVersion e is = err_of is
-fault_refusal topic seen fault (LogDamage at) e is = err_of is
-fault_refusal topic seen fault (Batches number bodies) e is = absurd is
+-- the slot that is read has a good header, and so has the other one
+abbrev IsRead : ℕ → Image → Choice → Type 0
+IsRead topic image (Refuse slot fault) = Unit {0}
+IsRead topic image (ReadZero fault) = Unit {0}
+IsRead topic image (Read slot spare) = (g : ℕ) × IsOpen g (image (Slot topic slot)) × (g + 1 < 2 ^ 64) × IsSpare spare g (image (Slot topic (other_of slot)))
 
--- the log in the slot that counts is refused
-pub read_refused : (topic : ℕ) (disk : Disk) (seen : Image) (zero one : SlotHeader) (slot : CursorSlot) (spare : Spare) (e : Refusal) → Says topic disk zero one (Read slot spare) → IsLogAnswer topic slot disk.seen seen (Err e) → Told topic disk.seen seen (Err e)
-read_refused topic disk seen zero one slot spare e says (inl is) =
-    inl (log_finding slot is.0, finds_by topic disk zero one (Read slot spare) (log_finding slot is.0) says (is.0, is.1, refl), log_refusal topic seen slot is.0 e is.2)
-read_refused topic disk seen zero one slot spare e says (inr (inl none)) = inr (inl (err_of none))
-read_refused topic disk seen zero one slot spare e says (inr (inr device)) = inr (inr (err_of device))
+chosen_open : (topic : ℕ) (image : Image) (g : ℕ) (one : SlotHeader) → IsSlotHeader (image (Slot topic Zero)) (Open g) → IsSlotHeader (image (Slot topic One)) one → IsRead topic image (if_open g one)
+chosen_open topic image g CutShort is is' = (g, is.1, is.2, is')
+chosen_open topic image g Closed is is' = (g, is.1, is.2, is')
+chosen_open topic image g (Open h) is is' = by_order (IsRead topic image) h g (Read Zero Lower) (Read One Lower) (ReadZero HeaderDamage)
+    (λ low. (g, is.1, is.2, record { earlier = h; less = low; long = is'.0; is_open = is'.1 }))
+    (λ low. (h, is'.1, is'.2, record { earlier = g; less = low; long = is.0; is_open = is.1 }))
+    (λ same. tt)
+chosen_open topic image g (Faulty h fault) is is' = by_test (nat_lt g h)
+  where
+    by_test : (b : Bool) → IsRead topic image (if b then Refuse One fault else ReadZero fault)
+    by_test true = tt
+    by_test false = tt
 
--- the log of slot 0 is refused, before the header of slot 1
-pub read_zero_refused : (topic : ℕ) (disk : Disk) (seen : Image) (zero one : SlotHeader) (fault : HeaderFault) (e : Refusal) → Says topic disk zero one (ReadZero fault) → IsLogAnswer topic Zero disk.seen seen (Err e) → Told topic disk.seen seen (Err e)
-read_zero_refused topic disk seen zero one fault e says (inl is) =
-    inl (fault_behind fault is.0, finds_by topic disk zero one (ReadZero fault) (fault_behind fault is.0) says (is.0, is.1, refl), fault_refusal topic seen fault is.0 e is.2)
-read_zero_refused topic disk seen zero one fault e says (inr (inl none)) = inr (inl (err_of none))
-read_zero_refused topic disk seen zero one fault e says (inr (inr device)) = inr (inr (err_of device))
+chosen : (topic : ℕ) (image : Image) (zero one : SlotHeader) → HaveHeaders topic image zero one → IsRead topic image (choice zero one)
+chosen topic image CutShort CutShort is = tt
+chosen topic image CutShort Closed is = tt
+chosen topic image CutShort (Open h) is = (h, is.one_is.1, is.one_is.2, is.zero_is)
+chosen topic image CutShort (Faulty h fault) is = tt
+chosen topic image Closed CutShort is = tt
+chosen topic image Closed Closed is = tt
+chosen topic image Closed (Open h) is = (h, is.one_is.1, is.one_is.2, is.zero_is)
+chosen topic image Closed (Faulty h fault) is = tt
+chosen topic image (Open g) one is = chosen_open topic image g one is.zero_is is.one_is
+chosen topic image (Faulty g fault) one is = tt
 
--- said of what reads gave before
-pub told_before : (topic : ℕ) (was mid seen : Image) (result : Result TwoSlot Refusal) → mid ≡ was → Told topic mid seen result → Told topic was seen result
-told_before topic was mid seen result same told = subst (λ (i : Image). Told topic i seen result) same told
+-- the log that is read, and the other slot
+read_beside : (topic : ℕ) (disk : Disk) (zero one : SlotHeader) (slot : CursorSlot) (spare : Spare) (n : ℕ) (bodies : Bodies) → Says topic disk zero one (Read slot spare) → IsLog n bodies (disk.seen (Slot topic slot))
+    → (n + 1 < 2 ^ 64) × IsSpare spare n (disk.seen (Slot topic (other_of slot)))
+read_beside topic disk zero one slot spare n bodies says is =
+    let read = subst (λ (by : Choice). IsRead topic disk.seen by) (sym says.choice_is) (chosen topic disk.seen zero one says.headers) in
+    let same : read.0 ≡ n = generation_one read.0 n (disk.seen (Slot topic slot)) read.1 (log_open n bodies (disk.seen (Slot topic slot)) is) in
+    subst (λ (g : ℕ). (g + 1 < 2 ^ 64) × IsSpare spare g (disk.seen (Slot topic (other_of slot)))) same (read.2, read.3)
 
--- the same choice
-pub says_so : (topic : ℕ) (disk : Disk) (zero one : SlotHeader) (by by' : Choice) → by ≡ by' → Says topic disk zero one by → Says topic disk zero one by'
-says_so topic disk zero one by by' same says = subst (λ (k : Choice). Says topic disk zero one k) same says
+-- the slots are read so
+pub record AreRead (slots : TwoSlot) (topic : ℕ) (slot : CursorSlot) (spare : Spare) : Type 0 where
+  pub topic_is : slots.topic ≡ topic
+  pub slot_is : slots.counts ≡ slot
+  pub spare_is : slots.spare ≡ spare
 
-pub says_of : (topic : ℕ) (disk : Disk) (zero one : SlotHeader) (by : Choice) → HaveHeaders topic disk.seen zero one → ((slot : CursorSlot) → Synced (Slot topic slot) disk) → by ≡ choice zero one → Says topic disk zero one by
-says_of topic disk zero one by headers synced is = record { headers = headers; synced = synced; choice_is = is }
+held : (slots : TwoSlot) (topic : ℕ) (slot : CursorSlot) (spare : Spare) → AreRead slots topic slot spare → (disk : Disk) (zero one : SlotHeader) → Says topic disk zero one (Read slot spare)
+    → (c : Image) (bodies : Bodies) → slots.failed ≡ false → LogHolds slots.log c bodies → ((s : CursorSlot) → c (Slot topic s) ≡ disk.seen (Slot topic s)) → Holds slots c bodies
+held slots topic slot spare are disk zero one says c bodies works holds same =
+    let file : (log_id slots.log).file ≡ Slot topic slot = slots.is_slot ∙ (λ i. Slot (are.topic_is i) (are.slot_is i)) in
+    let log : IsLog (generation_of slots) bodies (disk.seen (Slot topic slot)) = subst (λ (l : List ℕ). IsLog (generation_of slots) bodies l) (ap c file ∙ same slot) holds.file.is in
+    let beside = read_beside topic disk zero one slot spare (generation_of slots) bodies says log in
+    let other : c (Slot slots.topic (other_of slots.counts)) ≡ disk.seen (Slot topic (other_of slot)) = (λ i. c (Slot (are.topic_is i) (other_of (are.slot_is i)))) ∙ same (other_of slot) in
+    record {
+      works = works;
+      log = holds;
+      in_range = beside.0;
+      spare = subst (λ (k : Spare). IsSpare k (generation_of slots) (c (Slot slots.topic (other_of slots.counts)))) (sym are.spare_is)
+          (subst (λ (l : List ℕ). IsSpare spare (generation_of slots) l) (sym other) beside.1);
+    }
+
+-- the value that an opening makes
+pub read_settled : (slots : TwoSlot) (topic : ℕ) (slot : CursorSlot) (spare : Spare) → AreRead slots topic slot spare → (d0 d1 : Disk) (zero one : SlotHeader) → Says topic d0 zero one (Read slot spare)
+    → (bodies : Bodies) → slots.failed ≡ false → d1.seen ≡ d0.seen → Leaves d0.may_leave d0 d1 → Settled (LogHolds slots.log) d1 bodies → Settled (Holds slots) d1 bodies
+read_settled slots topic slot spare are d0 d1 zero one says bodies works same leaves s = record {
+  honest = s.honest;
+  now = held slots topic slot spare are d0 zero one says d1.seen bodies works s.now (λ k. ap (λ (i : Image). i (Slot topic k)) same);
+  left = λ c may. held slots topic slot spare are d0 zero one says c bodies works (s.left c may) (λ k. says.synced k c (leaves.now c may));
+}
+
+pub head_there : (heads : SlotHeads) (disk : Disk) (slot : CursorSlot) → HaveHeads heads disk → HasHead (head_in heads slot) disk
+head_there heads disk Zero are = are.zero
+head_there heads disk One are = are.one

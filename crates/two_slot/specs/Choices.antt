@@ -9,18 +9,18 @@ use Rattle.two_slot.specs.declared.slot_header.HeaderFault.TheVariants.{Damage}
 use Rattle.two_slot.specs.declared.spare.Spare.{Spare}
 use Rattle.two_slot.specs.declared.spare.Spare.TheVariants.{Short, Shut, Lower}
 
--- Slot 0 is open with this generation: the greater one counts. Two slots of one generation are damage of slot 1.
+-- Slot 0 is open with this generation: the greater one counts, and of one generation slot 0, behind which that is damage of
+-- slot 1.
 abbrev pub if_open : ℕ → SlotHeader → Choice
 if_open generation CutShort = Read Zero Short
 if_open generation Closed = Read Zero Shut
 if_open generation (Open other) =
     if nat_lt other generation then Read Zero Lower
     else if nat_lt generation other then Read One Lower
-    else Refuse One Damage
+    else ReadZero Damage
 if_open generation (Faulty other fault) =
-    if nat_lt other generation then ReadZero fault
-    else if nat_lt generation other then Refuse One fault
-    else Refuse One Damage
+    if nat_lt generation other then Refuse One fault
+    else ReadZero fault
 
 -- Slot 0 is closed: slot 1 counts, where it is open. That none is open is damage of slot 0.
 abbrev pub if_closed : Spare → SlotHeader → Choice

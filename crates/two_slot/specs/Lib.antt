@@ -2,9 +2,9 @@ pub mod Slots
 pub mod SlotHeaders
 pub mod Choices
 pub mod TwoSlots
-pub mod Findings
+pub mod Heads
+pub mod Faults
 pub mod Local
 pub mod One
 pub mod Fresh
 pub mod Standing
-pub mod ByHeader

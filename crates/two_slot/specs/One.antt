@@ -1,4 +1,4 @@
--- Two slots stand for one list, and an opening finds one thing in them.
+-- Two slots stand for one list, and have one first fault.
 use Rattle.std.proofs.Common.{◌≡◌, inl, inr, ⊎_elim, ℕ, ◌+◌, ◌≤◌, ◌<◌, ◌^◌, List, [], ◌∷◌, ◌++◌, length, take, drop, refl, sym, ◌∙◌, ap, subst, arith, append_assoc, length-append}
 use Rattle.std.specs.Int.{w64, from_le_bytes}
 use Rattle.std.proofs.lemmas.Nat.{from_le_bytes-to_le_bytes_8}
@@ -7,9 +7,12 @@ use Rattle.disk.specs.declared.file_id.CursorSlot.TheVariants.{Zero, One}
 use Rattle.disk.specs.declared.file_id.FileId.TheVariants.{Slot}
 use Rattle.disk.specs.Disk.{Image}
 use Rattle.gated_log.specs.Batches.{Bodies, mark, header, batches, opened, IsLog}
-use Rattle.gated_log.specs.Headers.{HasOpenHeader, IsHeaderDamaged, IsOtherVersion, IsOpen}
-use Rattle.gated_log.specs.Findings.{Finding as LogFinding}
-use Rattle.gated_log.specs.One.{log_one, finding_one}
+use Rattle.gated_log.specs.Headers.{HasOpenHeader, IsHeaderDamaged, IsOtherVersion, IsOpen, number_in}
+use Rattle.gated_log.specs.declared.refusal.Refusal.{Refusal}
+use Rattle.gated_log.specs.Folds.{Link, Form, grown, IsFault}
+use Rattle.gated_log.specs.One.{version_open, version_not_damaged}
+use Rattle.gated_log.specs.OneFault.{log_one}
+use Rattle.gated_log.specs.OneFault.{fault_one as file_fault_one, log_no_fault}
 use Rattle.two_slot.specs.declared.slot_header.SlotHeader.{SlotHeader}
 use Rattle.two_slot.specs.declared.slot_header.SlotHeader.TheVariants.{CutShort, Closed, Open, Faulty}
 use Rattle.two_slot.specs.declared.slot_header.HeaderFault.{HeaderFault}
@@ -17,12 +20,12 @@ use Rattle.two_slot.specs.declared.slot_header.HeaderFault.TheVariants.{Damage a
 use Rattle.two_slot.specs.declared.choice.Choice.{Choice}
 use Rattle.two_slot.specs.declared.choice.Choice.TheVariants.{Refuse, Read, ReadZero}
 use Rattle.two_slot.specs.Slots.{other_of, Yields, Counts, Stands}
-use Rattle.two_slot.specs.SlotHeaders.{generation_in, IsFaulty, IsSlotHeader}
+use Rattle.two_slot.specs.SlotHeaders.{HasLastGeneration, IsFaulty, IsSlotHeader}
 use Rattle.two_slot.specs.Choices.{choice}
-use Rattle.two_slot.specs.Findings.{Finding, log_finding, fault_behind, FindsBy, Finds}
+use Rattle.two_slot.specs.Faults.{IsOf, IsFaultBy, IsSlotsFault}
 
 -- the generation in an open header
-pub open_generation : (n : ℕ) (file : List ℕ) → IsOpen n file → generation_in file ≡ n
+pub open_generation : (n : ℕ) (file : List ℕ) → IsOpen n file → number_in file ≡ n
 open_generation n file is = ap (λ (l : List ℕ). from_le_bytes w64 (take 8 (drop 8 l))) is.bytes ∙ from_le_bytes-to_le_bytes_8 n is.in_range
 
 pub generation_one : (n m : ℕ) (file : List ℕ) → IsOpen n file → IsOpen m file → n ≡ m
@@ -64,16 +67,10 @@ pub slots_one : (topic : ℕ) (image : Image) (one other : Bodies) → Stands to
 slots_one topic image one other is is' = counting_one topic image one other is.slot is'.slot is.generation is'.generation is.counts is'.counts
 
 -- the faults of an open header exclude one another and a good header
-damaged_open : (file : List ℕ) → IsFaulty file HeaderDamage → HasOpenHeader file
-damaged_open file (inl is) = is.0
-damaged_open file (inr is) = is.0
-
-pub version_open : (file : List ℕ) → IsOtherVersion file → HasOpenHeader file
-version_open file is = record { rest = mark ++ is.version ∷ is.rest; bytes = is.bytes; whole = omega (arith, is.long, ap length is.bytes) }
-
-faulty_open : (file : List ℕ) (fault : HeaderFault) → IsFaulty file fault → HasOpenHeader file
-faulty_open file HeaderDamage is = damaged_open file is
-faulty_open file HeaderVersion is = version_open file is.0
+pub faulty_open : (file : List ℕ) (fault : HeaderFault) → IsFaulty file fault → HasOpenHeader file
+faulty_open file HeaderDamage (inl is) = is.0
+faulty_open file HeaderDamage (inr is) = open_gate is.generation file is.is_open
+faulty_open file HeaderVersion is = version_open file is
 
 good_not_damaged : (n : ℕ) (file : List ℕ) → 17 ≤ length file → IsOpen n file → IsHeaderDamaged file → ⊥
 good_not_damaged n file long is damaged =
@@ -89,22 +86,18 @@ good_version n file is other =
     head_of [] = 0
     head_of (x ∷ xs) = x
 
-version_not_damaged : (file : List ℕ) → IsOtherVersion file → IsHeaderDamaged file → ⊥
-version_not_damaged file is damaged =
-    ⊎_elim (λ other. other (ap (λ (l : List ℕ). take 6 (drop 1 l)) is.bytes)) (λ short. absurd (omega (arith, short, is.long))) damaged.1
-
 good_not_faulty : (n : ℕ) (file : List ℕ) (fault : HeaderFault) → 17 ≤ length file → IsOpen n file → n + 1 < 2 ^ 64 → IsFaulty file fault → ⊥
 good_not_faulty n file HeaderDamage long is small (inl damaged) = good_not_damaged n file long is damaged
-good_not_faulty n file HeaderDamage long is small (inr last) = absurd (omega (arith, small, last.1, open_generation n file is))
-good_not_faulty n file HeaderVersion long is small other = good_version n file is other.0
+good_not_faulty n file HeaderDamage long is small (inr last) = absurd (omega (arith, small, last.last, generation_one n last.generation file is last.is_open))
+good_not_faulty n file HeaderVersion long is small other = good_version n file is other
 
-fault_one : (file : List ℕ) (one other : HeaderFault) → IsFaulty file one → IsFaulty file other → one ≡ other
-fault_one file HeaderDamage HeaderDamage is is' = refl
-fault_one file HeaderDamage HeaderVersion (inl is) is' = absurd (version_not_damaged file is'.0 is)
-fault_one file HeaderDamage HeaderVersion (inr is) is' = absurd (omega (arith, is.1, is'.1))
-fault_one file HeaderVersion HeaderDamage is (inl is') = absurd (version_not_damaged file is.0 is')
-fault_one file HeaderVersion HeaderDamage is (inr is') = absurd (omega (arith, is.1, is'.1))
-fault_one file HeaderVersion HeaderVersion is is' = refl
+header_fault_one : (file : List ℕ) (one other : HeaderFault) → IsFaulty file one → IsFaulty file other → one ≡ other
+header_fault_one file HeaderDamage HeaderDamage is is' = refl
+header_fault_one file HeaderDamage HeaderVersion (inl is) is' = absurd (version_not_damaged file is' is)
+header_fault_one file HeaderDamage HeaderVersion (inr is) is' = absurd (good_version is.generation file is.is_open is')
+header_fault_one file HeaderVersion HeaderDamage is (inl is') = absurd (version_not_damaged file is is')
+header_fault_one file HeaderVersion HeaderDamage is (inr is') = absurd (good_version is'.generation file is'.is_open is)
+header_fault_one file HeaderVersion HeaderVersion is is' = refl
 
 short_not_open : (file : List ℕ) → length file < 16 → HasOpenHeader file → ⊥
 short_not_open file short is = absurd (omega (arith, short, ap length is.bytes, is.whole))
@@ -125,16 +118,23 @@ header_one file (Open n) (Faulty m fault) is is' = absurd (good_not_faulty n fil
 header_one file (Faulty n fault) CutShort is is' = absurd (short_not_open file is' (faulty_open file fault is.1))
 header_one file (Faulty n fault) Closed is is' = absurd (is'.0 (faulty_open file fault is.1))
 header_one file (Faulty n fault) (Open m) is is' = absurd (good_not_faulty m file fault is'.0 is'.1 is'.2 is.1)
-header_one file (Faulty n fault) (Faulty m fault') is is' = let generations = is.0 ∙ sym is'.0 in let faults = fault_one file fault fault' is.1 is'.1 in (λ i. Faulty (generations i) (faults i))
+header_one file (Faulty n fault) (Faulty m fault') is is' = let generations = is.0 ∙ sym is'.0 in let faults = header_fault_one file fault fault' is.1 is'.1 in (λ i. Faulty (generations i) (faults i))
 
-found_by_one : (by : Choice) (topic : ℕ) (image : Image) (one other : Finding) → FindsBy by topic image one → FindsBy by topic image other → one ≡ other
-found_by_one (Refuse slot fault) topic image one other is is' = is ∙ sym is'
-found_by_one (Read slot spare) topic image one other is is' = is.2 ∙ ap (λ (f : LogFinding). log_finding slot f) (finding_one _ is.0 is'.0 is.1 is'.1) ∙ sym is'.2
-found_by_one (ReadZero fault) topic image one other is is' = is.2 ∙ ap (λ (f : LogFinding). fault_behind fault f) (finding_one _ is.0 is'.0 is.1 is'.1) ∙ sym is'.2
+-- the choice of the headers
+pub choice_one : (topic : ℕ) (image : Image) (zero one zero' one' : SlotHeader) → IsSlotHeader (image (Slot topic Zero)) zero → IsSlotHeader (image (Slot topic One)) one → IsSlotHeader (image (Slot topic Zero)) zero' → IsSlotHeader (image (Slot topic One)) one'
+    → choice zero one ≡ choice zero' one'
+choice_one topic image zero one zero' one' a b a' b' = λ i. choice (header_one (image (Slot topic Zero)) zero zero' a a' i) (header_one (image (Slot topic One)) one one' b b' i)
 
-pub finds_one : (topic : ℕ) (image : Image) (one other : Finding) → Finds topic image one → Finds topic image other → one ≡ other
-finds_one topic image one other is is' =
-    let zeros : is'.zero ≡ is.zero = header_one _ is'.zero is.zero is'.zero_is is.zero_is in
-    let ones : is'.one ≡ is.one = header_one _ is'.one is.one is'.one_is is.one_is in
-    let by : choice is'.zero is'.one ≡ choice is.zero is.one = λ i. choice (zeros i) (ones i) in
-    found_by_one (choice is.zero is.one) topic image one other is.found (subst (λ (c : Choice). FindsBy c topic image other) by is'.found)
+module _ (form : Form) (less : (log : Link) (body : List ℕ) → form (grown log body) → form log) where
+  by_one : (by : Choice) (topic : ℕ) (image : Image) (one other : Refusal) → IsFaultBy by form topic image one → IsFaultBy by form topic image other → one ≡ other
+  by_one (Refuse slot fault) topic image one other is is' = is ∙ sym is'
+  by_one (Read slot spare) topic image one other is is' = file_fault_one form less (Slot topic slot) (image (Slot topic slot)) one other is is'
+  by_one (ReadZero fault) topic image one other (inl is) (inl is') = file_fault_one form less (Slot topic Zero) (image (Slot topic Zero)) one other is is'
+  by_one (ReadZero fault) topic image one other (inl is) (inr good) = absurd (log_no_fault form less good.0.0 (Slot topic Zero) (image (Slot topic Zero)) one good.0.1 good.0.2 is)
+  by_one (ReadZero fault) topic image one other (inr good) (inl is') = absurd (log_no_fault form less good.0.0 (Slot topic Zero) (image (Slot topic Zero)) other good.0.1 good.0.2 is')
+  by_one (ReadZero fault) topic image one other (inr good) (inr good') = good.1 ∙ sym good'.1
+
+  pub slots_fault_one : (topic : ℕ) (image : Image) (one other : Refusal) → IsSlotsFault form topic image one → IsSlotsFault form topic image other → one ≡ other
+  slots_fault_one topic image one other is is' =
+      let by = choice_one topic image is.zero is.one is'.zero is'.one is.zero_is is.one_is is'.zero_is is'.one_is in
+      by_one (choice is'.zero is'.one) topic image one other (subst (λ (c : Choice). IsFaultBy c form topic image one) by is.fault) is'.fault

@@ -1,4 +1,4 @@
--- Slots that stand for bodies are found so.
+-- Slots that stand for bodies have no fault.
 use Rattle.std.proofs.Common.{◌≡◌, inl, inr, ℕ, ◌+◌, ◌<◌, ◌^◌, Bool, true, false, List, length, refl, sym, ◌∙◌, subst, arith}
 use Rattle.std.specs.Prelude.{nat_lt, if◌then◌else◌}
 use Rattle.std.proofs.lemmas.Bool.{cases_lt}
@@ -8,7 +8,9 @@ use Rattle.disk.specs.declared.file_id.CursorSlot.TheVariants.{Zero, One}
 use Rattle.disk.specs.declared.file_id.FileId.TheVariants.{Slot}
 use Rattle.disk.specs.Disk.{Image}
 use Rattle.gated_log.specs.Batches.{Bodies}
-use Rattle.gated_log.specs.Findings.{Batches}
+use Rattle.gated_log.specs.declared.refusal.Refusal.{Refusal}
+use Rattle.gated_log.specs.Folds.{Link, Form, grown}
+use Rattle.gated_log.specs.OneFault.{log_no_fault}
 use Rattle.two_slot.specs.declared.slot_header.SlotHeader.{SlotHeader}
 use Rattle.two_slot.specs.declared.slot_header.SlotHeader.TheVariants.{CutShort, Closed, Open, Faulty}
 use Rattle.two_slot.specs.declared.choice.Choice.{Choice}
@@ -18,8 +20,8 @@ use Rattle.two_slot.specs.declared.spare.Spare.TheVariants.{Short, Shut, Lower}
 use Rattle.two_slot.specs.Slots.{other_of, Yields, Counts, Stands}
 use Rattle.two_slot.specs.SlotHeaders.{IsSlotHeader}
 use Rattle.two_slot.specs.Choices.{choice}
-use Rattle.two_slot.specs.Findings.{Counting, FindsBy, Finds}
-use Rattle.two_slot.specs.One.{log_open, log_long}
+use Rattle.two_slot.specs.Faults.{IsFaultBy, IsSlotsFault}
+use Rattle.two_slot.specs.One.{log_open, log_long, choice_one}
 
 -- a header that yields to this generation
 abbrev IsYielding : ℕ → SlotHeader → Type 0
@@ -56,29 +58,32 @@ one_read g (Open h) yields =
     (Lower, passed (Read Zero Lower) _ (nat_lt g h) t ∙ taken (Read One Lower) _ (nat_lt h g) u)
 one_read g (Faulty h fault) yields = absurd yields
 
-counting : (topic : ℕ) (image : Image) (bodies : Bodies) (slot : CursorSlot) (g : ℕ) → Counts g bodies (image (Slot topic slot)) (image (Slot topic (other_of slot))) → Finds topic image (Counting slot g bodies)
+-- By their headers this slot is read.
+pub record AreReadAt (topic : ℕ) (image : Image) (slot : CursorSlot) : Type 0 where
+  pub zero : SlotHeader
+  pub one : SlotHeader
+  pub zero_is : IsSlotHeader (image (Slot topic Zero)) zero
+  pub one_is : IsSlotHeader (image (Slot topic One)) one
+  pub spare : Spare
+  pub choice_is : choice zero one ≡ Read slot spare
+
+counting : (topic : ℕ) (image : Image) (bodies : Bodies) (slot : CursorSlot) (g : ℕ) → Counts g bodies (image (Slot topic slot)) (image (Slot topic (other_of slot))) → AreReadAt topic image slot
 counting topic image bodies Zero g is =
     let file = image (Slot topic Zero) in
     let one = yielding g (image (Slot topic One)) is.in_range is.yields in
     let read = zero_read g one.0 one.2 in
-    record {
-      zero = Open g;
-      one = one.0;
-      zero_is = (log_long g bodies file is.is, log_open g bodies file is.is, is.in_range);
-      one_is = one.1;
-      found = subst (λ (by : Choice). FindsBy by topic image (Counting Zero g bodies)) (sym read.1) (Batches g bodies, is.is, refl);
-    }
+    record { zero = Open g; one = one.0; zero_is = (log_long g bodies file is.is, log_open g bodies file is.is, is.in_range); one_is = one.1; spare = read.0; choice_is = read.1 }
 counting topic image bodies One g is =
     let file = image (Slot topic One) in
     let zero = yielding g (image (Slot topic Zero)) is.in_range is.yields in
     let read = one_read g zero.0 zero.2 in
-    record {
-      zero = zero.0;
-      one = Open g;
-      zero_is = zero.1;
-      one_is = (log_long g bodies file is.is, log_open g bodies file is.is, is.in_range);
-      found = subst (λ (by : Choice). FindsBy by topic image (Counting One g bodies)) (sym read.1) (Batches g bodies, is.is, refl);
-    }
+    record { zero = zero.0; one = Open g; zero_is = zero.1; one_is = (log_long g bodies file is.is, log_open g bodies file is.is, is.in_range); spare = read.0; choice_is = read.1 }
 
-pub standing_found : (topic : ℕ) (image : Image) (bodies : Bodies) → Stands topic image bodies → (slot : CursorSlot) × (generation : ℕ) × Finds topic image (Counting slot generation bodies)
-standing_found topic image bodies is = (is.slot, is.generation, counting topic image bodies is.slot is.generation is.counts)
+-- Slots that stand for a log of the form have no fault.
+pub slots_no_fault : (form : Form) → ((log : Link) (body : List ℕ) → form (grown log body) → form log) → (topic : ℕ) (image : Image) (bodies : Bodies) (refusal : Refusal) (stands : Stands topic image bodies)
+    → form (record { number = stands.generation; bodies = bodies }) → IsSlotsFault form topic image refusal → ⊥
+slots_no_fault form less topic image bodies refusal stands formed is =
+    let read = counting topic image bodies stands.slot stands.generation stands.counts in
+    let by = choice_one topic image is.zero is.one read.zero read.one is.zero_is is.one_is read.zero_is read.one_is ∙ read.choice_is in
+    let fault = subst (λ (c : Choice). IsFaultBy c form topic image refusal) by is.fault in
+    log_no_fault form less (record { number = stands.generation; bodies = bodies }) (Slot topic stands.slot) (image (Slot topic stands.slot)) refusal formed stands.counts.is fault

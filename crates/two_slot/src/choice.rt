@@ -31,16 +31,13 @@ fn choose_if_open(generation: u64, one: SlotHeader) -> Choice
             if generation < other {
                 return Choice::Read(CursorSlot::One, Spare::Lower);
             }
-            Choice::Refuse(CursorSlot::One, HeaderFault::Damage)
+            Choice::ReadZero(HeaderFault::Damage)
         }
         SlotHeader::Faulty(other, fault) => {
-            if other < generation {
-                return Choice::ReadZero(fault);
-            }
             if generation < other {
                 return Choice::Refuse(CursorSlot::One, fault);
             }
-            Choice::Refuse(CursorSlot::One, HeaderFault::Damage)
+            Choice::ReadZero(fault)
         }
     }
 }

@@ -1,11 +1,14 @@
 // Laws of two slots.
-ghost use Rattle.std.specs.Prelude.{◌≡◌, ℕ};
-ghost use Rattle.disk.specs.declared.file_id.CursorSlot.{CursorSlot};
+ghost use Rattle.std.specs.Prelude.{◌≡◌, ℕ, [], ◌∷◌};
 ghost use Rattle.disk.specs.Disk.{Image};
 ghost use Rattle.disk.specs.Areas.{Agree};
+ghost use Rattle.gated_log.specs.declared.refusal.Refusal.{Refusal};
 ghost use Rattle.gated_log.specs.Batches.{Bodies};
+ghost use Rattle.gated_log.specs.Folds.{behind};
 ghost use Rattle.two_slot.specs.Slots.{SlotsOf, Stands};
-ghost use Rattle.two_slot.specs.Findings.{Finding, Finds, Counting};
+ghost use Rattle.two_slot.specs.Faults.{IsSlotsFault};
+
+use gated_log::Fold;
 
 /// Two slots stand for one list of bodies, whatever the one that doesn't count holds.
 pub fn slots_stand_for_one_list()
@@ -17,12 +20,12 @@ pub fn slots_are_their_own_files()
     ensures { (topic : ℕ) (a b : Image) (bodies : Bodies) → Agree (SlotsOf topic) a b → Stands topic a bodies → Stands topic b bodies }
 {}
 
-/// An opening finds one thing in the slots of a topic: a slot that counts, or the first fault.
-pub fn slots_have_one_finding()
-    ensures { (topic : ℕ) (image : Image) (one other : Finding) → Finds topic image one → Finds topic image other → one ≡ other }
+/// The slots of a topic have one first fault, whatever fold reads them.
+pub fn slots_have_one_fault<F: Fold>()
+    ensures { (rule : F.Rule) (topic : ℕ) (image : Image) (one other : Refusal) → IsSlotsFault (behind (F.form rule) []) topic image one → IsSlotsFault (behind (F.form rule) []) topic image other → one ≡ other }
 {}
 
-/// Where the slots stand for bodies, an opening finds them.
-pub fn slots_that_stand_are_found()
-    ensures { (topic : ℕ) (image : Image) (bodies : Bodies) → Stands topic image bodies → (slot : CursorSlot) × (generation : ℕ) × Finds topic image (Counting slot generation bodies) }
+/// And those that stand for a log of its form have none.
+pub fn slots_have_no_fault<F: Fold>()
+    ensures { (rule : F.Rule) (topic : ℕ) (image : Image) (bodies : Bodies) (refusal : Refusal) (stands : Stands topic image bodies) → F.form rule (record { number = stands.generation; bodies = bodies } ∷ []) → ¬ IsSlotsFault (behind (F.form rule) []) topic image refusal }
 {}

@@ -5,8 +5,8 @@
 
 mod append;
 mod choice;
-mod counting;
 mod create;
+mod heads;
 mod law;
 mod open;
 mod slot_header;
@@ -14,8 +14,7 @@ mod spare;
 mod two_slot;
 
 pub use law::{
-    slots_are_their_own_files, slots_have_one_finding, slots_stand_for_one_list,
-    slots_that_stand_are_found,
+    slots_are_their_own_files, slots_have_no_fault, slots_have_one_fault, slots_stand_for_one_list,
 };
 pub use spare::Spare;
 pub use two_slot::TwoSlot;

@@ -1,8 +1,9 @@
 // The header of a slot.
-ghost use Rattle.std.specs.Prelude.{◌≡◌, ◌≤◌, List, ℕ, length, take};
+ghost use Rattle.disk.specs.Disk.{Image};
+ghost use Rattle.gated_log.specs.Head.{IsHead, head_file};
 ghost use Rattle.two_slot.specs.SlotHeaders.{IsSlotHeader};
 
-use gated_log::{AtHeader, at_header};
+use gated_log::{AtHeader, LogHead};
 
 /// Why the header of a slot is refused.
 #[derive(Clone, Copy, Debug, PartialEq, Eq)]
@@ -29,29 +30,22 @@ pub enum SlotHeader {
 // The generation that no header has.
 const NO_GENERATION: u64 = u64::MAX;
 
-// What the first seventeen bytes of a slot say, or all that there are.
-pub(crate) fn header_of(head: &[u8]) -> SlotHeader
-    requires { length head.now ≤ 17 }
-    ensures { (file : List ℕ) → head.now ≡ take 17 file → IsSlotHeader file result }
+// What the head of a slot says.
+pub(crate) fn header_of(head: &LogHead) -> SlotHeader
+    ensures { (image : Image) → IsHead head.now image → IsSlotHeader (image (head_file head.now)) result }
 {
-    let [_, _, _, _, _, _, _, _, a, b, c, d, e, f, g, h, ..] = head else {
+    if head.size() < 16 {
         return SlotHeader::CutShort;
-    };
-    let generation = u64::from_le_bytes([*a, *b, *c, *d, *e, *f, *g, *h]);
-    match at_header(head) {
+    }
+    match head.header() {
         AtHeader::Closed => SlotHeader::Closed,
-        AtHeader::Damaged => SlotHeader::Faulty(generation, HeaderFault::Damage),
-        AtHeader::OtherVersion => {
+        AtHeader::Damaged => SlotHeader::Faulty(head.number(), HeaderFault::Damage),
+        AtHeader::OtherVersion => SlotHeader::Faulty(head.number(), HeaderFault::Version),
+        AtHeader::Number(generation) => {
             if generation == NO_GENERATION {
-                return SlotHeader::Faulty(generation, HeaderFault::Damage);
+                return SlotHeader::Faulty(head.number(), HeaderFault::Damage);
             }
-            SlotHeader::Faulty(generation, HeaderFault::Version)
-        }
-        AtHeader::Number(number) => {
-            if number == NO_GENERATION {
-                return SlotHeader::Faulty(generation, HeaderFault::Damage);
-            }
-            SlotHeader::Open(number)
+            SlotHeader::Open(generation)
         }
     }
 }

@@ -1,13 +1,16 @@
 // Each list and each answer was worked out by hand from the format of the files.
 mod answers;
 mod headers;
+mod openings;
 mod stops;
+mod taken;
 
 use disk::{CursorSlot, DeviceError, FileId, Shelf};
 use disk_mem::MemShelf;
 use gated_log::{BatchList, ReadError, Refusal};
 use std::alloc::Global;
 use std::test::Fail;
+use taken::Taken;
 use two_slot::TwoSlot;
 
 const TOPIC: u16 = 3;
@@ -43,9 +46,14 @@ fn read_answer<T: Drop>(answered: Result<T, ReadError>) -> Result<Result<T, Read
     }
 }
 
+// The slots that are opened; what they hand over is dropped.
+fn open(alloc: Global, shelf: &mut MemShelf) -> Result<TwoSlot, Refusal> {
+    TwoSlot::open_with(alloc, shelf, TOPIC, &mut Taken::new(alloc))
+}
+
 // What an opening finds: the number of bodies, or why it refuses.
 fn found(alloc: Global, shelf: &mut MemShelf) -> Result<Found, Refusal> {
-    match TwoSlot::open(alloc, shelf, TOPIC) {
+    match open(alloc, shelf) {
         Ok(slots) => Ok(Ok(slots.count())),
         Err(e) => answer(Err(e)),
     }

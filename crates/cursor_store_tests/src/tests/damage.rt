@@ -222,6 +222,45 @@ fn a_body_goes_before_the_header_of_slot_one(rt: HostRuntime) -> Result<(), Fail
     Ok(())
 }
 
+// An open header of the generation of slot 0, with a closing gate.
+const OF_ONE: [u8; 17] = [
+    1, 0x50, 0x55, 0x4c, 0x53, 0x41, 0x52, 1, 1, 0, 0, 0, 0, 0, 0, 0, 0,
+];
+
+// Slot 1 has such a header: slot 0 counts, and its bodies are judged before that is told as damage of slot 1.
+#[test]
+fn a_body_goes_before_an_equal_generation(rt: HostRuntime) -> Result<(), Fail> {
+    let mut shelf = roomy(rt.alloc())?;
+    lay(&mut shelf, ONE, &OF_ONE)?;
+    let bad = found_in(rt.alloc(), &mut shelf, &[&MADE_S, &[7]], &[0]);
+    let good = found_in(rt.alloc(), &mut shelf, &[&MADE_S], &[0]);
+    drop(shelf);
+    let damaged = Err(Refusal::Damaged {
+        file: ONE,
+        offset: 0,
+    });
+    assert_eq!(rt; (bad?, good?), (DAMAGED, damaged));
+    Ok(())
+}
+
+// A header of another version and of the last generation.
+const LAST_OF_ANOTHER_VERSION: [u8; 17] = [
+    1, 0x50, 0x55, 0x4c, 0x53, 0x41, 0x52, 9, 0xff, 0xff, 0xff, 0xff, 0xff, 0xff, 0xff, 0xff, 0,
+];
+
+// Its version is told, and before the bodies of a slot 0 of a lower generation.
+#[test]
+fn a_version_goes_before_a_generation(rt: HostRuntime) -> Result<(), Fail> {
+    let mut shelf = roomy(rt.alloc())?;
+    lay(&mut shelf, ONE, &LAST_OF_ANOTHER_VERSION)?;
+    let beside_bodies = found_in(rt.alloc(), &mut shelf, &[&MADE_S, &[7]], &[0]);
+    let of_zero = beside_closed(rt.alloc(), &mut shelf, &LAST_OF_ANOTHER_VERSION);
+    drop(shelf);
+    let version = Err(Refusal::Version);
+    assert_eq!(rt; (beside_bodies?, of_zero?), (version, version));
+    Ok(())
+}
+
 // Adds the body that makes so many subscriptions, each with a name of two letters.
 fn make(body: &mut Vec<u8>, count: u8) -> Result<(), AllocError> {
     body.push(0)?;

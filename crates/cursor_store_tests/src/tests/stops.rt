@@ -1,7 +1,7 @@
 // A call of the device fails, once or until the power does, and a crash of each form follows.
 use super::{ENTRIES, Kind, ONE, TOPIC, ZERO, answer, append, found, keeps_s, lay, roomy};
 use cursor_store::{CursorStore, SubStore};
-use disk::{CrashForm, CrashShelf, Fuse};
+use disk::{CrashForm, CrashShelf, Fuse, Shelf};
 use disk_mem::MemShelf;
 use gated_log::Refusal;
 use std::alloc::{AllocError, Global};
@@ -145,11 +145,11 @@ fn each_call_of_an_append_fails_in_each_crash(rt: HostRuntime) -> Result<(), Fai
     Ok(())
 }
 
-// The syncs of slot 0, slot 1 and the one that counts, before its bodies are judged, and again as the slots are opened.
+// The syncs of slot 0, which counts, and of slot 1.
 #[test]
 fn each_call_of_an_opening_fails_in_each_crash(rt: HostRuntime) -> Result<(), Fail> {
     let mut shelf = roomy(rt.alloc())?;
-    let wrong = first_wrong(Trial::Opening, 7, rt.alloc(), &mut shelf);
+    let wrong = first_wrong(Trial::Opening, 3, rt.alloc(), &mut shelf);
     drop(shelf);
     assert_eq!(rt; wrong?, None);
     Ok(())
@@ -158,7 +158,7 @@ fn each_call_of_an_opening_fails_in_each_crash(rt: HostRuntime) -> Result<(), Fa
 // The first read that doesn't refuse an opening, or behind which another one doesn't find the store.
 fn first_read(alloc: Global, shelf: &mut MemShelf) -> Result<Option<u64>, Refusal> {
     with_s(alloc, shelf)?;
-    for call in 1..12u64 {
+    for call in 1..6u64 {
         shelf.arm(Fuse::FailRead(call))?;
         let refused = found(alloc, shelf)? == Err(Refusal::Device);
         if !refused || found(alloc, shelf)? != Ok(1) {
@@ -168,14 +168,32 @@ fn first_read(alloc: Global, shelf: &mut MemShelf) -> Result<Option<u64>, Refusa
     Ok(None)
 }
 
-// The headers of both slots; of slot 0 the header, a gate, its body and the closing gate; then, as the slots are opened, both
-// headers, and of slot 0 the header and both gates.
+// The headers of both slots; of slot 0, which counts, a gate, its body and the closing gate.
 #[test]
 fn a_read_that_fails_refuses_an_opening(rt: HostRuntime) -> Result<(), Fail> {
     let mut shelf = roomy(rt.alloc())?;
     let wrong = first_read(rt.alloc(), &mut shelf);
     drop(shelf);
     assert_eq!(rt; wrong?, None);
+    Ok(())
+}
+
+// Whether the store is found, where a sync more than two or a read more than five would fail; and whether these fail then.
+fn opens_once(alloc: Global, shelf: &mut MemShelf) -> Result<(bool, bool), Refusal> {
+    with_s(alloc, shelf)?;
+    shelf.arm(Fuse::Fail(3))?;
+    shelf.arm(Fuse::FailRead(6))?;
+    let opened = found(alloc, shelf)? == Ok(1);
+    let ended = shelf.sync(ONE).is_err() && shelf.read(ONE, 0, &mut [0; 1]).is_err();
+    Ok((opened, ended))
+}
+
+#[test]
+fn an_opening_syncs_and_reads_its_files_once(rt: HostRuntime) -> Result<(), Fail> {
+    let mut shelf = roomy(rt.alloc())?;
+    let seen = opens_once(rt.alloc(), &mut shelf);
+    drop(shelf);
+    assert_eq!(rt; seen?, (true, true));
     Ok(())
 }
 

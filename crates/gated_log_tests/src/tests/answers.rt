@@ -1,4 +1,5 @@
 // The bytes of a file, and the answer of each call.
+use super::taken::Taken;
 use super::{FILE, NUMBER, contents, roomy};
 use disk::{FileId, Shelf};
 use gated_log::{BatchBuilder, BatchList, GatedLog, LogId, PreparedBatch, Room};
@@ -55,7 +56,8 @@ fn each_call_answers(rt: HostRuntime) -> Result<(), Fail> {
 fn an_opening_has_memory_where_there_is_some(rt: HostRuntime) -> Result<(), Fail> {
     let mut shelf = roomy(rt.alloc())?;
     shelf.write_at(FILE, 0, &WITH_ABC)?;
-    let log = GatedLog::open(rt.alloc(), &mut shelf, FILE)?;
+    let mut taken = Taken::new(rt.alloc());
+    let log = GatedLog::open_with(rt.alloc(), &mut shelf, FILE, &mut taken)?;
     assert_eq!(rt;
         log.id(),
         LogId {

@@ -1,5 +1,5 @@
 // The bytes of a chain, and the answer of each call.
-use super::{append, contents, lay, read_answer, roll, roomy, segment};
+use super::{append, contents, lay, open, read_answer, roll, roomy, segment};
 use disk::{CrashShelf, Fuse};
 use gated_log::ReadError;
 use journal::Journal;
@@ -62,7 +62,7 @@ fn an_opening_has_memory_where_there_is_some(rt: HostRuntime) -> Result<(), Fail
     let mut shelf = roomy(rt.alloc())?;
     lay(&mut shelf, segment(0), &ENDED)?;
     lay(&mut shelf, segment(1), &LAST)?;
-    let journal = Journal::open(rt.alloc(), &mut shelf, 3)?;
+    let journal = open(rt.alloc(), &mut shelf)?;
     assert_eq!(rt; journal.topic(), 3);
     assert_eq!(rt; journal.segments(), 2);
     assert_eq!(rt; journal.last_count(), 1);

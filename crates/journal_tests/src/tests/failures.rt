@@ -3,7 +3,7 @@ use super::{
     answer, append, chain_gone_on, contents, damaged, found, lay, prepared, read_answer, roll,
     roomy, segment,
 };
-use disk::{CrashShelf, DeviceError, Fuse};
+use disk::{CrashShelf, DeviceError, Fuse, Shelf};
 use disk_mem::MemShelf;
 use gated_log::{ReadError, Refusal};
 use journal::Journal;
@@ -126,6 +126,11 @@ fn a_failing_call_of_an_opening_refuses_it(rt: HostRuntime) -> Result<(), Fail> 
         let opened = found(rt.alloc(), &mut shelf)?;
         assert_eq!(rt; opened, Err(Refusal::Device), "{number}");
     }
+    // Neither a third sync nor an eleventh read is made: the next one fails.
+    shelf.arm(Fuse::Fail(3))?;
+    shelf.arm(Fuse::FailRead(11))?;
     assert_eq!(rt; found(rt.alloc(), &mut shelf)?, Ok([2, 1]));
+    assert_eq!(rt; shelf.sync(segment(0)), Err(DeviceError));
+    assert_eq!(rt; shelf.read(segment(0), 0, &mut [0; 1]), Err(DeviceError));
     Ok(())
 }

@@ -1,9 +1,11 @@
 // Journals that are opened again.
 use super::answers::{ENDED, LAST};
-use super::{append, damaged, found, lay, roomy, segment};
+use super::taken::Taken;
+use super::{answer, append, damaged, found, lay, roomy, segment};
 use disk_mem::MemShelf;
 use gated_log::Refusal;
-use journal::{JournalReader, Opening};
+use journal::Journal;
+use std::alloc::Global;
 use std::test::Fail;
 
 #[test]
@@ -57,49 +59,59 @@ fn a_byte_in_place_of_another_in_the_last_segment(rt: HostRuntime) -> Result<(),
     Ok(())
 }
 
-// The body of a step, and the reader behind it.
-fn step(
-    shelf: &mut MemShelf,
-    reader: JournalReader,
-) -> Result<(JournalReader, Option<Vec<u8>>), Fail> {
-    match reader.next(shelf)? {
-        Opening::More(reader, body) => Ok((reader, body)),
-        Opening::Done(_) => Err(Fail::new("the chain ended")),
-    }
+// The numbers of the segments and the bodies that an opening hands over, and the journal that it answers.
+fn handed(alloc: Global, shelf: &mut MemShelf) -> Result<(Journal, Vec<u64>, Vec<u8>), Refusal> {
+    let (journal, taken) = Journal::open_with(alloc, shelf, 3, Taken::new(alloc))?;
+    Ok((journal, taken.numbers, taken.text))
 }
 
 #[test]
-fn a_reader_hands_over_each_body(rt: HostRuntime) -> Result<(), Fail> {
+fn an_opening_hands_over_each_body(rt: HostRuntime) -> Result<(), Fail> {
     let mut shelf = roomy(rt.alloc())?;
     lay(&mut shelf, segment(0), &ENDED)?;
     lay(&mut shelf, segment(1), &LAST)?;
-    let reader = JournalReader::open(rt.alloc(), &mut shelf, 3)?;
-    assert_eq!(rt;
-        (
-            reader.topic(),
-            reader.segment(),
-            reader.number(),
-            reader.gate()
-        ),
-        (3, 0, 0, 16)
-    );
-    let (reader, body) = step(&mut shelf, reader)?;
-    assert_eq!(rt; body.as_deref(), Some(b"ab".as_slice()));
-    assert_eq!(rt; reader.gate(), 24);
-    let (reader, body) = step(&mut shelf, reader)?;
-    assert_eq!(rt; body.as_deref(), None);
-    assert_eq!(rt;
-        (reader.segment(), reader.number(), reader.gate()),
-        (1, 5, 16)
-    );
-    let (reader, body) = step(&mut shelf, reader)?;
-    assert!(rt; body.is_some_and(|body| body.is_empty()));
-    let Opening::Done(mut journal) = reader.next(&mut shelf)? else {
-        return Err(Fail::new("no end"));
-    };
+    let (mut journal, numbers, text) = handed(rt.alloc(), &mut shelf)?;
+    assert_eq!(rt; numbers.as_slice(), [0, 5].as_slice());
+    assert_eq!(rt; text.as_slice(), b"|ab,|,".as_slice());
     append(&mut journal, &mut shelf, b"c")?;
     assert_eq!(rt; journal.last_count(), 2);
     let part = journal.read(&mut shelf, 1, 1, 0, 9)?;
     assert!(rt; part.is_some_and(|part| part.as_slice() == b"c".as_slice()));
+    let (_, numbers, text) = handed(rt.alloc(), &mut shelf)?;
+    assert_eq!(rt; numbers.as_slice(), [0, 5].as_slice());
+    assert_eq!(rt; text.as_slice(), b"|ab,|,c,".as_slice());
+    Ok(())
+}
+
+// A body "c", a body "d", a batch of another kind, a body "e", and a closed gate.
+const UNKNOWN: [u8; 44] = [
+    1, 0x50, 0x55, 0x4c, 0x53, 0x41, 0x52, 1, 5, 0, 0, 0, 0, 0, 0, 0, 1, 2, 0, 0, 0, 0, b'c', 1, 2,
+    0, 0, 0, 0, b'd', 1, 1, 0, 0, 0, 7, 1, 2, 0, 0, 0, 0, b'e', 0,
+];
+
+// What an opening answers that may hand over so many bodies.
+fn with_room(alloc: Global, shelf: &mut MemShelf, bodies: u64) -> Result<(), Refusal> {
+    Journal::open_with(alloc, shelf, 3, Taken::with_room(alloc, bodies))?;
+    Ok(())
+}
+
+// Three bodies stand before the fault. Those behind it aren't handed over, or there would be no memory for one.
+#[test]
+fn nothing_behind_a_fault_is_handed_over(rt: HostRuntime) -> Result<(), Fail> {
+    let mut shelf = roomy(rt.alloc())?;
+    lay(&mut shelf, segment(0), &ENDED)?;
+    lay(&mut shelf, segment(1), &UNKNOWN)?;
+    for bodies in 0..3u64 {
+        let refused = with_room(rt.alloc(), &mut shelf, bodies);
+        assert_eq!(rt; refused, Err(Refusal::NoMemory), "{bodies}");
+    }
+    let refused = answer(with_room(rt.alloc(), &mut shelf, 3))?;
+    assert_eq!(rt;
+        refused,
+        Err(Refusal::Damaged {
+            file: segment(1),
+            offset: 30
+        })
+    );
     Ok(())
 }

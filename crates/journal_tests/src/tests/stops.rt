@@ -1,5 +1,7 @@
 // The power fails at each call of the device within a call of a journal, and comes back in each form of crash.
-use super::{answer, append, chain, chain_gone_on, damaged, found, lay, roll, roomy, segment};
+use super::{
+    answer, append, chain, chain_gone_on, damaged, found, lay, open, roll, roomy, segment,
+};
 use disk::{CrashForm, CrashShelf, Fuse};
 use disk_mem::MemShelf;
 use gated_log::Refusal;
@@ -183,7 +185,7 @@ fn after_opening(
     let appended = answer(journal.append(shelf, b"c"))?;
     check(appended, journal.is_failed(), true)?;
     lay_stop(shelf, form, stop)?;
-    let opened = answer(Journal::open(alloc, shelf, 3))?;
+    let opened = answer(open(alloc, shelf))?;
     if opened.is_ok() != (stop > 2) {
         return Err(Fail::new("another answer than that of the device"));
     }

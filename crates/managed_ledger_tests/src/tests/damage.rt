@@ -10,7 +10,7 @@ use std::alloc::Global;
 use std::test::Fail;
 
 // A batch with one entry of twelve bytes, whose metadata has seven, and a closed gate at 38.
-const ONE: [u8; 39] = [
+pub(super) const ONE: [u8; 39] = [
     1, 0x50, 0x55, 0x4c, 0x53, 0x41, 0x52, 1, 0, 0, 0, 0, 0, 0, 0, 0, 1, 17, 0, 0, 0, 0, 12, 0, 0,
     0, 0, 0, 0, 7, 0x0a, 1, b'p', 0x10, 0, 0x18, 0, b'x', 0,
 ];
@@ -18,18 +18,18 @@ const ONE: [u8; 39] = [
 const ENTRY: [u8; 12] = [0, 0, 0, 7, 0x0a, 1, b'p', 0x10, 0, 0x18, 0, b'x'];
 
 // The same, an end mark and a closed gate at 44.
-const ENDED: [u8; 45] = [
+pub(super) const ENDED: [u8; 45] = [
     1, 0x50, 0x55, 0x4c, 0x53, 0x41, 0x52, 1, 0, 0, 0, 0, 0, 0, 0, 0, 1, 17, 0, 0, 0, 0, 12, 0, 0,
     0, 0, 0, 0, 7, 0x0a, 1, b'p', 0x10, 0, 0x18, 0, b'x', 1, 1, 0, 0, 0, 1, 0,
 ];
 
 // A batch without entries, and number 1.
-const EMPTY: [u8; 23] = [
+pub(super) const EMPTY: [u8; 23] = [
     1, 0x50, 0x55, 0x4c, 0x53, 0x41, 0x52, 1, 1, 0, 0, 0, 0, 0, 0, 0, 1, 1, 0, 0, 0, 0, 0,
 ];
 
 // Makes these the bytes of a file.
-fn lay(shelf: &mut MemShelf, file: FileId, bytes: &[u8]) -> Result<(), DeviceError> {
+pub(super) fn lay(shelf: &mut MemShelf, file: FileId, bytes: &[u8]) -> Result<(), DeviceError> {
     shelf.cut(file, 0)?;
     shelf.write_at(file, 0, bytes)?;
     shelf.sync(file)
@@ -37,8 +37,8 @@ fn lay(shelf: &mut MemShelf, file: FileId, bytes: &[u8]) -> Result<(), DeviceErr
 
 // What an opening finds: the segments and the entries, or why it refuses.
 fn found(alloc: Global, shelf: &mut MemShelf) -> Result<Result<[u64; 2], Refusal>, Refusal> {
-    match ManagedLedger::open(alloc, shelf, 0, 100) {
-        Ok(ledger) => Ok(Ok([ledger.segments(), ledger.len()])),
+    match ManagedLedger::open_with(alloc, shelf, 0, 100, ()) {
+        Ok((ledger, ())) => Ok(Ok([ledger.segments(), ledger.len()])),
         Err(Refusal::NoMemory) => Err(Refusal::NoMemory),
         Err(e) => Ok(Err(e)),
     }
@@ -141,7 +141,7 @@ fn an_entry_behind_an_empty_batch_is_read(rt: HostRuntime) -> Result<(), Fail> {
     lay(&mut shelf, FIRST, &ENDED)?;
     lay(&mut shelf, SECOND, &EMPTY)?;
     shelf.write_at(SECOND, 22, &ONE[16..])?;
-    let ledger = ManagedLedger::open(rt.alloc(), &mut shelf, 0, 100)?;
+    let (ledger, ()) = ManagedLedger::open_with(rt.alloc(), &mut shelf, 0, 100, ())?;
     assert_eq!(rt; [ledger.segments(), ledger.len()], [2, 2]);
     for position in [0, 1] {
         let entry = ledger.read(&mut shelf, position)?;

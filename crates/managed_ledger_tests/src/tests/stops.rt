@@ -47,7 +47,7 @@ fn failed(
 
 // How many entries an opening finds, each of them with its payload.
 fn found(alloc: Global, shelf: &mut MemShelf) -> Result<u64, Fail> {
-    let ledger = ManagedLedger::open(alloc, shelf, 0, 2)?;
+    let (ledger, ()) = ManagedLedger::open_with(alloc, shelf, 0, 2, ())?;
     for (position, payload) in [(0, b"".as_slice()), (1, b"b"), (2, b"cc")] {
         let expected = joined(alloc, &[PLAIN, payload])?;
         match ledger.read(shelf, position)? {

@@ -49,8 +49,9 @@ fn restart(topic: &mut Topic, alloc: Global) -> Result<(), Refusal>
     topic.wait(alloc)?;
     topic.flush()?;
     topic.shelf.crash();
-    topic.stores = FileStores::open(alloc, &mut topic.shelf, 0, 1)?;
-    topic.core = TopicCore::open(alloc, 1, &topic.stores, &mut topic.shelf)?;
+    let (core, stores) = TopicCore::open(alloc, &mut topic.shelf, 0, 1)?;
+    topic.core = core;
+    topic.stores = stores;
     Ok(())
 }
 

@@ -63,16 +63,3 @@ fn each_call_answers(rt: HostRuntime) -> Result<(), Fail> {
     assert!(rt; slots.read(&mut shelf, 2)?.is_none());
     Ok(())
 }
-
-#[test]
-fn opened_slots_have_their_bodies(rt: HostRuntime) -> Result<(), Fail> {
-    let mut shelf = roomy(rt.alloc())?;
-    let mut slots = TwoSlot::create(rt.alloc(), &mut shelf, TOPIC)?;
-    slots.append(&mut shelf, b"abc")?;
-    let opened = TwoSlot::open(rt.alloc(), &mut shelf, TOPIC)?;
-    assert_eq!(rt; opened.id(), TOPIC);
-    assert_eq!(rt; opened.count(), 1);
-    let body = opened.read(&mut shelf, 0)?;
-    assert!(rt; body.is_some_and(|body| body.as_slice() == b"abc".as_slice()));
-    Ok(())
-}

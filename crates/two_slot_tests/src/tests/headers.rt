@@ -65,6 +65,14 @@ fn the_first_fault_is_told(rt: HostRuntime) -> Result<(), Fail> {
         (last(log(0, 1)), log(2, 1), damaged(ZERO, 0)),
         (log(2, 1), last(log(0, 1)), damaged(ONE, 0)),
         (bad, last(log(0, 1)), damaged(ONE, 0)),
+        (bad, log(3, 1), damaged(ZERO, 16)),
+        (bad, with(log(3, 1), 7, 2), damaged(ZERO, 16)),
+        (log(3, 1), with(log(3, 1), 7, 2), Err(Refusal::Version)),
+        (
+            log(3, 1),
+            with(last(log(0, 1)), 7, 2),
+            Err(Refusal::Version),
+        ),
         (bad, with(log(2, 1), 1, 0), damaged(ZERO, 16)),
         (log(3, 1), with(log(2, 1), 1, 0), damaged(ONE, 0)),
         (with(log(3, 1), 7, 2), closed, Err(Refusal::Version)),
@@ -136,7 +144,7 @@ fn beside_closed() -> [Found; 15] {
         version,
         version,
         fault,
-        fault,
+        version,
         fault,
     ]
 }
@@ -150,16 +158,16 @@ fn beside_open(alone: Found, version_behind: Found, fault_behind: Found) -> [Fou
         alone,
         alone,
         alone,
-        fault,
+        fault_behind,
         Ok(2),
         fault_behind,
-        fault,
+        fault_behind,
         fault,
         version_behind,
-        fault,
+        version_behind,
         version,
         fault,
-        fault,
+        version,
         fault,
     ]
 }
@@ -184,7 +192,7 @@ fn each_kind_of_header_in_both_slots(rt: HostRuntime) -> Result<(), Fail> {
         ((32, with(log(3, 1), 1, 0)), [damaged(ZERO, 0); 15]),
         ((32, with(log(3, 1), 7, 2)), [version; 15]),
         ((32, last(log(0, 1))), [damaged(ZERO, 0); 15]),
-        ((32, last(with(log(0, 1), 7, 2))), [damaged(ZERO, 0); 15]),
+        ((32, last(with(log(0, 1), 7, 2))), [version; 15]),
         ((16, log(3, 1)), [damaged(ZERO, 0); 15]),
     ];
     for (row, (zero, answers)) in (0u8..).zip(zeros) {

@@ -1,5 +1,5 @@
 // A call of the device fails, once or until the power does, and a crash of each form follows.
-use super::{BODIES, Found, ONE, TOPIC, ZERO, answer, found, hold, lay, read_answer, roomy};
+use super::{BODIES, Found, ONE, TOPIC, ZERO, answer, found, hold, lay, open, read_answer, roomy};
 use disk::{CrashForm, CrashShelf, Fuse};
 use disk_mem::MemShelf;
 use gated_log::{BatchList, ReadError, Refusal};
@@ -81,14 +81,14 @@ fn after_append(
         return Err(Fail::new("appended, though a call failed"));
     }
     shelf.crash();
-    let mut left = TwoSlot::open(alloc, shelf, TOPIC)?;
+    let mut left = open(alloc, shelf)?;
     let count = left.count();
     if !hold(&left, shelf, count)? {
         return Err(Fail::new("neither the old list nor the new one"));
     }
     let next = if count == 1 { BODIES[1] } else { BODIES[2] };
     left.append(shelf, next)?;
-    let grown = TwoSlot::open(alloc, shelf, TOPIC)?;
+    let grown = open(alloc, shelf)?;
     if left.count() == count || !hold(&grown, shelf, left.count())? {
         return Err(Fail::new("the next body isn't there"));
     }
@@ -137,7 +137,7 @@ fn after_opening(
         return Err(Fail::new("opened, though a call failed"));
     }
     shelf.crash();
-    let left = TwoSlot::open(alloc, shelf, TOPIC)?;
+    let left = open(alloc, shelf)?;
     let count = left.count();
     if !hold(&left, shelf, count)? {
         return Err(Fail::new("neither the old list nor the new one"));
@@ -145,19 +145,19 @@ fn after_opening(
     Ok(count)
 }
 
-// The sync of slot 0, that of slot 1, and that of the one that counts, slot 0 again.
+// The sync of slot 0, which counts, and that of slot 1. There is no third call.
 #[test]
 fn each_call_of_an_opening_fails_in_each_crash(rt: HostRuntime) -> Result<(), Fail> {
     let mut shelf = roomy(rt.alloc())?;
     let forms = [
-        (CrashForm::Old, [1, 2, 2]),
-        (CrashForm::New, [2, 2, 2]),
-        (CrashForm::Fill(0), [1, 2, 2]),
-        (CrashForm::Fill(1), [2, 2, 2]),
-        (CrashForm::Fill(7), [1, 2, 2]),
+        (CrashForm::Old, [1, 2]),
+        (CrashForm::New, [2, 2]),
+        (CrashForm::Fill(0), [1, 2]),
+        (CrashForm::Fill(1), [2, 2]),
+        (CrashForm::Fill(7), [1, 2]),
     ];
     for (form, counts) in forms {
-        for (call, count) in (1..4u64).zip(counts) {
+        for (call, count) in (1..3u64).zip(counts) {
             for fuse in [Fuse::Stop(call), Fuse::Fail(call)] {
                 let kept = after_opening(rt.alloc(), &mut shelf, form, fuse)?;
                 assert_eq!(rt; kept, count, "{form:?}, {fuse:?}");
@@ -167,7 +167,7 @@ fn each_call_of_an_opening_fails_in_each_crash(rt: HostRuntime) -> Result<(), Fa
     Ok(())
 }
 
-// The headers of both slots; of the one that counts the header, and both of its gates.
+// The headers of both slots; of the one that counts both gates, and between them the body.
 #[test]
 fn a_read_that_fails_refuses_an_opening(rt: HostRuntime) -> Result<(), Fail> {
     let mut shelf = roomy(rt.alloc())?;

@@ -1,25 +1,19 @@
 use Rattle.std.proofs.Common.{◌≡◌, Ok, Err, Some, None, sym, subst, rules, arith}
-use Rattle.std.specs.Prelude.{IfOk, IfSome}
 use Rattle.topic_core.specs.State.{Topic}
 use Rattle.topic_core.specs.Flush as topics
-use Rattle.topic_core.specs.Standing.{Before, IsFor, Match, Standing}
-use Rattle.topic_core.proofs.Standings.{match_handed_on, standing_handed_on}
-use Rattle.node.specs.Flights.{stage_of, phase_at}
+use Rattle.topic_core.specs.Standing.{Before, Standing}
+use Rattle.topic_core.proofs.Standings.{standing_handed_on}
+use Rattle.node.specs.Flights.{stage_of}
 use Rattle.node.proofs.Steps.{takes}
-use Rattle.node.proofs.UnderWay.{takes_before, untaken, take_numbers}
+use Rattle.node.proofs.UnderWay.{takes_before}
 use Rattle.node.proofs.node.Node.take.Goals as goal
 
 pub returns-in-Ok-Some-clause-step : goal.returns-in-Ok-Some-clause-step
 returns-in-Ok-Some-clause-step g c =
     let n = c.args.self.now in
     let t = n.topics in
-    let u = c.take_batch.new.self in
-    let f = (g.S.Shelf.disk t.shelf).faults in
-    let step = c.take_batch.ensures.step in
-    let is : c.take_batch.result ≡ Ok (Some c.in-Ok-Some.batch) = search rules in
     λ _. rw c.only-in-Ok-Some.ensures
-    (takes t.core.per_ledger u.per_ledger t.core u (stage_of t.flight) n.sessions.items n.used f f c.args.topic (omega (arith, c.if-topic-ne0.false)) (take_numbers t.core c.take_batch.result u step) (omega arith)
-    (Ok (Some c.in-Ok-Some.batch)) (subst (λ r. topics.TakeStep t.core r u) is step))
+    (takes t.core c.take_batch.new.self (stage_of t.flight) n.sessions.items n.used (g.S.Shelf.disk t.shelf).faults c.args.topic (omega (arith, c.if-topic-ne0.false)) c.take_batch.result (Ok (Some c.in-Ok-Some.batch)) (search rules) c.take_batch.ensures.step)
 
 pub returns-in-Ok-Some-clause-stands : goal.returns-in-Ok-Some-clause-stands
 returns-in-Ok-Some-clause-stands g c =
@@ -37,22 +31,12 @@ pub returns-in-Ok-None-clause-step : goal.returns-in-Ok-None-clause-step
 returns-in-Ok-None-clause-step g c =
     let n = c.args.self.now in
     let t = n.topics in
-    let u = c.take_batch.new.self in
-    let f = (g.S.Shelf.disk t.shelf).faults in
-    let step = c.take_batch.ensures.step in
-    let is : c.take_batch.result ≡ Ok None = search rules in
     λ _. rw c.only-in-Ok-None.ensures
-    (takes t.core.per_ledger u.per_ledger t.core u (stage_of t.flight) n.sessions.items n.used f f c.args.topic (omega (arith, c.if-topic-ne0.false)) (take_numbers t.core c.take_batch.result u step) (omega arith)
-    (Ok None) (subst (λ r. topics.TakeStep t.core r u) is step))
+    (takes t.core c.take_batch.new.self (stage_of t.flight) n.sessions.items n.used (g.S.Shelf.disk t.shelf).faults c.args.topic (omega (arith, c.if-topic-ne0.false)) c.take_batch.result (Ok None) (search rules) c.take_batch.ensures.step)
 
 pub returns-in-Err-clause-step : goal.returns-in-Err-clause-step
 returns-in-Err-clause-step g c =
     let n = c.args.self.now in
     let t = n.topics in
-    let u = c.take_batch.new.self in
-    let f = (g.S.Shelf.disk t.shelf).faults in
-    let step = c.take_batch.ensures.step in
-    let is : c.take_batch.result ≡ Err c.in-Err.why = search rules in
     λ _. rw (c.only-in-Err.ensures, c.into.ensures)
-    (takes t.core.per_ledger u.per_ledger t.core u (stage_of t.flight) n.sessions.items n.used f f c.args.topic (omega (arith, c.if-topic-ne0.false)) (take_numbers t.core c.take_batch.result u step) (omega arith)
-    (Err c.in-Err.why) (subst (λ r. topics.TakeStep t.core r u) is step))
+    (takes t.core c.take_batch.new.self (stage_of t.flight) n.sessions.items n.used (g.S.Shelf.disk t.shelf).faults c.args.topic (omega (arith, c.if-topic-ne0.false)) c.take_batch.result (Err c.in-Err.why) (search rules) c.take_batch.ensures.step)

@@ -7,7 +7,7 @@ use Rattle.topic_stores.specs.Views.{Settled}
 use Rattle.topic_stores.specs.Writing.{StandsFor}
 use Rattle.topic_core.specs.Crashes.{IsLeft}
 use Rattle.topic_core.specs.Standing.{Match, Standing}
-use Rattle.topic_core.proofs.Standings.{batch_fits, written_match, written_standing, within_is}
+use Rattle.topic_core.proofs.Standings.{batch_fits, written_standing, within_is}
 use Rattle.node.specs.Flights.{stage_of, phase_at, IsUnderWay}
 use Rattle.node.specs.declared.flight.Flight.{Flight}
 use Rattle.node.specs.declared.flight.Flight.TheVariants as flight

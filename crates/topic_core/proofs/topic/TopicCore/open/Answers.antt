@@ -4,24 +4,24 @@ use Rattle.std.proofs.lemmas.List.{length-map}
 use Rattle.topic_core.proofs.Openings.{sound-opened, receipts-opened, kept-filled}
 use Rattle.topic_core.proofs.topic.TopicCore.open.Goals as goal
 
-pub invariant_of-result : goal.invariant_of-result
-invariant_of-result g c =
-    let kept = (g.T.TopicStore.view c.args.stores.now).kept in
-    let ledger = c.in_ok-subs.field-0.durable.ledger in
+pub invariant_of-core : goal.invariant_of-core
+invariant_of-core g c =
+    let kept = (g.T.TopicStore.view c.in_ok-opened.opened.stores).kept in
+    let ledger = c.in_ok-opened.opened.durable.ledger in
     let slots = map slot_of_entry ledger in
-    let added = c.in_ok-subs.ensures.added in
+    let added = c.in_ok-opened.ensures.added in
     let size : c.len-committed.result ≡ length ledger = c.len-committed.ensures.len ∙ sym added.0 in
     let few : length ledger ≤ 2 ^ 62 = omega (arith, size, c.len-committed.ensures.few) in
     rw (c.new.ensures.items, c.new-2.ensures.items, c.new-3.ensures.items, added.1, added.2, size) (
       refl,
-      sound-opened c.args.per_ledger ledger slots kept c.requires.numbered few (length-map ledger slot_of_entry) c.in_ok-subs.ensures.durable,
+      sound-opened c.args.per_ledger ledger slots kept c.requires.numbered few (length-map ledger slot_of_entry) c.in_ok-opened.ensures.durable,
       receipts-opened c.args.per_ledger ledger slots kept,
     )
 
 pub returns-clause-matched : goal.returns-clause-matched
 returns-clause-matched g c =
-    let added = c.in_ok-subs.ensures.added in
+    let added = c.in_ok-opened.ensures.added in
     record {
-      kept = kept-filled c.len-committed.result (g.T.TopicStore.view c.args.stores.now).kept _ _ _ added.1 added.2 c.in_ok-subs.ensures.durable;
-      remembers = record { core_works = refl; works = c.requires.works; counted = sym c.len-committed.ensures.len; kept = sym added.2 };
+      kept = kept-filled c.len-committed.result (g.T.TopicStore.view c.in_ok-opened.opened.stores).kept _ _ _ added.1 added.2 c.in_ok-opened.ensures.durable;
+      remembers = record { core_works = refl; works = c.in_ok-opened.ensures.works; counted = sym c.len-committed.ensures.len; kept = sym added.2 };
     }

@@ -1,33 +1,65 @@
-use Rattle.std.proofs.Common.{◌≡◌, true, false, sym, ap, subst, ◌∙◌}
+use Rattle.std.proofs.Common.{◌≡◌, ◌≤◌, ◌^◌, true, false, length, map, refl, sym, ap, subst, ◌∙◌, inr, arith, Ok}
+use Rattle.disk.specs.declared.file_id.FileId.TheVariants.{Segment}
+use Rattle.gated_log.specs.declared.refusal.Refusal.TheVariants.{Damaged}
+use Rattle.topic_core.specs.Slots.{slot_of_entry}
 use Rattle.topic_core.specs.State.{Topic}
+use Rattle.topic_core.specs.Crashes.{IsLeft, ReopenIn, reopened}
 use Rattle.topic_core.specs.Standing.{phase_then, Standing}
-use Rattle.topic_stores.specs.Views.{Settled}
-use Rattle.managed_ledger.specs.Entries.{Entries}
-use Rattle.records.specs.Maps.{Kept}
-use Rattle.topic_core.proofs.Filling.{OnlyReads, settled_read}
-use Rattle.topic_core.proofs.Standings.{reopened_standing}
+use Rattle.topic_core.proofs.Standings.{reopened_standing, again_left, again_stands, left_more}
 use Rattle.topic_core.proofs.topic.TopicCore.reopen.Goals as goal
 
+pub returns-then-len-self-clause-step : goal.returns-then-len-self-clause-step
+returns-then-len-self-clause-step g c = λ phase h.
+    let d0 = g.S.Shelf.disk c.args.shelf.now in
+    let d1 = g.S.Shelf.disk c.open_stores.new.shelf in
+    let v = g.T.TopicStore.view c.args.stores.now in
+    let again = c.in_ok-again.again in
+    let v1 = g.T.TopicStore.view again.stores in
+    let of = c.in_ok-again.ensures in
+    let few : length again.durable.ledger ≤ 2 ^ 62 = omega (arith, of.added.0, c.len.ensures.len, c.len.ensures.few) in
+    let left = again_left g.T.TopicStore.stands v v1 d0 d1 c.topic-topic.result again.durable.ledger (g.met.T.TopicStore.laws again.stores) (of.settled h.honest) of.topic c.topic-topic.ensures (of.seen h.honest (λ is. cc))
+    g.met.T.TopicStore.stands_one c.args.self.now few (h.left d0.seen (g.met.S.Shelf.lawful c.args.shelf.now h.honest).leaves_seen) in
+    absurd (omega (arith, left_more c.args.self.now again.durable.ledger v1.kept left, h.counted, of.added.0, c.len.ensures.len, c.if-len-self.true, ap (λ (k : Topic). k.committed) c.self.view_is))
+
+pub returns-then-len-self-clause-told : goal.returns-then-len-self-clause-told
+returns-then-len-self-clause-told g c = λ honest.
+    let again = c.in_ok-again.again in
+    let v1 = g.T.TopicStore.view again.stores in
+    let of = c.in_ok-again.ensures in
+    inr (inr (inr (record {
+      ledger = again.durable.ledger;
+      kept = v1.kept;
+      stands = again_stands g.T.TopicStore.stands (g.T.TopicStore.view c.args.stores.now) v1 (g.S.Shelf.disk c.args.shelf.now) (g.S.Shelf.disk c.open_stores.new.shelf) c.topic-topic.result again.durable.ledger (g.met.T.TopicStore.laws again.stores)
+          (of.settled honest) of.topic c.topic-topic.ensures (of.seen honest (λ is. cc));
+      fewer = omega (arith, of.added.0, c.len.ensures.len, c.if-len-self.true, ap (λ (k : Topic). k.committed) c.self.view_is);
+      told = ap (λ n. Damaged (Segment n 0) 0) c.topic-topic.ensures;
+    })))
+
+pub returns-clause-step : goal.returns-clause-step
+returns-clause-step g c = λ phase h.
+    let t = c.args.self.now in
+    let d0 = g.S.Shelf.disk c.args.shelf.now in
+    let d1 = g.S.Shelf.disk c.open_stores.new.shelf in
+    let v = g.T.TopicStore.view c.args.stores.now in
+    let again = c.in_ok-again.again in
+    let v1 = g.T.TopicStore.view again.stores in
+    let of = c.in_ok-again.ensures in
+    let was : t.failed ≡ true = sym (ap (λ (k : Topic). k.failed) c.self.view_is) ∙ c.if-not-self.false in
+    let few : length again.durable.ledger ≤ 2 ^ 62 = omega (arith, of.added.0, c.len.ensures.len, c.len.ensures.few) in
+    let left = again_left g.T.TopicStore.stands v v1 d0 d1 c.topic-topic.result again.durable.ledger (g.met.T.TopicStore.laws again.stores) (of.settled h.honest) of.topic c.topic-topic.ensures (of.seen h.honest (λ is. cc))
+    g.met.T.TopicStore.stands_one t few (h.left d0.seen (g.met.S.Shelf.lawful c.args.shelf.now h.honest).leaves_seen) in
+    subst (λ b. ReopenIn b t (Ok tt) c.restart.new.self) (sym was)
+    (subst (λ (k : Topic). IsLeft t k.ledger k.kept × (k ≡ reopened t k.ledger (map slot_of_entry k.ledger) k.kept)) (sym c.restart.ensures.again) (left, refl))
+
 pub returns-clause-standing : goal.returns-clause-standing
-returns-clause-standing g c =
+returns-clause-standing g c = λ phase h.
     let t = c.args.self.now in
     let t2 = c.restart.new.self in
-    let was : t.failed ≡ true = sym (ap (λ (k : Topic). k.failed) c.self.view_is) ∙ c.if-not-self.false in
+    let again = c.in_ok-again.again in
     let stands = g.T.TopicStore.stands in
-    let v1 = g.T.TopicStore.view c.in_ok-again.again in
-    let laws = g.met.T.TopicStore.laws c.in_ok-again.again in
-    let d0 = g.S.Shelf.disk c.args.shelf.now in
-    let d1 = g.S.Shelf.disk c.open.new.shelf in
-    let d2 = g.S.Shelf.disk c.restart.new.shelf in
-    let restart = c.in_ok-restart.ensures in
-    let reads : OnlyReads d1 d2 = record { seen = restart.seen; any_moment = restart.any_moment; kept = restart.kept } in
-    λ phase h.
-    let s = h.left d0.seen (g.met.S.Shelf.lawful c.args.shelf.now h.honest).leaves_seen in
-    let hold = c.in_ok-again.ensures.opened s.ledger s.kept h.honest (subst (λ n. stands n d0.seen s.ledger s.kept) (sym c.topic-topic.ensures) s.stands) in
-    let core = restart.ok.2 in
-    let ledger : restart.ok.0 ≡ s.ledger = sym (ap (λ (k : Topic). k.ledger) core) ∙ restart.found s.ledger s.kept hold.honest hold.now in
-    let held : Settled v1 d2 restart.ok.0 v1.kept = subst (λ (l : Entries). Settled v1 d2 l v1.kept) (sym ledger)
-    (subst (λ (k : Kept). Settled v1 d2 s.ledger k) (sym (laws.remembers d1.seen s.ledger s.kept hold.now)) (settled_read v1 d1 d2 s.ledger s.kept reads hold)) in
-    let works : t2.failed ≡ false = ap (λ (k : Topic). k.failed) core in
-    let end = reopened_standing stands t t2 v1 d2 restart.ok.0 v1.kept laws core restart.matched held in
-    subst (λ b. Standing stands (phase_then b t2.failed phase) t2 v1 d2) (sym was) (subst (λ b. Standing stands (phase_then true b phase) t2 v1 d2) (sym works) end)
+    let v1 = g.T.TopicStore.view again.stores in
+    let d1 = g.S.Shelf.disk c.open_stores.new.shelf in
+    let was : t.failed ≡ true = sym (ap (λ (k : Topic). k.failed) c.self.view_is) ∙ c.if-not-self.false in
+    let works : t2.failed ≡ false = ap (λ (k : Topic). k.failed) c.restart.ensures.again in
+    let end = reopened_standing stands t t2 v1 d1 again.durable.ledger v1.kept (g.met.T.TopicStore.laws again.stores) c.restart.ensures.again c.restart.ensures.matched (c.in_ok-again.ensures.settled h.honest) in
+    rw (c.restart.ensures.stores) (subst (λ b. Standing stands (phase_then b t2.failed phase) t2 v1 d1) (sym was) (subst (λ b. Standing stands (phase_then true b phase) t2 v1 d1) (sym works) end))

@@ -9,10 +9,10 @@ use Rattle.topic_core.proofs.topic.TopicCore.restart.Goals as goal
 pub invariant_of-self : goal.invariant_of-self
 invariant_of-self g c =
     let t = core_of c.self.inside in
-    let kept = (g.T.TopicStore.view c.args.stores.now).kept in
-    let ledger = c.in_ok-subs.field-0.durable.ledger in
+    let kept = (g.T.TopicStore.view c.args.again.stores).kept in
+    let ledger = c.args.again.durable.ledger in
     let slots = map slot_of_entry ledger in
-    let added = c.in_ok-subs.ensures.added in
+    let added = c.requires.added in
     let size : c.len-self-inside.result ≡ length ledger = c.len-self-inside.ensures.len ∙ sym added.0 in
     let few : length ledger ≤ 2 ^ 62 = omega (arith, added.0, c.requires.few) in
     let was : t.failed ≡ true = subst (λ (k : Topic). k.failed ≡ true) (sym c.self.view_is) c.requires.failed in
@@ -20,14 +20,14 @@ invariant_of-self g c =
     let more : t.committed ≤ length ledger = omega (arith, known, added.0, c.requires.more) in
     rw (c.new.ensures.items, c.new-2.ensures.items, added.1, added.2, size) (
       refl,
-      sound-reopened t ledger slots kept c.self.invariant.1 was more few (length-map ledger slot_of_entry) c.in_ok-subs.ensures.durable,
+      sound-reopened t ledger slots kept c.self.invariant.1 was more few (length-map ledger slot_of_entry) c.requires.durable,
       receipts-reopened t ledger slots kept c.self.invariant.1 c.self.invariant.2 was more,
     )
 
 pub returns-clause-matched : goal.returns-clause-matched
 returns-clause-matched g c =
-    let added = c.in_ok-subs.ensures.added in
+    let added = c.requires.added in
     record {
-      kept = kept-filled c.len-self-inside.result (g.T.TopicStore.view c.args.stores.now).kept _ _ _ added.1 added.2 c.in_ok-subs.ensures.durable;
+      kept = kept-filled c.len-self-inside.result (g.T.TopicStore.view c.args.again.stores).kept _ _ _ added.1 added.2 c.requires.durable;
       remembers = record { core_works = refl; works = c.requires.works; counted = sym c.len-self-inside.ensures.len; kept = sym added.2 };
     }

@@ -1,0 +1,145 @@
+-- An opening goes from body to body.
+use Rattle.std.proofs.Common.{◌≡◌, inl, inr, ℕ, ◌+◌, ◌<◌, ◌≤◌, ◌^◌, List, [], ◌∷◌, ◌++◌, length, refl, sym, ◌∙◌, ap, subst, arith, length-append}
+use Rattle.std.proofs.lemmas.List.{append-nil}
+use Rattle.disk.specs.declared.file_id.FileId.{FileId}
+use Rattle.disk.specs.Disk.{Disk, Image, Synced, Leaves, Kept}
+use Rattle.disk.specs.Moments.{joins}
+use Rattle.gated_log.specs.declared.head.LogHead.{LogHead}
+use Rattle.gated_log.specs.declared.log.GatedLog.{GatedLog}
+use Rattle.gated_log.specs.declared.log_id.LogId.{LogId}
+use Rattle.gated_log.specs.declared.reader.LogReader.{LogReader}
+use Rattle.gated_log.specs.declared.refusal.Refusal.{Refusal}
+use Rattle.gated_log.specs.declared.refusal.Refusal.TheVariants.{Damaged}
+use Rattle.gated_log.specs.Batches.{Bodies, header, sized, opened, AllFit}
+use Rattle.gated_log.specs.Headers.{IsOpen}
+use Rattle.gated_log.specs.Folds.{Link, begun, grown, Form, IsFault}
+use Rattle.gated_log.specs.Head.{HasHead}
+use Rattle.gated_log.specs.Lists.{Settled}
+use Rattle.gated_log.specs.Local.{holds_local_lem}
+use Rattle.gated_log.specs.Logs.{LogHolds, log_id}
+use Rattle.gated_log.specs.One.{opened_push, sized_one}
+use Rattle.gated_log.specs.Reading.{reader_count, HasRead, IsDamagedBehind, IsHeaderRefusal}
+use Rattle.gated_log.proofs.Further.{still_synced}
+
+-- the log that a reader has read
+abbrev pub log_of : LogReader → Bodies → Link
+log_of reader bodies = record { number = reader.id.number; bodies = bodies }
+
+-- what an opening keeps true from body to body
+pub record Going (head : LogHead) (first now : Disk) (held holds : List Link → Type 0) (reader : LogReader) : Type 0 where
+  pub kept : Kept first now
+  pub file_is : reader.id.file ≡ head.file
+  pub seen : first.honest → now.seen ≡ first.seen
+  pub any_moment : first.honest → Leaves first.may_leave first now
+  pub synced : first.honest → HasHead head first → Synced head.file now
+  pub read : (before : List Link) → held before → (bodies : Bodies) × (length bodies ≡ reader_count reader) × (first.honest → HasHead head first → HasRead reader now.seen bodies) × holds (before ++ log_of reader bodies ∷ [])
+
+-- no file has so many bodies
+pub few_read : (reader : LogReader) (bodies : Bodies) → length bodies ≡ reader_count reader → length bodies < 2 ^ 62
+few_read reader bodies counted = omega (arith, reader.few, reader.before_end, reader.bounded, reader.places.ok.0, counted)
+
+pub leaves_on : (first mid new : Disk) → Leaves first.may_leave first mid → Leaves mid.may_leave mid new → Leaves first.may_leave first new
+leaves_on first mid new one other = joins first.may_leave mid.may_leave first.may_leave first mid new one other (λ image left. left) (λ image left. one.now image left)
+
+pub kept_on : (first mid new : Disk) → Kept first mid → Kept mid new → Kept first new
+kept_on first mid new one other = record {
+  faults = omega (arith, one.faults, other.faults);
+  honest = λ h. other.honest (one.honest h);
+  not_honest = λ h. one.not_honest (other.not_honest h);
+}
+
+-- a body more
+pub goes_more : (head : LogHead) (first mid new : Disk) (held holds holds' : List Link → Type 0) (old reader : LogReader) (body : List ℕ) → Going head first mid held holds old
+    → Kept mid new → reader.id ≡ old.id → (mid.honest → new.seen ≡ mid.seen) → (mid.honest → Leaves mid.may_leave mid new)
+    → reader_count reader ≡ reader_count old + 1
+    → ((bodies : Bodies) → mid.honest → HasRead old mid.seen bodies → HasRead reader mid.seen (bodies ++ body ∷ []))
+    → ((logs : List Link) (log : Link) → holds (logs ++ log ∷ []) → length log.bodies < 2 ^ 62 → holds' (logs ++ grown log body ∷ []))
+    → Going head first new held holds' reader
+goes_more head first mid new held holds holds' old reader body so_far kept same seen leaves counted next taken = record {
+  kept = kept_on first mid new so_far.kept kept;
+  file_is = ap (λ (i : LogId). i.file) same ∙ so_far.file_is;
+  seen = λ h. seen (so_far.kept.honest h) ∙ so_far.seen h;
+  any_moment = λ h. leaves_on first mid new (so_far.any_moment h) (leaves (so_far.kept.honest h));
+  synced = λ h has. still_synced head.file mid new (so_far.synced h has) (seen (so_far.kept.honest h)) (leaves (so_far.kept.honest h));
+  read = λ before held'.
+      let was = so_far.read before held' in
+      let bodies = was.0 in
+      let more : first.honest → HasHead head first → HasRead reader new.seen (bodies ++ body ∷ []) = λ h has. subst (λ (i : Image). HasRead reader i (bodies ++ body ∷ [])) (sym (seen (so_far.kept.honest h))) (next bodies (so_far.kept.honest h) (was.2 h has)) in
+      let held'' = taken before (log_of old bodies) was.3 (few_read old bodies was.1) in (
+        bodies ++ body ∷ [],
+        omega (arith, length-append bodies (body ∷ []), was.1, counted),
+        more,
+        subst (λ (i : LogId). holds' (before ++ record { number = i.number; bodies = bodies ++ body ∷ [] } ∷ [])) (sym same) held'',
+      );
+}
+
+-- the fault of a header
+pub header_fault : (form : Form) (file : FileId) (bytes : List ℕ) (refusal : Refusal) → IsHeaderRefusal file bytes refusal → IsFault form file bytes refusal
+header_fault form file bytes refusal (inl is) = subst (λ (e : Refusal). IsFault form file bytes e) (sym is.0) is.1
+header_fault form file bytes refusal (inr (inl is)) = subst (λ (e : Refusal). IsFault form file bytes e) (sym is.0) is.1
+header_fault form file bytes refusal (inr (inr is)) = subst (λ (e : Refusal). IsFault form file bytes e) (sym is.0) (refl, inl (inl is.1, refl))
+
+-- the number of a header
+pub number_fault : (form : Form) (file : FileId) (image : Image) (reader : LogReader) → HasRead reader image [] → reader.id.file ≡ file → ¬ form (begun reader.id.number) → IsFault form file (image file) (Damaged file 0)
+unfolding opened
+number_fault form file image reader read file_is bad =
+    let bytes : image reader.id.file ≡ header 1 reader.id.number ++ read.rest = read.bytes ∙ ap (λ (l : List ℕ). l ++ read.rest) (append-nil (header 1 reader.id.number)) in
+    let is_open : IsOpen reader.id.number (image file) = record { rest = read.rest; in_range = read.in_range; bytes = subst (λ (f : FileId). image f ≡ header 1 reader.id.number ++ read.rest) file_is bytes } in
+    let long : 17 ≤ length (image reader.id.file) = omega (arith, reader.before_end, read.size_is, read.at_is) in
+    (refl, inl (inr (record { number = reader.id.number; long = subst (λ (f : FileId). 17 ≤ length (image f)) file_is long; is_open = is_open; bad = bad }), refl))
+
+-- the fault at a gate
+pub gate_fault : (form : Form) (file : FileId) (image : Image) (reader : LogReader) (bodies : Bodies) (refusal : Refusal) → HasRead reader image bodies → reader.id.file ≡ file → form (log_of reader bodies)
+    → IsDamagedBehind reader image bodies refusal → IsFault form file (image file) refusal
+gate_fault form file image reader bodies refusal read file_is formed damaged =
+    let told : refusal ≡ Damaged file (length (opened reader.id.number bodies)) = damaged.told ∙ ap (λ (f : FileId). Damaged f (length (opened reader.id.number bodies))) file_is in
+    subst (λ (e : Refusal). IsFault form file (image file) e) (sym told) (
+      refl,
+      inr (record {
+        log = log_of reader bodies;
+        rest = damaged.rest;
+        in_range = read.in_range;
+        fit = read.fit;
+        formed = formed;
+        bytes = subst (λ (f : FileId). image f ≡ opened reader.id.number bodies ++ 1 ∷ damaged.rest) file_is damaged.bytes;
+        offset_is = refl;
+        none_follows = λ body more batch. damaged.not_whole (length body) (record { body = body; gate = batch.gate; rest = batch.rest; size_is = refl; fits = batch.fits; bytes_are = batch.bytes_are });
+      }),
+    )
+
+pub last_fits : (bodies : Bodies) (body : List ℕ) (reader : LogReader) (image : Image) → HasRead reader image (bodies ++ body ∷ []) → length body ≤ 33554432
+last_fits bodies body reader image read = last bodies read.fit
+  where
+    last : (bs : Bodies) → AllFit (bs ++ body ∷ []) → length body ≤ 33554432
+    last [] fit = fit.0
+    last (b ∷ bs) fit = last bs fit.1
+
+-- the fault of a body
+pub body_fault : (form : Form) (file : FileId) (image : Image) (old new : LogReader) (bodies : Bodies) (body : List ℕ) (gate : ℕ) → HasRead old image bodies → HasRead new image (bodies ++ body ∷ []) → new.id ≡ old.id → old.id.file ≡ file
+    → form (log_of old bodies) → ¬ form (grown (log_of old bodies) body) → gate ≡ length (opened old.id.number bodies) → IsFault form file (image file) (Damaged file gate)
+body_fault form file image old new bodies body gate read more same file_is formed bad gate_is =
+    let number = old.id.number in
+    let here : image old.id.file ≡ opened number (bodies ++ body ∷ []) ++ more.rest = subst (λ (i : LogId). image i.file ≡ opened i.number (bodies ++ body ∷ []) ++ more.rest) same more.bytes in
+    let bytes : image old.id.file ≡ opened number bodies ++ 1 ∷ (sized body ++ more.rest) = here ∙ opened_push number bodies body more.rest in (
+      refl,
+      inr (record {
+        log = log_of old bodies;
+        rest = sized body ++ more.rest;
+        in_range = read.in_range;
+        fit = read.fit;
+        formed = formed;
+        bytes = subst (λ (f : FileId). image f ≡ opened number bodies ++ 1 ∷ (sized body ++ more.rest)) file_is bytes;
+        offset_is = gate_is;
+        none_follows = λ other good batch.
+            let is = (sized_one body other more.rest (batch.gate ∷ batch.rest) (last_fits bodies body new image more) batch.fits batch.bytes_are).0 in
+            bad (subst (λ (b : List ℕ). form (grown (log_of old bodies) b)) (sym is) good);
+      }),
+    )
+
+-- a crash leaves what was read
+pub settles : (log : GatedLog) (file : FileId) (disk : Disk) (bodies : Bodies) → disk.honest → Synced file disk → (log_id log).file ≡ file → LogHolds log disk.seen bodies → Settled (LogHolds log) disk bodies
+settles log file disk bodies honest synced file_is holds = record {
+  honest = honest;
+  now = holds;
+  left = λ c may. holds_local_lem log disk.seen c bodies (λ f own. subst (λ (k : FileId). c k ≡ disk.seen k) (sym (own ∙ file_is)) (synced c may)) holds;
+}

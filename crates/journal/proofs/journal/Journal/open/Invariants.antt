@@ -1,9 +1,0 @@
-use Rattle.journal.specs.Openings.{left_of}
-use Rattle.journal.proofs.Looping.{Stepping}
-use Rattle.journal.proofs.journal.Journal.open.Given as goal
-
-abbrev pub invariant-steps : goal.invariant-steps
-invariant-steps g l = Stepping l.topic (g.S.Shelf.disk l.fn.shelf) (g.S.Shelf.disk l.shelf) l.reader
-
-abbrev pub decreases-steps : goal.decreases-steps
-decreases-steps g l = left_of l.reader

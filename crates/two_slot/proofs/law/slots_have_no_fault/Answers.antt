@@ -1,0 +1,7 @@
+use Rattle.std.proofs.Common.{[]}
+use Rattle.gated_log.specs.Folds.{behind}
+use Rattle.two_slot.specs.Standing.{slots_no_fault}
+use Rattle.two_slot.proofs.law.slots_have_no_fault.Goals as goal
+
+pub returns : goal.returns
+returns g c = λ rule. slots_no_fault (behind (g.F.Fold.form rule) []) (g.met.F.Fold.form_less rule [])
