@@ -2,7 +2,7 @@
 use Rattle.std.proofs.Common.{◌≡◌, ⊎_elim, ◌∙◌, ℕ, true, false, cond, not, Some, List, [], ◌∷◌, ◌++◌, map, take, slice_get, refl, sym, ap, subst}
 use Rattle.std.specs.List.{AllByRecursion}
 use Rattle.commands.specs.declared.reply.Reply.{Reply}
-use Rattle.commands.specs.declared.reply.Reply.TheVariants.{Connected, ProducerSuccess, SendReceipt, SendError, Message, Success, Error, AckResponse, Pong}
+use Rattle.commands.specs.declared.reply.Reply.TheVariants.{Message}
 use Rattle.topic_core.specs.declared.command.Answer.{Answer}
 use Rattle.topic_core.specs.declared.command.Answer.TheVariants.{Now, Later, Nothing, NoMemory}
 use Rattle.topic_core.specs.declared.command.TopicCommand.{TopicCommand}
@@ -54,15 +54,8 @@ due_none who (q ∷ qs) r rs none is = elim (is_for who q) as (λ b. cond b q.du
 
 -- what a failure makes of a reply that is no message is none
 refused_none : (r : Reply) → IsNoMessage r → IsNoMessage (refused r)
-refused_none Connected isnt = refl
-refused_none (ProducerSuccess request_id name) isnt = refl
-refused_none (SendReceipt producer_id sequence_id id) isnt = refl
-refused_none (SendError producer_id sequence_id error) isnt = refl
 refused_none (Message consumer_id id redelivery_count) isnt = isnt
-refused_none (Success request_id) isnt = refl
-refused_none (Error request_id error) isnt = refl
-refused_none (AckResponse consumer_id error request_id) isnt = refl
-refused_none Pong isnt = refl
+refused_none _ isnt = refl
 
 all_refused : (rs : List Reply) → AllByRecursion IsNoMessage rs → AllByRecursion IsNoMessage (map (λ r. refused r) rs)
 all_refused [] none = tt
@@ -135,13 +128,10 @@ not_message r isnt is = cc
 
 -- what goes out on the first of some moves
 told_first : (t : Topic) (m : Move) (u : Topic) (ms : List Move) (v : Topic) → MoveStep t m u → Moves u ms v → OwesNoMessage t → DeliversEach t (m ∷ ms) v.ledger (told_on m)
-told_first t (Command who c a) u ms v s rest none = tt
 told_first t (Tell h) u ms v s rest none = (
   λ is. absurd (not_message h.reply (due_none h.session t.queues h.reply (due_to h.session u.queues) none s.first) is),
   tt,
 )
-told_first t (Lose h) u ms v s rest none = tt
-told_first t (Grant who id permits result) u ms v s rest none = tt
 told_first t (Deliver id h) u ms v s rest none = (
   λ is.
       let a = dispatch-admits t h.session id (outgoing h) u s in
@@ -161,13 +151,7 @@ told_first t (Deliver id h) u ms v s rest none = (
       },
   tt,
 )
-told_first t (Miss id h) u ms v s rest none = tt
-told_first t (Leave who) u ms v s rest none = tt
-told_first t (Flush result) u ms v s rest none = tt
-told_first t (Take result) u ms v s rest none = tt
-told_first t (Finish written result) u ms v s rest none = tt
-told_first t (Reopen result) u ms v s rest none = tt
-told_first t Crash u ms v s rest none = tt
+told_first t _ u ms v s rest none = tt
 
 -- one move before
 later : (t : Topic) (m : Move) (u : Topic) (ms : List Move) (ledger : List (List ℕ)) (h : Handed) → MoveStep t m u → Delivers u ms ledger h → Delivers t (m ∷ ms) ledger h

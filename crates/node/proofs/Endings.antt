@@ -64,10 +64,7 @@ reopen_ends : (t : Topic) (result : Result (Unit {0}) Refusal) (u : Topic) → t
 reopen_ends t (Ok done) u failed s = inr (record { failed = failed; left = s.0; again = s.1 })
 reopen_ends t (Err refusal.NoMemory) u failed s = inl s
 reopen_ends t (Err refusal.Device) u failed s = inl s
-reopen_ends t (Err (refusal.Damaged file offset)) u failed s = absurd s
-reopen_ends t (Err refusal.NotInitialised) u failed s = absurd s
-reopen_ends t (Err refusal.Version) u failed s = absurd s
-reopen_ends t (Err refusal.TooLarge) u failed s = absurd s
+reopen_ends t (Err _) u failed s = absurd s
 
 reopen_in : (fails : Bool) (t : Topic) (result : Result (Unit {0}) Refusal) (u : Topic) → t.failed ≡ fails → ReopenIn fails t result u → (u ≡ t) ⊎ Reopened t u
 reopen_in true t result u is s = reopen_ends t result u is s

@@ -4,7 +4,7 @@ use Rattle.std.proofs.lemmas.List.{length-take-le, take_all, take-append-drop, t
 use Rattle.std.proofs.lemmas.Option.{slice_get_within}
 use Rattle.std.specs.List.{AllByRecursion}
 use Rattle.commands.specs.declared.reply.Reply.{Reply}
-use Rattle.commands.specs.declared.reply.Reply.TheVariants.{Connected, ProducerSuccess, SendReceipt, SendError, Message, Success, Error, AckResponse, Pong}
+use Rattle.commands.specs.declared.reply.Reply.TheVariants.{Connected}
 use Rattle.topic_core.specs.declared.command.Answer.{Answer}
 use Rattle.topic_core.specs.declared.command.Answer.TheVariants.{Now, Later, Nothing, NoMemory}
 use Rattle.topic_core.specs.declared.command.Send.{Send}
@@ -31,14 +31,7 @@ not_receipt r isnt is = cc
 -- what a failure makes of a reply is no receipt
 refused_plain : (r : Reply) → is_receipt (refused r) ≡ false
 refused_plain Connected = refl
-refused_plain (ProducerSuccess request_id name) = refl
-refused_plain (SendReceipt producer_id sequence_id id) = refl
-refused_plain (SendError producer_id sequence_id error) = refl
-refused_plain (Message consumer_id id redelivery_count) = refl
-refused_plain (Success request_id) = refl
-refused_plain (Error request_id error) = refl
-refused_plain (AckResponse consumer_id error request_id) = refl
-refused_plain Pong = refl
+refused_plain _ = refl
 
 -- ---- lists
 
@@ -427,21 +420,12 @@ module _ (base : ℕ) (before : List Sent) where
 
   -- what goes out on a move is found before it
   told_found : (t : Topic) (m : Move) (u : Topic) → MoveStep t m u → Owes base before t → FindsEach before t.ledger (told_on m)
-  told_found t (Command who c a) u s o = tt
   told_found t (Tell h) u s o = (
     subst (Finds before t.ledger) (same_handed h s.plain) (due_owed (FoundIn before t) t.queues o.queues h.session h.reply (due_to h.session u.queues) s.first),
     tt,
   )
-  told_found t (Lose h) u s o = tt
-  told_found t (Grant who id permits result) u s o = tt
   told_found t (Deliver id h) u s o = (λ is. absurd (not_receipt h.reply (ap (λ (r : Reply). is_receipt r) s.1.reply) is), tt)
-  told_found t (Miss id h) u s o = tt
-  told_found t (Leave who) u s o = tt
-  told_found t (Flush result) u s o = tt
-  told_found t (Take result) u s o = tt
-  told_found t (Finish written result) u s o = tt
-  told_found t (Reopen result) u s o = tt
-  told_found t Crash u s o = tt
+  told_found t _ u s o = tt
 
 each_found : (before : List Sent) (ledger : List (List ℕ)) (after : List Sent) (ledger' : List (List ℕ)) → ((h : Handed) → Finds before ledger h → Finds after ledger' h) → (hs : List Handed) → FindsEach before ledger hs → FindsEach after ledger' hs
 each_found before ledger after ledger' f [] all = tt

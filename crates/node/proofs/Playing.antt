@@ -242,18 +242,7 @@ works (command.Other k) old entry new s = ends old new _ s
 
 connects : (c : Command) (old new : Play) → Connects old c new → Plays old new
 connects (command.Connect c) old new s = for_client (connected_client old.client) old new refl (says_alone (record old { client = connected_client old.client }) reply.Connected new (record { no_receipt = refl; no_message = refl }) s)
-connects (command.Producer c) old new s = ends old new _ s
-connects (command.Send c) old new s = ends old new _ s
-connects (command.Subscribe c) old new s = ends old new _ s
-connects (command.Flow c) old new s = ends old new _ s
-connects (command.Ack c) old new s = ends old new _ s
-connects (command.CloseProducer c) old new s = ends old new _ s
-connects (command.Unsubscribe c) old new s = ends old new _ s
-connects (command.CloseConsumer c) old new s = ends old new _ s
-connects (command.RedeliverUnacknowledgedMessages c) old new s = ends old new _ s
-connects command.Ping old new s = ends old new _ s
-connects command.Pong old new s = ends old new _ s
-connects (command.Other k) old new s = ends old new _ s
+connects _ old new s = ends old new _ s
 
 in_frame : (fault : Option Fault) (connected : Bool) (old : Play) (frame : Frame) (new : Play) → FrameIn fault connected old frame new → Plays old new
 in_frame None true old frame new s = works frame.command old frame.entry new s

@@ -311,18 +311,9 @@ module _ (word : Word) where
   moved t Crash u s sound sound' h = crashes t u s h
 
   turn : (t : Topic) (m : Move) (u : Topic) → MoveStep t m u → HoldsAt t word → InTurn word m
-  turn t (Command who c a) u s h = tt
   turn t (Tell handed) u s h = in_turn (changes_of t.doubt) t.subs.changes t.kept t.queues word h handed (due_to handed.session u.queues) s.first
   turn t (Lose handed) u s h = in_turn (changes_of t.doubt) t.subs.changes t.kept t.queues word h handed (due_to handed.session u.queues) s.first
-  turn t (Grant who id permits result) u s h = tt
-  turn t (Deliver id handed) u s h = tt
-  turn t (Miss id handed) u s h = tt
-  turn t (Leave who) u s h = tt
-  turn t (Flush result) u s h = tt
-  turn t (Take result) u s h = tt
-  turn t (Finish written result) u s h = tt
-  turn t (Reopen result) u s h = tt
-  turn t Crash u s h = tt
+  turn t _ u s h = tt
 
 turns : (t : Topic) (moves : List Move) (u : Topic) (steps : Moves t moves u) (word : Word) → IsSoundTopic t → HoldsAt t word → AreInTurn t moves u steps word
 turns t [] u steps word sound h = tt

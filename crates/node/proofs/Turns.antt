@@ -3,7 +3,7 @@ use Rattle.std.proofs.Common.{◌≡◌, ◌⊎◌, inl, inr, ◌∙◌, ℕ, tr
 use Rattle.std.proofs.lemmas.Bool.{eqb-true}
 use Rattle.std.specs.List.{AllByRecursion, find}
 use Rattle.commands.specs.declared.reply.Reply.{Reply}
-use Rattle.commands.specs.declared.reply.Reply.TheVariants.{Connected, ProducerSuccess, SendReceipt, SendError, Message, Success, Error, AckResponse, Pong}
+use Rattle.commands.specs.declared.reply.Reply.TheVariants.{Connected}
 use Rattle.reply_queues.specs.Replies.{refused}
 use Rattle.node.specs.Promising.{Promise, Owed, is_to, first_owed, without_first, is_acceptance, promised}
 use Rattle.node.proofs.Queues.{Debt, Due, HandedOn, Pending}
@@ -36,14 +36,7 @@ Matches R (d ∷ ds) (o ∷ os) = R o d × Matches R ds os
 -- what a failure makes of a reply tells of no acceptance
 refused_no_acceptance : (r : Reply) → is_acceptance (refused r) ≡ false
 refused_no_acceptance Connected = refl
-refused_no_acceptance (ProducerSuccess request_id name) = refl
-refused_no_acceptance (SendReceipt producer_id sequence_id id) = refl
-refused_no_acceptance (SendError producer_id sequence_id error) = refl
-refused_no_acceptance (Message consumer_id id redelivery_count) = refl
-refused_no_acceptance (Success request_id) = refl
-refused_no_acceptance (Error request_id error) = refl
-refused_no_acceptance (AckResponse consumer_id error request_id) = refl
-refused_no_acceptance Pong = refl
+refused_no_acceptance _ = refl
 
 pub to_each : (P P' : Promise → Type 0) → ((p : Promise) → P p → P' p) → (ps : List Promise) → AllByRecursion P ps → AllByRecursion P' ps
 to_each P P' f [] all = tt

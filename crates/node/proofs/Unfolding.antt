@@ -180,13 +180,7 @@ opening_utters verdict.Done old bytes new none s =
     unheard old.broker bytes new.state.broker none (λ number. one_move (topic_at old.broker number) Crash (topic_at new.state.broker number) (s.crash.each number))
 opening_utters (verdict.Refused refusal.NoMemory) old bytes new none s = unmoved None old.broker bytes new.state.broker none (ap (λ (n : State). n.broker) s.state)
 opening_utters (verdict.Refused refusal.Device) old bytes new none s = unmoved None old.broker bytes new.state.broker none (ap (λ (n : State). n.broker) s.0.state)
-opening_utters (verdict.Refused (refusal.Damaged file offset)) old bytes new none s = absurd s
-opening_utters (verdict.Refused refusal.NotInitialised) old bytes new none s = absurd s
-opening_utters (verdict.Refused refusal.Version) old bytes new none s = absurd s
-opening_utters (verdict.Refused refusal.TooLarge) old bytes new none s = absurd s
-opening_utters verdict.Full old bytes new none s = absurd s
-opening_utters verdict.Unknown old bytes new none s = absurd s
-opening_utters (verdict.Ended why) old bytes new none s = absurd s
+opening_utters _ old bytes new none s = absurd s
 
 event_in_utters : (up : Bool) (old : Life) (e : Event) (output : Output) (new : Life) → EventIn up old e output new → Utters (hearer e) old.state.broker output.bytes new.state.broker
 event_in_utters true old e output new s = event_utters old.state e output new.state s.1
