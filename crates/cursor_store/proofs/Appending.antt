@@ -4,7 +4,7 @@ use Rattle.std.specs.FinMap as map
 use Rattle.disk.specs.Disk.{Disk, Image}
 use Rattle.disk.specs.Areas.{Within, weaken_within}
 use Rattle.gated_log.specs.Batches.{Bodies, BeforeOrAfter}
-use Rattle.gated_log.specs.Lists.{Settled as SlotsSettled, InDoubt as SlotsInDoubt, StaysSo}
+use Rattle.disk.specs.Contents.{Settled as SlotsSettled, InDoubt as SlotsInDoubt, StaysSo}
 use Rattle.two_slot.specs.declared.two_slot.TwoSlot.{TwoSlot}
 use Rattle.two_slot.specs.Slots.{SlotsOf, Stands}
 use Rattle.two_slot.specs.TwoSlots.{Holds as SlotsHold, content as slots_content}
@@ -42,7 +42,7 @@ either topic entries c kept records bodies means formed which =
     ⊎_elim (λ is. inl (record { bodies = bodies; stands = is; means = means })) (λ is. inr (record { bodies = bodies ++ body_of records ∷ []; stands = is; means = more entries bodies kept records means formed })) which
 
 pub in_doubt : (old : CursorStore) (new : TwoSlot) (entries : ℕ) (d0 d1 : Disk) (kept : Kept) (records : List Record) (bodies : Bodies) → AreFormed entries kept records → InBodies old entries d0 kept bodies
-    → SlotsInDoubt (slots_content new) (Stands (topic_of old)) d1 bodies (body_of records) → InDoubt old.kept (StandsFor (topic_of old) entries) d1 kept records
+    → SlotsInDoubt (slots_content new) (Stands (topic_of old)) d1 bodies (bodies ++ body_of records ∷ []) → InDoubt old.kept (StandsFor (topic_of old) entries) d1 kept records
 in_doubt old new entries d0 d1 kept records bodies formed is doubt = record {
   honest = doubt.honest;
   same = is.same;

@@ -8,7 +8,7 @@ use Rattle.two_slot.specs.Slots.{SlotsOf}
 use Rattle.two_slot.specs.Local.{stands_local_lem as slots_local, holds_local_lem as slots_hold_local, content_local_lem, holds_stand as slots_stand}
 use Rattle.two_slot.specs.TwoSlots.{Holds as SlotsHold}
 use Rattle.gated_log.specs.Content.{held_content}
-use Rattle.gated_log.specs.Lists.{Settled as SlotsSettled}
+use Rattle.disk.specs.Contents.{Settled as SlotsSettled}
 use Rattle.two_slot.specs.One.{slots_one}
 use Rattle.records.specs.Maps.{Kept}
 use Rattle.records.specs.Bytes.{Means}

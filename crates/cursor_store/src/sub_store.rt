@@ -82,7 +82,7 @@ pub trait SubStore: Drop {
         ensures refused { (S.disk shelf.old).honest → IfErr result (λ e. (e ≡ Refusal.NoMemory) ⊎ ((e ≡ Refusal.Device) ⊎ faulty topic entries (S.disk shelf.old).seen e)) }
         ensures topic { IfOk result (λ store. topic_of store ≡ topic) }
         ensures works { IfOk result (λ store. failed store ≡ false) }
-        ensures device { IsErrOf result Refusal.Device → Failed (S.disk shelf.old) (S.disk shelf.new) }
+        ensures cause { IsErrOf result Refusal.Device → Failed (S.disk shelf.old) (S.disk shelf.new) }
 
         // What reads give stays, but of a file whose sync failed.
         ensures seen { (S.disk shelf.old).honest → ¬ IsErrOf result Refusal.Device → Same (S.disk shelf.old).seen (S.disk shelf.new).seen }

@@ -14,7 +14,7 @@ use Rattle.gated_log.specs.Batches.{Bodies, header, sized, opened, AllFit}
 use Rattle.gated_log.specs.Headers.{IsOpen}
 use Rattle.gated_log.specs.Folds.{Link, begun, grown, Form, IsFault}
 use Rattle.gated_log.specs.Head.{HasHead}
-use Rattle.gated_log.specs.Lists.{Settled}
+use Rattle.disk.specs.Contents.{Settled}
 use Rattle.gated_log.specs.Local.{holds_local_lem}
 use Rattle.gated_log.specs.Logs.{LogHolds, log_id}
 use Rattle.gated_log.specs.One.{opened_push, sized_one}

@@ -3,7 +3,6 @@ pub mod Batches
 pub mod Gates
 pub mod Headers
 pub mod Head
-pub mod Lists
 pub mod Logs
 pub mod Content
 pub mod One

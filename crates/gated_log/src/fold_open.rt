@@ -5,7 +5,7 @@ ghost use Rattle.disk.specs.Areas.{Agree};
 ghost use Rattle.gated_log.specs.Batches.{Bodies};
 ghost use Rattle.gated_log.specs.Folds.{Link, IsFault, behind};
 ghost use Rattle.gated_log.specs.Head.{HasHead, head_file};
-ghost use Rattle.gated_log.specs.Lists.{Settled};
+ghost use Rattle.disk.specs.Contents.{Settled};
 ghost use Rattle.gated_log.specs.Logs.{LogHolds, log_id, log_failed};
 
 use crate::fold::Fold;
@@ -33,7 +33,7 @@ impl GatedLog {
         ensures rule { F.rule fold.new ≡ F.rule fold.old }
         ensures file { IfOk result (λ log. (log_id log).file ≡ file) }
         ensures works { IfOk result (λ log. log_failed log ≡ false) }
-        ensures device { IsErrOf result Refusal.Device → Failed (S.disk shelf.old) (S.disk shelf.new) }
+        ensures cause { IsErrOf result Refusal.Device → Failed (S.disk shelf.old) (S.disk shelf.new) }
         ensures seen { (S.disk shelf.old).honest → ¬ IsErrOf result Refusal.Device → Same (S.disk shelf.old).seen (S.disk shelf.new).seen }
         ensures others { (S.disk shelf.old).honest → Agree (λ f. ¬ (f ≡ file)) (S.disk shelf.old).seen (S.disk shelf.new).seen }
         ensures any_moment { (S.disk shelf.old).honest → Leaves (S.disk shelf.old).may_leave (S.disk shelf.old) (S.disk shelf.new) }
@@ -57,7 +57,7 @@ impl GatedLog {
         ensures rule { F.rule fold.new ≡ F.rule fold.old }
         ensures file { IfOk result (λ log. (log_id log).file ≡ head_file head.now) }
         ensures works { IfOk result (λ log. log_failed log ≡ false) }
-        ensures device { IsErrOf result Refusal.Device → Failed (S.disk shelf.old) (S.disk shelf.new) }
+        ensures cause { IsErrOf result Refusal.Device → Failed (S.disk shelf.old) (S.disk shelf.new) }
         ensures seen { (S.disk shelf.old).honest → Same (S.disk shelf.old).seen (S.disk shelf.new).seen }
         ensures any_moment { (S.disk shelf.old).honest → Leaves (S.disk shelf.old).may_leave (S.disk shelf.old) (S.disk shelf.new) }
         ensures kept { Kept (S.disk shelf.old) (S.disk shelf.new) }

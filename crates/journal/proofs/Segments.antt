@@ -10,7 +10,7 @@ use Rattle.gated_log.specs.declared.refusal.Refusal.TheVariants.{Device, NotInit
 use Rattle.gated_log.specs.Batches.{Bodies}
 use Rattle.gated_log.specs.Folds.{Link, Form, behind, begun, grown, IsNumberFault, IsBatchFault, IsFault}
 use Rattle.gated_log.specs.Headers.{IsHeaderDamaged}
-use Rattle.gated_log.specs.Lists.{Settled as LogSettled}
+use Rattle.disk.specs.Contents.{Settled as LogSettled}
 use Rattle.gated_log.specs.Logs.{LogHolds, log_id}
 use Rattle.journal.specs.declared.journal.Journal.{Journal}
 use Rattle.journal.specs.Chains.{Chain, entry, end_mark, batches_of, closed_batches_of, links_of}

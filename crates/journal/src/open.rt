@@ -45,7 +45,7 @@ impl Journal {
         ensures rule { IfOk result (λ opened. F.rule opened.1 ≡ F.rule fold) }
         ensures topic { IfOk result (λ opened. topic_of opened.0 ≡ topic) }
         ensures works { IfOk result (λ opened. failed opened.0 ≡ false) }
-        ensures device { IsErrOf result Refusal.Device → Failed (S.disk shelf.old) (S.disk shelf.new) }
+        ensures cause { IsErrOf result Refusal.Device → Failed (S.disk shelf.old) (S.disk shelf.new) }
         ensures seen { (S.disk shelf.old).honest → ¬ IsErrOf result Refusal.Device → Same (S.disk shelf.old).seen (S.disk shelf.new).seen }
         ensures others { (S.disk shelf.old).honest → Agree (λ f. ¬ SegmentsOf topic f) (S.disk shelf.old).seen (S.disk shelf.new).seen }
         ensures any_moment { (S.disk shelf.old).honest → Leaves (S.disk shelf.old).may_leave (S.disk shelf.old) (S.disk shelf.new) }

@@ -16,7 +16,7 @@ use Rattle.managed_ledger.specs.Ledgers.{IndexHolds, Holds, counts_of}
 use Rattle.managed_ledger.specs.One.{segments_one}
 use Rattle.managed_ledger.specs.Segments.{index_total}
 use Rattle.managed_ledger.specs.Shape.{total}
-use Rattle.managed_ledger.specs.Stores.{Settled}
+use Rattle.disk.specs.Contents.{Settled}
 use Rattle.managed_ledger.specs.Folded.{AreLedger, IsFault, HasRead, ReadsBody, ReadsSegment, position, counted, last_of, less_of, chain_segments, indexed_ledger, ledger_no_fault}
 use Rattle.managed_ledger.proofs.Indexing.{begun_indexed}
 

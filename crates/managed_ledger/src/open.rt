@@ -7,7 +7,7 @@ ghost use Rattle.managed_ledger.specs.Entries.{Entries};
 ghost use Rattle.managed_ledger.specs.Folded.{IsFault};
 ghost use Rattle.managed_ledger.specs.Ledgers.{Holds, counts_of, ledger_topic, failed};
 ghost use Rattle.managed_ledger.specs.Shape.{total};
-ghost use Rattle.managed_ledger.specs.Stores.{Settled};
+ghost use Rattle.disk.specs.Contents.{Settled};
 
 use crate::EntryFold;
 use crate::ledger_fold::LedgerFold;
@@ -37,7 +37,7 @@ impl ManagedLedger {
         ensures topic { IfOk result (λ opened. ledger_topic opened.0 ≡ topic) }
         ensures per_ledger { IfOk result (λ opened. opened.0.entries_per_ledger ≡ entries_per_ledger) }
         ensures works { IfOk result (λ opened. failed opened.0 ≡ false) }
-        ensures device { IsErrOf result Refusal.Device → Failed (S.disk shelf.old) (S.disk shelf.new) }
+        ensures cause { IsErrOf result Refusal.Device → Failed (S.disk shelf.old) (S.disk shelf.new) }
 
         // What reads give stays, but of a segment whose sync failed.
         ensures seen { (S.disk shelf.old).honest → ¬ IsErrOf result Refusal.Device → Same (S.disk shelf.old).seen (S.disk shelf.new).seen }

@@ -4,7 +4,7 @@ ghost use Rattle.disk.specs.Disk.{Image, Kept as Counted, Failed};
 ghost use Rattle.disk.specs.Areas.{Within};
 ghost use Rattle.managed_ledger.specs.Entries.{Entries, AreEntries};
 ghost use Rattle.managed_ledger.specs.Shape.{total};
-ghost use Rattle.managed_ledger.specs.Stores as entries_stores;
+ghost use Rattle.disk.specs.Contents as entries_stores;
 ghost use Rattle.records.specs.declared.record.Record.{Record};
 ghost use Rattle.records.specs.Maps.{Kept};
 ghost use Rattle.records.specs.Records.{AreFormed, after_all};
@@ -84,7 +84,7 @@ pub(crate) fn append_entries<E: EntryStore, S: Shelf>(
     ensures counts { (batch : Entries) → PreparedFor E.is_for prepared batch → OnOk result (total (E.counts store.new) ≡ total (E.counts store.old) + length batch) }
     ensures total_stays { IsErr result → total (E.counts store.new) ≡ total (E.counts store.old) }
     ensures in_doubt { (entries batch : Entries) → PreparedFor E.is_for prepared batch → entries_stores.Settled (E.holds store.old) (S.disk shelf.old) entries →
-        IsErr result → entries_stores.InDoubt (E.content store.new) (E.stands (E.topic_of store.old)) (S.disk shelf.new) entries batch }
+        IsErr result → entries_stores.InDoubt (E.content store.new) (E.stands (E.topic_of store.old)) (S.disk shelf.new) entries (entries ++ batch) }
 
     // A crash at any moment of the call leaves all the entries or none, and other files as they were.
     ensures within { (entries batch : Entries) → PreparedFor E.is_for prepared batch → entries_stores.Settled (E.holds store.old) (S.disk shelf.old) entries →

@@ -66,7 +66,7 @@ pub trait TopicStore: Drop {
             IfErr result (λ e. (e ≡ refusal.NoMemory) ⊎ ((e ≡ refusal.Device) ⊎ faulty topic (S.disk shelf.old).seen e)) }
         ensures works { IfOk result (λ opened. (view opened.0).failed ≡ false) }
         ensures topic { IfOk result (λ opened. (view opened.0).topic ≡ topic) }
-        ensures device { IsErrOf result refusal.Device → Failed (S.disk shelf.old) (S.disk shelf.new) }
+        ensures cause { IsErrOf result refusal.Device → Failed (S.disk shelf.old) (S.disk shelf.new) }
 
         // What reads give stays, but of a file whose sync failed.
         ensures seen { (S.disk shelf.old).honest → ¬ IsErrOf result refusal.Device → Same (S.disk shelf.old).seen (S.disk shelf.new).seen }

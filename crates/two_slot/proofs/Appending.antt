@@ -9,7 +9,7 @@ use Rattle.disk.specs.Areas.{Within, widen_within}
 use Rattle.gated_log.specs.declared.log.GatedLog.{GatedLog}
 use Rattle.gated_log.specs.declared.log_id.LogId.{LogId}
 use Rattle.gated_log.specs.Batches.{Bodies, IsLog, BeforeOrAfter}
-use Rattle.gated_log.specs.Lists.{Settled, InDoubt, StaysSo}
+use Rattle.disk.specs.Contents.{Settled, InDoubt, StaysSo}
 use Rattle.gated_log.specs.Logs.{StandsFor, LogHolds, log_id, log_content}
 use Rattle.two_slot.specs.declared.spare.Spare.{Spare}
 use Rattle.two_slot.specs.declared.two_slot.TwoSlot.{TwoSlot}
@@ -65,7 +65,7 @@ append_within slots d0 d1 bodies body s w =
 
 pub append_doubt : (slots : TwoSlot) (log : GatedLog) (d0 d1 : Disk) (bodies : Bodies) (body : List ℕ) → Settled (Holds slots) d0 bodies
     → Within (λ f. f ≡ (log_id slots.log).file) (λ c. BeforeOrAfter (StandsFor (log_id slots.log) c) bodies body) d0 d1
-    → InDoubt (log_content log) (StandsFor (log_id slots.log)) d1 bodies body → InDoubt (log_content log) (Stands slots.topic) d1 bodies body
+    → InDoubt (log_content log) (StandsFor (log_id slots.log)) d1 bodies (bodies ++ body ∷ []) → InDoubt (log_content log) (Stands slots.topic) d1 bodies (bodies ++ body ∷ [])
 append_doubt slots log d0 d1 bodies body s w doubt = record {
   honest = doubt.honest;
   now = doubt.now;

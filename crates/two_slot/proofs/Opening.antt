@@ -14,7 +14,7 @@ use Rattle.gated_log.specs.Batches.{Bodies, IsLog}
 use Rattle.gated_log.specs.Folds.{Link, Form, IsFault}
 use Rattle.gated_log.specs.Head.{IsHead, HasHead, head_file}
 use Rattle.gated_log.specs.Headers.{IsOpen}
-use Rattle.gated_log.specs.Lists.{Settled}
+use Rattle.disk.specs.Contents.{Settled}
 use Rattle.gated_log.specs.Logs.{LogHolds, log_id}
 use Rattle.two_slot.specs.declared.slot_header.HeaderFault.TheVariants.{Damage as HeaderDamage}
 use Rattle.two_slot.specs.declared.slot_header.SlotHeader.{SlotHeader}

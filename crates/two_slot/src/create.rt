@@ -3,7 +3,7 @@ ghost use Rattle.std.specs.Prelude.{◌≡◌, [], false, IfOk, IsErr};
 ghost use Rattle.two_slot.specs.Fresh.{AreFresh};
 ghost use Rattle.disk.specs.Disk.{Kept, Failed};
 ghost use Rattle.disk.specs.Areas.{Within};
-ghost use Rattle.gated_log.specs.Lists.{Settled};
+ghost use Rattle.disk.specs.Contents.{Settled};
 ghost use Rattle.two_slot.specs.Slots.{SlotsOf};
 ghost use Rattle.two_slot.specs.TwoSlots.{Holds, topic_of, failed};
 

@@ -6,7 +6,7 @@ ghost use Rattle.disk.specs.Areas.{Agree};
 ghost use Rattle.gated_log.specs.Batches.{Bodies};
 ghost use Rattle.gated_log.specs.Folds.{behind};
 ghost use Rattle.gated_log.specs.Head.{head_file};
-ghost use Rattle.gated_log.specs.Lists.{Settled};
+ghost use Rattle.disk.specs.Contents.{Settled};
 ghost use Rattle.two_slot.specs.Slots.{SlotsOf};
 ghost use Rattle.two_slot.specs.TwoSlots.{Holds, generation_of, topic_of, failed};
 ghost use Rattle.two_slot.specs.Heads.{HaveHeads, heads_topic, head_in};
@@ -75,7 +75,7 @@ fn open_from<S: Shelf, F: Fold>(
     ensures rule { F.rule fold.new ≡ F.rule fold.old }
     ensures topic { IfOk result (λ slots. topic_of slots ≡ heads_topic heads.now) }
     ensures works { IfOk result (λ slots. failed slots ≡ false) }
-    ensures device { IsErrOf result Refusal.Device → Failed (S.disk shelf.old) (S.disk shelf.new) }
+    ensures cause { IsErrOf result Refusal.Device → Failed (S.disk shelf.old) (S.disk shelf.new) }
     ensures seen { (S.disk shelf.old).honest → Same (S.disk shelf.old).seen (S.disk shelf.new).seen }
     ensures any_moment { (S.disk shelf.old).honest → Leaves (S.disk shelf.old).may_leave (S.disk shelf.old) (S.disk shelf.new) }
     ensures kept { Kept (S.disk shelf.old) (S.disk shelf.new) }
@@ -120,7 +120,7 @@ impl TwoSlot {
         ensures rule { F.rule fold.new ≡ F.rule fold.old }
         ensures topic { IfOk result (λ slots. topic_of slots ≡ topic) }
         ensures works { IfOk result (λ slots. failed slots ≡ false) }
-        ensures device { IsErrOf result Refusal.Device → Failed (S.disk shelf.old) (S.disk shelf.new) }
+        ensures cause { IsErrOf result Refusal.Device → Failed (S.disk shelf.old) (S.disk shelf.new) }
 
         // What reads give stays, but of a slot whose sync failed.
         ensures seen { (S.disk shelf.old).honest → ¬ IsErrOf result Refusal.Device → Same (S.disk shelf.old).seen (S.disk shelf.new).seen }

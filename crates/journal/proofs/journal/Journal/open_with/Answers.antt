@@ -7,7 +7,7 @@ use Rattle.gated_log.specs.declared.refusal.Refusal.{Refusal}
 use Rattle.gated_log.specs.declared.refusal.Refusal.TheVariants.{NoMemory, Device}
 use Rattle.gated_log.specs.Batches.{Bodies}
 use Rattle.gated_log.specs.Folds.{Link, behind, IsFault}
-use Rattle.gated_log.specs.Lists.{Settled as LogSettled}
+use Rattle.disk.specs.Contents.{Settled as LogSettled}
 use Rattle.gated_log.specs.Logs.{LogHolds, log_id, log_failed}
 use Rattle.journal.specs.Folded.{refusal_of_named}
 use Rattle.journal.specs.Files.{segment_topic}
