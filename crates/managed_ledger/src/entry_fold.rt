@@ -13,8 +13,8 @@ pub trait EntryFold {
 
     /// The next entry.
     fn entry(&mut self, entry: &[u8], metadata: &MessageMeta) -> Result<(), AllocError>
-        requires { entry_of entry.now ≡ Ok metadata.now }
-        ensures { (entries : Entries) → holds self.old entries → OnOk result (holds self.new (entries ++ entry.now ∷ [])) };
+        ensures { (entries : Entries) → holds self.old entries → entry_of entry.now ≡ Ok metadata.now →
+            OnOk result (holds self.new (entries ++ entry.now ∷ [])) };
 }
 
 impl EntryFold for () {

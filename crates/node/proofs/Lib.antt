@@ -24,3 +24,4 @@ pub mod Holding
 pub mod Accepting
 pub mod Promising
 pub mod Accounts
+pub mod Segments

@@ -1,13 +1,14 @@
 -- A machine that is driven through events and crashes.
 use Rattle.std.specs.Prelude.{◌≡◌, ℕ, suc, Bool, true, false, Option, Some, None, Result, IfOk, List, ◌∷◌, ◌++◌, length, take}
 use Rattle.std.specs.declared.alloc.AllocError.{AllocError}
-use Rattle.disk.specs.Disk.{Disk}
+use Rattle.disk.specs.Disk.{Disk, Image}
 use Rattle.topic_stores.specs.declared.store.TopicStore.{Ghosts as StoreMembers}
 use Rattle.subscriptions.specs.Statuses.{AreStatuses}
 use Rattle.topic_core.specs.State.{Topic}
+use Rattle.topic_core.specs.Standing.{Phase, Before, Written, Lost}
 use Rattle.session.specs.Broker.{topic_at}
 use Rattle.node.specs.State.{State, broker_with}
-use Rattle.node.specs.Standing.{state_of, Stands, AtRest}
+use Rattle.node.specs.Standing.{state_of, phase_in, Stands, AtRest}
 use Rattle.node.specs.Runs.{Life, AllowedRun}
 use Rattle.node.specs.Laws.{IsAtStart, Accounts}
 use Rattle.node.specs.declared.event.Happening.{Happening}
@@ -29,11 +30,27 @@ StatusOf true state (Some status) = (status.number ≡ 0) × (status.entries ≡
 StatusOf true state None = ⊥
 StatusOf false state told = told ≡ None
 
+-- the topic has so many segment files, by the files alone
+abbrev pub HasSegments : (ℕ → Image → List ℕ → Type 0) → Image → ℕ → Type 0
+HasSegments laid files segments = (counts : List ℕ) × laid 0 files counts × (segments ≡ length counts)
+
+-- as many segments are told as there are, but where the store met a failure of the device
+abbrev pub TellsSegments : (ℕ → Image → List ℕ → Type 0) → Phase → Image → ℕ → Type 0
+TellsSegments laid Before files segments = HasSegments laid files segments
+TellsSegments laid Written files segments = HasSegments laid files segments
+TellsSegments laid Lost files segments = Unit {0}
+
 module _ {T S : Type 0} {store : StoreMembers T} (disk : S → Disk) where
   -- The machine holds this life: a node that works, or the device alone, which stands for what a crash leaves of the state.
   abbrev pub Holds : ℕ → Machine T S store → Life → Type 0
   Holds per_ledger (machine.Up node) life = Stands disk node × (life ≡ record { up = true; state = state_of disk node }) × IsServed per_ledger life.state
   Holds per_ledger (machine.Down shelf) life = AtRest store.stands life.state (disk shelf) × (life.up ≡ false) × IsServed per_ledger life.state
+
+  -- so it is of the status of a machine
+  abbrev pub SegmentsTold : (ℕ → Image → List ℕ → Type 0) → Machine T S store → Option TopicStatus → Type 0
+  SegmentsTold laid (machine.Up node) (Some status) = TellsSegments laid (phase_in node.topics) (disk node.topics.shelf).seen status.segments
+  SegmentsTold laid (machine.Up node) None = ⊥
+  SegmentsTold laid (machine.Down shelf) told = Unit {0}
 
   -- The node was opened, and then a front of the happenings was worked, as long as the outputs that were added; all of them
   -- where no memory was refused for an output. From a start where nothing is owed, what the sessions were told is accounted for.

@@ -58,7 +58,8 @@ remembers-prop Lost t v =
 
 pub Match-prop : (phase : Phase) (t : Topic) (v : StoreView) → IsProp (Match phase t v)
 Match-prop phase t v =
-    as_product (λ x. (x.kept, x.remembers)) (λ x. record { kept = x.0; remembers = x.1 }) (λ _. refl) (×_prop (is_kept-prop t.committed t.kept t.subs) (remembers-prop phase t v))
+    as_product (λ x. (x.kept, (x.remembers, x.numbered))) (λ x. record { kept = x.0; remembers = x.1.0; numbered = x.1.1 }) (λ _. refl)
+    (×_prop (is_kept-prop t.committed t.kept t.subs) (×_prop (remembers-prop phase t v) (Coded-set coded_ℕ _ _)))
 
 record_code : Coded Record
 record_code = Prim.hlevel codes

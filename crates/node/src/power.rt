@@ -2,7 +2,7 @@
 ghost use Rattle.std.specs.Prelude.{◌≡◌, ◌<◌, ◌≤◌, ◌++◌, ◌∷◌, List, ℕ, IfOk, OnOk, false, length, take};
 ghost use Rattle.node.specs.State.{State};
 ghost use Rattle.node.specs.Standing.{AtRest};
-ghost use Rattle.node.specs.Driving.{Holds, IsServed, StatusOf, Drove};
+ghost use Rattle.node.specs.Driving.{Holds, IsServed, StatusOf, SegmentsTold, Drove};
 ghost use Rattle.node.specs.Runs.{Life, OpeningStep, HappeningStep};
 ghost use Rattle.node.specs.declared.event.Happening.TheVariants as happening;
 
@@ -77,7 +77,8 @@ impl<T: TopicStore, S: CrashShelf + Drop> Machine<T, S> {
 
     /// What the topic has. A node that is down tells nothing, and an error is want of memory.
     pub fn status(&self) -> Result<Option<TopicStatus>, AllocError>
-        ensures { (per_ledger : ℕ) (life : Life) → Holds S.disk per_ledger self.now life → IfOk result (StatusOf life.up life.state) }
+        ensures files { (per_ledger : ℕ) (life : Life) → Holds S.disk per_ledger self.now life → IfOk result (SegmentsTold S.disk T.laid self.now) }
+        ensures status { (per_ledger : ℕ) (life : Life) → Holds S.disk per_ledger self.now life → IfOk result (StatusOf life.up life.state) }
     {
         match self {
             Machine::Up(node) => Ok(Some(node.status()?)),

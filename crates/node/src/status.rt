@@ -1,6 +1,8 @@
 // What a node tells of its topic.
-ghost use Rattle.std.specs.Prelude.{◌≡◌, IfOk};
+ghost use Rattle.std.specs.Prelude.{◌≡◌, length, IfOk};
 ghost use Rattle.subscriptions.specs.Statuses.{AreStatuses};
+ghost use Rattle.node.specs.Standing.{phase_in, Stands};
+ghost use Rattle.node.specs.Driving.{TellsSegments};
 
 use crate::node::Node;
 use disk::Shelf;
@@ -14,7 +16,7 @@ pub struct TopicStatus {
     pub number: u64,
     /// How many entries are committed.
     pub entries: u64,
-    /// How many files its entries are in.
+    /// How many segment files its entries are in, as the store remembers them.
     pub segments: u64,
     /// In the order of the names' bytes.
     pub subscriptions: Vec<SubscriptionStatus>,
@@ -25,7 +27,8 @@ impl<T: TopicStore, S: Shelf> Node<T, S> {
     pub(crate) fn status(&self) -> Result<TopicStatus, AllocError>
         ensures number { IfOk result (λ status. status.number ≡ 0) }
         ensures entries { IfOk result (λ status. status.entries ≡ self.now.topics.core.committed) }
-        ensures segments { IfOk result (λ status. status.segments ≡ (T.view self.now.topics.stores).segments) }
+        ensures segments { IfOk result (λ status. status.segments ≡ length (T.view self.now.topics.stores).counts) }
+        ensures files { Stands S.disk self.now → IfOk result (λ status. TellsSegments T.laid (phase_in self.now.topics) (S.disk self.now.topics.shelf).seen status.segments) }
         ensures subscriptions { IfOk result (λ status. AreStatuses self.now.topics.core.subs.subs status.subscriptions.items) }
     {
         Ok(TopicStatus {

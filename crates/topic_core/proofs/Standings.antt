@@ -70,10 +70,12 @@ module _ (stands : ℕ → Image → Entries → Kept → Type 0) where
   pub match_goes_on : (phase : Phase) (old new : Topic) (v : StoreView) → GoesOn old new → Match phase old v → Match phase new v
   match_goes_on Before old new v go m = record {
     kept = subst (λ k. IsKept new.committed k new.subs) (sym go.durable) (go.kept old.kept m.kept);
+    numbered = m.numbered ∙ sym go.per_ledger;
     remembers = record { core_works = go.failed ∙ m.remembers.core_works; works = m.remembers.works; counted = m.remembers.counted ∙ sym go.committed; kept = m.remembers.kept ∙ sym go.durable };
   }
   match_goes_on Written old new v go m = record {
     kept = subst (λ k. IsKept new.committed k new.subs) (sym go.durable) (go.kept old.kept m.kept);
+    numbered = m.numbered ∙ sym go.per_ledger;
     remembers = record {
       core_works = go.failed ∙ m.remembers.core_works;
       under_way = ap (λ d. is_some d) go.doubt ∙ m.remembers.under_way;
@@ -84,6 +86,7 @@ module _ (stands : ℕ → Image → Entries → Kept → Type 0) where
   }
   match_goes_on Lost old new v go m = record {
     kept = subst (λ k. IsKept new.committed k new.subs) (sym go.durable) (go.kept old.kept m.kept);
+    numbered = m.numbered ∙ sym go.per_ledger;
     remembers = record { told = ap (λ b. b || is_some new.doubt) go.failed ∙ ap (λ d. old.failed || is_some d) go.doubt ∙ m.remembers.told; failed = m.remembers.failed };
   }
 
@@ -119,7 +122,7 @@ module _ (stands : ℕ → Image → Entries → Kept → Type 0) where
   -- ---- Take
 
   pub match_handed_on : (t : Topic) (v : StoreView) → Match Before t v → Match Before (handed_on t) v
-  match_handed_on t v m = record { kept = m.kept; remembers = record { core_works = m.remembers.core_works; works = m.remembers.works; counted = m.remembers.counted; kept = m.remembers.kept } }
+  match_handed_on t v m = record { kept = m.kept; numbered = m.numbered; remembers = record { core_works = m.remembers.core_works; works = m.remembers.works; counted = m.remembers.counted; kept = m.remembers.kept } }
 
   pub standing_handed_on : (t : Topic) (v : StoreView) (d : Disk) → AreLaws stands v → Standing stands Before t v d → Standing stands Before (handed_on t) v d
   standing_handed_on t v d laws h = standing_before (handed_on t) v d laws (match_handed_on t v h.matched) h.counted h.slots h.holds
@@ -149,6 +152,7 @@ module _ (stands : ℕ → Image → Entries → Kept → Type 0) where
     pub written_match : (v w : StoreView) (r : Result (Unit {0}) WriteError) → Match Before on v → stores.Remembers v batch r w → Match (phase_after r) on w
     written_match v w (Ok done) m x = record {
       kept = m.kept;
+      numbered = x.per_ledger ∙ m.numbered;
       remembers = record {
         core_works = m.remembers.core_works;
         under_way = under_way;
@@ -159,9 +163,10 @@ module _ (stands : ℕ → Image → Entries → Kept → Type 0) where
     }
     written_match v w (Err NoMemory) m x = record {
       kept = m.kept;
+      numbered = x.per_ledger ∙ m.numbered;
       remembers = record { core_works = m.remembers.core_works; works = x.failed ∙ m.remembers.works; counted = x.count ∙ m.remembers.counted; kept = x.kept ∙ m.remembers.kept };
     }
-    written_match v w (Err Device) m x = record { kept = m.kept; remembers = record { told = or_second on.failed (is_some on.doubt) under_way; failed = x.failed } }
+    written_match v w (Err Device) m x = record { kept = m.kept; numbered = x.per_ledger ∙ m.numbered; remembers = record { told = or_second on.failed (is_some on.doubt) under_way; failed = x.failed } }
 
     module _ (v w : StoreView) (was is : Disk) (topic : w.topic ≡ v.topic) where
       abbrev CrashLeaves : Image → Type 0
@@ -198,13 +203,13 @@ module _ (stands : ℕ → Image → Entries → Kept → Type 0) where
 
   module _ (on : Topic) (works : on.failed ≡ false) where
     finished_match : (v : StoreView) → Match Written on v → Match Before (finished on) v
-    finished_match v m = record { kept = kept-finished on m.kept; remembers = record { core_works = works; works = m.remembers.works; counted = m.remembers.counted; kept = m.remembers.kept } }
+    finished_match v m = record { kept = kept-finished on m.kept; numbered = m.numbered; remembers = record { core_works = works; works = m.remembers.works; counted = m.remembers.counted; kept = m.remembers.kept } }
 
     taken_back_match : (v : StoreView) → Match Before on v → Match Before (taken_back on) v
-    taken_back_match v m = record { kept = m.kept; remembers = record { core_works = works; works = m.remembers.works; counted = m.remembers.counted; kept = m.remembers.kept } }
+    taken_back_match v m = record { kept = m.kept; numbered = m.numbered; remembers = record { core_works = works; works = m.remembers.works; counted = m.remembers.counted; kept = m.remembers.kept } }
 
     failed_match : (v : StoreView) → Match Lost on v → Match Lost (failed on) v
-    failed_match v m = record { kept = m.kept; remembers = record { told = refl; failed = m.remembers.failed } }
+    failed_match v m = record { kept = m.kept; numbered = m.numbered; remembers = record { told = refl; failed = m.remembers.failed } }
 
     -- a flush that ends leaves the topic at rest
     pub finish_match : (v : StoreView) (written : Result (Unit {0}) WriteError) (result : Result ℕ WriteError) (t2 : Topic) → FinishStep on written result t2 → Match (phase_after written) on v → Match (resting t2.failed) t2 v

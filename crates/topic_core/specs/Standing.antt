@@ -74,9 +74,11 @@ Remembers Written core v = IsWritten core v
 Remembers Lost core v = IsLost core v
 
 -- Topic and store remember the same, whatever the device does. The subscriptions are what the changes make of the durable ones.
+-- A segment of the store is full of as many entries as a ledger id has entry ids.
 pub record Match (phase : Phase) (core : Topic) (v : StoreView) : Type 0 where
   pub kept : IsKept core.committed core.kept core.subs
   pub remembers : Remembers phase core v
+  pub numbered : v.per_ledger ≡ core.per_ledger
 
 -- what the device holds
 abbrev pub Holds : Phase → Topic → StoreView → Disk → Type 0

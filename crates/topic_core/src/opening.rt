@@ -121,6 +121,7 @@ impl TopicCore {
         requires more { self.old.committed ≤ (T.view again.stores).count }
         requires few { (T.view again.stores).count ≤ 2 ^ 62 }
         requires works { (T.view again.stores).failed ≡ false }
+        requires numbered { (T.view again.stores).per_ledger ≡ self.old.per_ledger }
         requires added { (length again.durable.ledger ≡ (T.view again.stores).count) × (again.subs ≡ slotted (opened_subscriptions (T.view again.stores).kept) (map slot_of_entry again.durable.ledger)) × (again.durable.kept ≡ (T.view again.stores).kept) }
         requires durable { AreDurable (T.view again.stores).kept }
         ensures again { self.new ≡ reopened self.old again.durable.ledger (map slot_of_entry again.durable.ledger) (T.view again.stores).kept }
@@ -165,6 +166,7 @@ fn open_stores<T: TopicStore, S: Shelf>(
     ensures refused { (S.disk shelf.old).honest → IfErr result (λ e. (e ≡ NoMemory) ⊎ ((e ≡ Device) ⊎ T.faulty topic (S.disk shelf.old).seen e)) }
     ensures works { IfOk result (λ t. (T.view t.stores).failed ≡ false) }
     ensures topic { IfOk result (λ t. (T.view t.stores).topic ≡ topic) }
+    ensures per_ledger { IfOk result (λ t. (T.view t.stores).per_ledger ≡ per_ledger) }
     ensures cause { IsErrOf result Device → Failed (S.disk shelf.old) (S.disk shelf.new) }
     ensures seen { (S.disk shelf.old).honest → ¬ IsErrOf result Device → Same (S.disk shelf.old).seen (S.disk shelf.new).seen }
     ensures others { (S.disk shelf.old).honest → Agree (λ f. ¬ OfTopic topic f) (S.disk shelf.old).seen (S.disk shelf.new).seen }

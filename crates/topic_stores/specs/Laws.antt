@@ -59,12 +59,12 @@ pub record SubLaws (files_stand : ℕ → ℕ → Image → Kept → Type 0) (ar
   pub written_local : (a b : Image) → Agree (area s.topic) a b → s.written b ≡ s.written a
 
 -- each of one store, by the laws of its trait
-pub entry_laws : {E : Type 0} (topic_of : E → ℕ) (counts : E → List ℕ) (failed : E → Bool) (holds : E → Image → Entries → Type 0) (files_stand : ℕ → Image → Entries → Type 0) (area : ℕ → FileId → Type 0)
+pub entry_laws : {E : Type 0} (topic_of : E → ℕ) (counts : E → List ℕ) (per_ledger : E → ℕ) (failed : E → Bool) (holds : E → Image → Entries → Type 0) (files_stand : ℕ → Image → Entries → Type 0) (area : ℕ → FileId → Type 0)
     → ((store : E) (c : Image) (l : Entries) → holds store c l → failed store ≡ false) → ((store : E) (c : Image) (l : Entries) → holds store c l → total (counts store) ≡ length l)
     → ((store : E) (c : Image) (l : Entries) → holds store c l → files_stand (topic_of store) c l) → ((t : ℕ) (f : FileId) → area t f → SegmentsOf t f)
     → ((store : E) (a b : Image) (l : Entries) → Agree (area (topic_of store)) a b → holds store a l → holds store b l)
-    → (store : E) → EntryLaws files_stand area (entry_view topic_of counts failed holds store)
-entry_laws topic_of counts failed holds files_stand area works is_count stands own local store = record {
+    → (store : E) → EntryLaws files_stand area (entry_view topic_of counts per_ledger failed holds store)
+entry_laws topic_of counts per_ledger failed holds files_stand area works is_count stands own local store = record {
   works = λ c l x. works store c l x;
   counts = λ c l x. is_count store c l x;
   stands = λ c l x. stands store c l x;

@@ -11,7 +11,8 @@ use Rattle.records.specs.Maps.{Kept}
 pub record StoreView : Type 1 where
   pub topic : ℕ  -- the number of the topic
   pub count : ℕ  -- how many entries it remembers
-  pub segments : ℕ  -- in how many files
+  pub counts : List ℕ  -- how many of them each segment has, the oldest first
+  pub per_ledger : ℕ  -- how many make a segment full
   pub kept : Kept  -- the subscriptions that it remembers; also after a failure the old ones
   pub failed : Bool  -- a write failed: it refuses until it is opened again
   pub holds : Image → Entries → Kept → Type 0  -- it works, and the files have these entries and subscriptions just as it remembers them
@@ -40,7 +41,8 @@ pub record AreLaws (files_stand : ℕ → Image → Entries → Kept → Type 0)
 pub record EntryView : Type 1 where
   pub topic : ℕ
   pub total : ℕ
-  pub segments : ℕ
+  pub counts : List ℕ
+  pub per_ledger : ℕ
   pub failed : Bool
   pub holds : Image → Entries → Type 0
 
@@ -61,15 +63,16 @@ abbrev pub both : EntryView → SubView → StoreView
 both e s = record {
   topic = e.topic;
   count = e.total;
-  segments = e.segments;
+  counts = e.counts;
+  per_ledger = e.per_ledger;
   kept = s.kept;
   failed = e.failed || s.failed;
   holds = λ files ledger kept. BothHold e s files ledger kept;
   written = s.written;
 }
 
-abbrev pub entry_view : {E : Type 0} → (E → ℕ) → (E → List ℕ) → (E → Bool) → (E → Image → Entries → Type 0) → E → EntryView
-entry_view topic_of counts failed holds store = record { topic = topic_of store; total = total (counts store); segments = length (counts store); failed = failed store; holds = holds store }
+abbrev pub entry_view : {E : Type 0} → (E → ℕ) → (E → List ℕ) → (E → ℕ) → (E → Bool) → (E → Image → Entries → Type 0) → E → EntryView
+entry_view topic_of counts per_ledger failed holds store = record { topic = topic_of store; total = total (counts store); counts = counts store; per_ledger = per_ledger store; failed = failed store; holds = holds store }
 
 abbrev pub sub_view : {C : Type 0} → (C → ℕ) → (C → Kept) → (C → Bool) → (C → ℕ → Image → Kept → Type 0) → (C → Image → Bodies) → C → SubView
 sub_view topic_of content failed holds written store = record { topic = topic_of store; kept = content store; failed = failed store; holds = holds store; written = written store }

@@ -1,7 +1,8 @@
 -- A write of a batch.
-use Rattle.std.specs.Prelude.{◌≡◌, ◌⊎◌, ◌+◌, ◌≤◌, ◌^◌, true, false, Result, Ok, Err, List, ◌++◌, length}
+use Rattle.std.specs.Prelude.{◌≡◌, ◌⊎◌, ◌+◌, ◌≤◌, ◌^◌, true, false, Result, Ok, Err, ℕ, List, [], ◌∷◌, ◌++◌, length}
 use Rattle.disk.specs.Disk.{Image}
 use Rattle.managed_ledger.specs.Entries.{Entries}
+use Rattle.managed_ledger.specs.Shape.{counts_after}
 use Rattle.records.specs.declared.record.Record.{Record}
 use Rattle.records.specs.Maps.{Kept}
 use Rattle.records.specs.Records.{AreFormed, after_all}
@@ -32,15 +33,24 @@ pub record StandsFor (files_stand : Image → Entries → Kept → Type 0) (P : 
   pub is_left : P ledger kept
   pub stands : files_stand files ledger kept
 
+-- how many entries each segment has behind these more: where there are none, nothing is appended
+abbrev pub counts_with : ℕ → Entries → List ℕ → List ℕ
+counts_with n [] counts = counts
+counts_with n (entry ∷ entries) counts = counts_after n (length (entry ∷ entries)) counts
+
 -- it remembers the batch
 pub record IsAdded (old : StoreView) (batch : Batch) (new : StoreView) : Type 0 where
   pub count : new.count ≡ old.count + length batch.entries.items
+  pub counts : new.counts ≡ counts_with old.per_ledger batch.entries.items old.counts
+  pub per_ledger : new.per_ledger ≡ old.per_ledger
   pub kept : new.kept ≡ after_all batch.changes.items old.kept
   pub works : old.failed ≡ false → new.failed ≡ false
 
 -- it remembers what it did
 pub record IsAsBefore (old new : StoreView) : Type 0 where
   pub count : new.count ≡ old.count
+  pub counts : new.counts ≡ old.counts
+  pub per_ledger : new.per_ledger ≡ old.per_ledger
   pub kept : new.kept ≡ old.kept
   pub failed : new.failed ≡ old.failed
 
@@ -48,6 +58,7 @@ pub record IsAsBefore (old new : StoreView) : Type 0 where
 pub record IsFailed (old : StoreView) (batch : Batch) (new : StoreView) : Type 0 where
   pub failed : new.failed ≡ true
   pub count : (new.count ≡ old.count) ⊎ (new.count ≡ old.count + length batch.entries.items)
+  pub per_ledger : new.per_ledger ≡ old.per_ledger
   pub kept : new.kept ≡ old.kept
 
 -- what the store remembers after a write

@@ -10,6 +10,7 @@ ghost use Rattle.records.specs.Maps.{Kept};
 ghost use Rattle.records.specs.Records.{AreFormed, after_all};
 ghost use Rattle.cursor_store.specs.Stores as subscription_stores;
 ghost use Rattle.topic_stores.specs.Appends.{PreparedFor};
+ghost use Rattle.topic_stores.specs.Writing.{counts_with};
 
 use bytes::Bytes;
 use cursor_store::SubStore;
@@ -29,10 +30,12 @@ pub(crate) fn prepare_entries<E: EntryStore>(
     requires small { sum_by length entries.now ≤ 16777216 }
     requires room { total (E.counts store.old) + length entries.now ≤ 2 ^ 62 }
     ensures prepared { IfOk result (λ prepared. PreparedFor E.is_for prepared entries.now) }
+    ensures some { IfOk result (λ prepared. IfSome prepared (λ p. 0 < length entries.now)) }
     ensures has_room { IfOk result (λ prepared. IfSome prepared (E.has_room store.new)) }
     ensures unchanged { entries_stores.StaysSo (E.holds store.old) (E.holds store.new) (E.content store.old) (E.content store.new) }
     ensures topic { E.topic_of store.new ≡ E.topic_of store.old }
     ensures counts { E.counts store.new ≡ E.counts store.old }
+    ensures per_ledger { E.per_ledger store.new ≡ E.per_ledger store.old }
     ensures failed { E.failed store.new ≡ E.failed store.old }
 {
     if entries.is_empty() {
@@ -82,6 +85,8 @@ pub(crate) fn append_entries<E: EntryStore, S: Shelf>(
     ensures added { (entries batch : Entries) → PreparedFor E.is_for prepared batch → entries_stores.Settled (E.holds store.old) (S.disk shelf.old) entries →
         OnOk result (entries_stores.Settled (E.holds store.new) (S.disk shelf.new) (entries ++ batch)) }
     ensures counts { (batch : Entries) → PreparedFor E.is_for prepared batch → OnOk result (total (E.counts store.new) ≡ total (E.counts store.old) + length batch) }
+    ensures segments { (batch : Entries) → PreparedFor E.is_for prepared batch → IfSome prepared (λ p. 0 < length batch) → OnOk result (E.counts store.new ≡ counts_with (E.per_ledger store.old) batch (E.counts store.old)) }
+    ensures per_ledger { E.per_ledger store.new ≡ E.per_ledger store.old }
     ensures total_stays { IsErr result → total (E.counts store.new) ≡ total (E.counts store.old) }
     ensures in_doubt { (entries batch : Entries) → PreparedFor E.is_for prepared batch → entries_stores.Settled (E.holds store.old) (S.disk shelf.old) entries →
         IsErr result → entries_stores.InDoubt (E.content store.new) (E.stands (E.topic_of store.old)) (S.disk shelf.new) entries (entries ++ batch) }

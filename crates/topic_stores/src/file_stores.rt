@@ -21,6 +21,7 @@ impl TopicStore for FileStores {
     ghost use Rattle.two_slot.specs.Slots.{SlotsOf};
     ghost use Rattle.managed_ledger.specs.Entries.{Entries, Stands};
     ghost use Rattle.managed_ledger.specs.Folded as ledger_faults;
+    ghost use Rattle.managed_ledger.specs.Laid as layout;
     ghost use Rattle.managed_ledger.specs.Ledgers as ledgers;
     ghost use Rattle.managed_ledger.specs.Settled as ledger_laws;
     ghost use Rattle.cursor_store.specs.Cursors as cursors;
@@ -35,14 +36,22 @@ impl TopicStore for FileStores {
 
     ghost faulty = { ⟦<TopicStores<ManagedLedger, CursorStore> as TopicStore>⟧.faulty };
 
+    ghost laid = { layout.IsLaidOut };
+
     ghost faulty_one = { fault_one Stands ledger_faults.IsFault cursor_faults.IsFault ledger_faults.fault_one cursor_faults.fault_one ledger_laws.stand_one ledger_faults.ledger_no_fault };
 
     ghost stands_sound = { stand_sound Stands ledger_faults.IsFault cursor_faults.IsFault cursors.StandsFor ledger_laws.stand_one ledger_faults.ledger_no_fault cursor_faults.stands_sound };
 
     ghost laws = { λ s. both_laws Stands cursors.StandsFor SegmentsOf SlotsOf
-        (entry_view ledgers.ledger_topic ledgers.counts_of ledgers.failed ledgers.Holds s.stores.entries) (sub_view cursors.topic_of cursors.content cursors.failed cursors.Holds cursors.written s.stores.subscriptions)
-        (entry_laws ledgers.ledger_topic ledgers.counts_of ledgers.failed ledgers.Holds Stands SegmentsOf (λ store image entries holds. holds.journal.works) ledger_laws.held_counts ledger_laws.held_stands (λ t f own. own) ledger_laws.held_local s.stores.entries)
+        (entry_view ledgers.ledger_topic ledgers.counts_of (λ ledger. ledger.entries_per_ledger) ledgers.failed ledgers.Holds s.stores.entries) (sub_view cursors.topic_of cursors.content cursors.failed cursors.Holds cursors.written s.stores.subscriptions)
+        (entry_laws ledgers.ledger_topic ledgers.counts_of (λ ledger. ledger.entries_per_ledger) ledgers.failed ledgers.Holds Stands SegmentsOf (λ store image entries holds. holds.journal.works) ledger_laws.held_counts ledger_laws.held_stands (λ t f own. own) ledger_laws.held_local s.stores.entries)
         (sub_laws cursors.topic_of cursors.content cursors.failed cursors.Holds cursors.written cursors.StandsFor SlotsOf (λ store entries image kept holds. holds.slots.works) (λ store entries image kept holds. holds.same) cursor_laws.holds_stand cursor_laws.holds_longer (λ t f own. own) cursor_laws.holds_local cursor_laws.written_local s.stores.subscriptions) };
+
+    ghost holds_laid = { λ s files ledger kept x. layout.held_laid s.stores.entries files ledger x.entries };
+
+    ghost laid_one = { layout.laid_one };
+
+    ghost laid_local = { λ t a b counts same x. layout.laid_local t a b counts (λ f own. same f (segment_own t f own)) x };
 
     ghost stands_one = { λ t files one other k j few a b.
         let same = ledger_laws.stand_one t files one other a.0 b.0 in

@@ -1,5 +1,5 @@
 // The durable half of a topic.
-ghost use Rattle.std.specs.Prelude.{◌≡◌, ◌⊎◌, ◌<◌, ◌≤◌, ◌^◌, ◌++◌, ◌↔◌, [], ℕ, Some, true, false, length, slice_get, IfOk, IfErr, OnOk, IsErr, IsErrOf, IsTrue, map as each};
+ghost use Rattle.std.specs.Prelude.{◌≡◌, ◌⊎◌, ◌<◌, ◌≤◌, ◌^◌, ◌++◌, ◌↔◌, [], ◌∷◌, List, ℕ, Some, true, false, length, slice_get, IfOk, IfErr, OnOk, IsErr, IsErrOf, IsTrue, map as each};
 ghost use Rattle.std.specs.List.{AllByRecursion};
 ghost use Rattle.std.specs.FinMap as map;
 ghost use Rattle.disk.specs.Disk.{Image, Same, Leaves, Kept as Counted, Failed};
@@ -31,11 +31,14 @@ pub trait TopicStore: Drop {
     /// What the files of a topic alone stand for: whoever opens them finds these entries and subscriptions.
     ghost stands: { ℕ → Image → Entries → Kept → Type 0 };
 
+    /// The segments of a topic have so many entries each, the oldest first, as its files alone tell.
+    ghost laid: { ℕ → Image → List ℕ → Type 0 };
+
     /// Why the files of a topic alone are refused: the first fault in them, by the segments, slot 0 and slot 1.
     ghost faulty: { ℕ → Image → Refusal → Type 0 };
 
-    /// Makes a store without entries and subscriptions, whatever was in the topic's first segment and its slots. Takes no
-    /// memory. Until the `Ok` a crash may leave anything of the topic's files.
+    /// Makes a store without entries and subscriptions, whatever was in the topic's first segment and its slots. A segment that
+    /// has `entries_per_ledger` entries or more is rolled before the next write of entries. Takes no memory. Until the `Ok` a crash may leave anything of the topic's files.
     fn create<S: Shelf>(
         alloc: Global,
         shelf: &mut S,
@@ -45,6 +48,7 @@ pub trait TopicStore: Drop {
         ensures created { (S.disk shelf.old).honest → IfOk result (λ store. Settled (view store) (S.disk shelf.new) [] map.empty) }
         ensures works { IfOk result (λ store. (view store).failed ≡ false) }
         ensures topic { IfOk result (λ store. (view store).topic ≡ topic) }
+        ensures counts { IfOk result (λ store. ((view store).counts ≡ 0 ∷ []) × ((view store).per_ledger ≡ entries_per_ledger)) }
         ensures others { (S.disk shelf.old).honest → Within (OfTopic topic) (λ c. Unit {0}) (S.disk shelf.old) (S.disk shelf.new) }
         ensures cause { IsErr result → Failed (S.disk shelf.old) (S.disk shelf.new) }
         ensures kept { Counted (S.disk shelf.old) (S.disk shelf.new) };
@@ -66,6 +70,7 @@ pub trait TopicStore: Drop {
             IfErr result (λ e. (e ≡ refusal.NoMemory) ⊎ ((e ≡ refusal.Device) ⊎ faulty topic (S.disk shelf.old).seen e)) }
         ensures works { IfOk result (λ opened. (view opened.0).failed ≡ false) }
         ensures topic { IfOk result (λ opened. (view opened.0).topic ≡ topic) }
+        ensures per_ledger { IfOk result (λ opened. (view opened.0).per_ledger ≡ entries_per_ledger) }
         ensures cause { IsErrOf result refusal.Device → Failed (S.disk shelf.old) (S.disk shelf.new) }
 
         // What reads give stays, but of a file whose sync failed.
@@ -84,9 +89,9 @@ pub trait TopicStore: Drop {
         ensures len { result ≡ (view self.now).count }
         ensures few { result ≤ 2 ^ 62 };
 
-    /// In how many files these are.
+    /// In how many segment files these are.
     fn segments(&self) -> u64
-        ensures { result ≡ (view self.now).segments };
+        ensures { result ≡ length (view self.now).counts };
 
     /// The subscriptions that it remembers, with sets of their own, in the order of the names' bytes.
     fn kept(&self) -> Result<Vec<KeptCursor>, AllocError>
@@ -136,6 +141,13 @@ pub trait TopicStore: Drop {
         ensures kept { Counted (S.disk shelf.old) (S.disk shelf.new) };
 
     ghost laws: { (store : Self) → AreLaws stands (view store) };
+
+    // The segments that it counts are those in its files, which are laid out in one way.
+    ghost holds_laid: { (store : Self) (files : Image) (ledger : Entries) (kept : Kept) → (view store).holds files ledger kept → laid (view store).topic files (view store).counts };
+
+    ghost laid_one: { (t : ℕ) (files : Image) (one other : List ℕ) → laid t files one → laid t files other → one ≡ other };
+
+    ghost laid_local: { (t : ℕ) (a b : Image) (counts : List ℕ) → Agree (OfTopic t) a b → laid t a counts → laid t b counts };
 
     // Files stand for one list of entries, each with metadata that can be read, and one map of subscriptions.
     ghost stands_one: { (t : ℕ) (files : Image) (one other : Entries) (k j : Kept) → length one ≤ 2 ^ 62 → stands t files one k → stands t files other j → (one ≡ other) × (k ≡ j) };

@@ -27,16 +27,24 @@ impl<E: EntryStore, C: SubStore> TopicStore for TopicStores<E, C> {
     ghost use Rattle.topic_stores.specs.Views.{both, entry_view, sub_view, stand, fault};
     ghost use Rattle.topic_stores.specs.Laws.{both_laws, entry_laws, sub_laws, segment_own, slot_own, fault_one, stand_sound};
 
-    ghost view = { λ s. both (entry_view E.topic_of E.counts E.failed E.holds s.entries) (sub_view C.topic_of C.content C.failed C.holds C.written s.subscriptions) };
+    ghost view = { λ s. both (entry_view E.topic_of E.counts E.per_ledger E.failed E.holds s.entries) (sub_view C.topic_of C.content C.failed C.holds C.written s.subscriptions) };
 
     ghost stands = { stand E.stands C.stands };
+
+    ghost laid = { E.laid };
 
     ghost faulty = { fault E.stands E.faulty C.faulty };
 
     ghost laws = { λ s. both_laws E.stands C.stands E.area C.area
-        (entry_view E.topic_of E.counts E.failed E.holds s.entries) (sub_view C.topic_of C.content C.failed C.holds C.written s.subscriptions)
-        (entry_laws E.topic_of E.counts E.failed E.holds E.stands E.area E.holds_works E.holds_counts E.holds_stands E.area_segments E.holds_local s.entries)
+        (entry_view E.topic_of E.counts E.per_ledger E.failed E.holds s.entries) (sub_view C.topic_of C.content C.failed C.holds C.written s.subscriptions)
+        (entry_laws E.topic_of E.counts E.per_ledger E.failed E.holds E.stands E.area E.holds_works E.holds_counts E.holds_stands E.area_segments E.holds_local s.entries)
         (sub_laws C.topic_of C.content C.failed C.holds C.written C.stands C.area C.holds_works C.holds_content C.holds_stands C.holds_longer C.area_slots C.holds_local C.written_local s.subscriptions) };
+
+    ghost holds_laid = { λ s files ledger kept x. E.holds_laid s.entries files ledger x.entries };
+
+    ghost laid_one = { E.laid_one };
+
+    ghost laid_local = { λ t a b counts same x. E.laid_local t a b counts (λ f own. same f (segment_own t f (E.area_segments t f own))) x };
 
     ghost stands_one = { λ t files one other k j few a b.
         let same = E.stands_one t files one other a.0 b.0 in

@@ -1,5 +1,5 @@
 use Rattle.std.proofs.Common.{arith}
-use Rattle.managed_ledger.proofs.Adding.{adding_unformed, adding_full, handing_none, handing_step, handing_done, handed_entry, first_there, first_not_there}
+use Rattle.managed_ledger.proofs.Adding.{adding_unformed, adding_full, handing_none, handing_step, handing_done, handed_entry, handed_meta, first_there, first_not_there}
 use Rattle.managed_ledger.proofs.body.add_places.Goals as goal
 
 pub returns-then-first-len-ge-MOST_ENTRIES-clause-unformed :
@@ -20,14 +20,14 @@ loop-at-preserved-in_ok-push g c =
     let next = first_there c.loop-at.at c.args.body.now c.in_ok-found.field-0 c.in-Some.found c.in-Some.is c.in_ok-found.ensures.first in
     handing_step (g.E.EntryFold.holds c.args.fold.now) (g.E.EntryFold.holds c.loop-at.fold) (g.E.EntryFold.holds c.entry.new.self) c.args.body.now c.args.batch c.args.first c.args.places.now.items c.loop-at.at c.loop-at.places.items
     c.loop-at.invariant (omega arith) c.in-Some.found.size next.0 (omega (arith, c.len.ensures, c.if-first-len-ge-MOST_ENTRIES.false)) c.push.new.self.items c.in_ok-push.ensures.items
-    _ (handed_entry c.loop-at.at c.args.body.now c.in-Some.found.size) (λ entries held. c.in_ok-entry.ensures entries held)
+    _ (handed_entry c.loop-at.at c.args.body.now c.in-Some.found.size) (λ entries held. c.in_ok-entry.ensures entries held (handed_meta c.loop-at.at c.args.body.now _ c.in-Some.found next (handed_entry c.loop-at.at c.args.body.now c.in-Some.found.size)))
 
 pub loop-at-preserved : goal.loop-at-preserved
 loop-at-preserved g c =
     let next = first_there c.loop-at.at c.args.body.now c.in_ok-found.field-0 c.in-Some.found c.in-Some.is c.in_ok-found.ensures.first in
     handing_step (g.E.EntryFold.holds c.args.fold.now) (g.E.EntryFold.holds c.loop-at.fold) (g.E.EntryFold.holds c.entry.new.self) c.args.body.now c.args.batch c.args.first c.args.places.now.items c.loop-at.at c.loop-at.places.items
     c.loop-at.invariant (omega arith) c.in-Some.found.size next.0 (omega (arith, c.len.ensures, c.if-first-len-ge-MOST_ENTRIES.false)) c.push.new.self.items c.in_ok-push.ensures.items
-    _ (handed_entry c.loop-at.at c.args.body.now c.in-Some.found.size) (λ entries held. c.in_ok-entry.ensures entries held)
+    _ (handed_entry c.loop-at.at c.args.body.now c.in-Some.found.size) (λ entries held. c.in_ok-entry.ensures entries held (handed_meta c.loop-at.at c.args.body.now _ c.in-Some.found next (handed_entry c.loop-at.at c.args.body.now c.in-Some.found.size)))
 
 pub returns-clause-added : goal.returns-clause-added
 returns-clause-added g c = λ before held _.

@@ -1,5 +1,4 @@
-use Rattle.std.proofs.Common.{◌≡◌, ℕ, take, drop, Ok, sym, ap, subst, ◌∙◌, arith}
-use Rattle.commands.specs.Metadata.{entry_of}
+use Rattle.std.proofs.Common.{ℕ, take, drop, sym, subst, arith}
 use Rattle.managed_ledger.specs.Bodies.{HasMeta, BeginsWith}
 use Rattle.managed_ledger.proofs.FirstEntry.{too_few, too_large, past_end, no_meta, begins_with, meta_there, meta_not_there}
 use Rattle.managed_ledger.proofs.body.first_entry.Goals as goal

@@ -23,5 +23,6 @@ returns-clause-matched g c =
     let added = c.in_ok-opened.ensures.added in
     record {
       kept = kept-filled c.len-committed.result (g.T.TopicStore.view c.in_ok-opened.opened.stores).kept _ _ _ added.1 added.2 c.in_ok-opened.ensures.durable;
+      numbered = c.in_ok-opened.ensures.per_ledger;
       remembers = record { core_works = refl; works = c.in_ok-opened.ensures.works; counted = sym c.len-committed.ensures.len; kept = sym added.2 };
     }

@@ -29,5 +29,6 @@ returns-clause-matched g c =
     let added = c.requires.added in
     record {
       kept = kept-filled c.len-self-inside.result (g.T.TopicStore.view c.args.again.stores).kept _ _ _ added.1 added.2 c.requires.durable;
+      numbered = c.requires.numbered ∙ sym (ap (λ (t : Topic). t.per_ledger) c.self.view_is);
       remembers = record { core_works = refl; works = c.requires.works; counted = sym c.len-self-inside.ensures.len; kept = sym added.2 };
     }

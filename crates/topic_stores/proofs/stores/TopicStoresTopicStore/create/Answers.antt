@@ -32,7 +32,7 @@ returns-clause-created g c = λ honest.
     let apart : (f : FileId) → ea f → ca f → ⊥ = λ f a b. are_apart T f (g.met.E.EntryStore.area_segments T f a) (g.met.C.SubStore.area_slots T f b) in
     let local : (a b : Image) → Agree ea a b → g.E.EntryStore.holds E a [] → g.E.EntryStore.holds E b [] =
     λ a b ag x. g.met.E.EntryStore.holds_local E a b [] (subst (λ t. Agree (g.E.EntryStore.area t) a b) (sym topic_is) ag) x in
-    settled_both (entry_view g.E.EntryStore.topic_of g.E.EntryStore.counts g.E.EntryStore.failed g.E.EntryStore.holds E)
+    settled_both (entry_view g.E.EntryStore.topic_of g.E.EntryStore.counts g.E.EntryStore.per_ledger g.E.EntryStore.failed g.E.EntryStore.holds E)
     (sub_view g.C.SubStore.topic_of g.C.SubStore.content g.C.SubStore.failed g.C.SubStore.holds g.C.SubStore.written c.in_ok-subscriptions.subscriptions) d2 [] map.empty
     (c.in_ok-subscriptions.ensures.topic ∙ sym topic_is)
     (entries_meanwhile (λ i l. g.E.EntryStore.holds E i l) ea ca (λ i. Unit {0}) d1 d2 [] local apart (c.create-2.ensures.kept.honest later) (c.create-2.ensures.others later) (c.in_ok-entries.ensures.created honest))
