@@ -1,16 +1,17 @@
 -- Each life of a node accounts for what its sessions were told.
-use Rattle.std.proofs.Common.{◌≡◌, ℕ, zero, suc, ◌<◌, ◌+◌, ◌≤◌, false, List, length, refl, sym, subst}
+use Rattle.std.proofs.Common.{◌≡◌, ℕ, zero, suc, ◌<◌, ◌+◌, ◌≤◌, false, Option, List, length, map, refl, sym, subst}
 use Rattle.std.specs.List.{AllByRecursion}
 use Rattle.topic_core.specs.State.{Topic, receipts_due}
 use Rattle.topic_core.specs.Soundness.{IsSoundTopic}
-use Rattle.session.specs.Broker.{fresh, topic_at}
+use Rattle.session.specs.Broker.{Broker, fresh, topic_at}
 use Rattle.node.specs.State.{fresh_broker}
 use Rattle.node.specs.Runs.{Life, AllowedRun}
 use Rattle.node.specs.Moves.{Handed, is_crash}
-use Rattle.node.specs.Telling.{Course, receipts_told, from_topic}
+use Rattle.node.specs.Telling.{Course, RunUnfolds, receipts_told, from_topic}
 use Rattle.node.specs.Finding.{sends_by, FindsEach, IsQuiet}
 use Rattle.node.specs.Delivering.{DeliversEach}
-use Rattle.node.specs.Laws.{Account, Accounts, IsAtStart}
+use Rattle.node.specs.Laws.{Account, Accounts, AccountsTo, IsAtStart}
+use Rattle.node.specs.Cuts.{Turn, AllowedLife, hearer_in}
 use Rattle.node.specs.declared.event.Happening.{Happening}
 use Rattle.node.specs.declared.event.Output.{Output}
 use Rattle.node.proofs.Sound.{moves_sound, fresh_broker_sound}
@@ -18,7 +19,7 @@ use Rattle.node.proofs.Covering.{moves_covered}
 use Rattle.node.proofs.Finding.{moves_found, moves_publish}
 use Rattle.node.proofs.Delivering.{moves_delivered}
 use Rattle.node.proofs.Promising.{word_kept}
-use Rattle.node.proofs.Unfolding.{life_unfolds}
+use Rattle.node.proofs.Unfolding.{life_unfolds, cut_life_unfolds}
 
 fresh_quiet : (n : ℕ) → IsQuiet (fresh n)
 fresh_quiet n = record { queues = refl; waiting = refl; sure = refl; counted = refl }
@@ -44,14 +45,18 @@ account t told u course sound quiet = record {
   delivered = subst (λ (hs : List Handed). DeliversEach t course.moves u.ledger hs) (sym course.tells) (moves_delivered t course.moves u course.steps quiet);
 }
 
+accounts_to : (old : Broker) (hearers : List (Option ℕ)) (outputs : List Output) (new : Broker) → RunUnfolds old hearers outputs new → IsAtStart old → AccountsTo old hearers outputs new
+accounts_to old hearers outputs new u start = record {
+  said = u.said;
+  spells = u.spells;
+  at_once = u.at_once;
+  each = λ number. account (topic_at old number) (from_topic number u.said) (topic_at new number) (u.each number) (start.sound number) (start.quiet number);
+}
+
 pub life_accounts : (old : Life) (happenings : List Happening) (outputs : List Output) (new : Life) → AllowedRun old happenings outputs new → IsAtStart old.state.broker
     → Accounts old.state.broker happenings outputs new.state.broker
-life_accounts old happenings outputs new run start =
-    let u = life_unfolds old happenings outputs new run in
-    record {
-      said = u.said;
-      spells = u.spells;
-      at_once = u.at_once;
-      each = λ number.
-          account (topic_at old.state.broker number) (from_topic number u.said) (topic_at new.state.broker number) (u.each number) (start.sound number) (start.quiet number);
-    }
+life_accounts old happenings outputs new run start = accounts_to old.state.broker _ outputs new.state.broker (life_unfolds old happenings outputs new run) start
+
+pub cut_life_accounts : (old : Life) (turns : List Turn) (outputs : List Output) (new : Life) → AllowedLife old turns outputs new → IsAtStart old.state.broker
+    → AccountsTo old.state.broker (map (λ turn. hearer_in turn) turns) outputs new.state.broker
+cut_life_accounts old turns outputs new run start = accounts_to old.state.broker _ outputs new.state.broker (cut_life_unfolds old turns outputs new run) start

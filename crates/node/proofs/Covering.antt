@@ -11,11 +11,11 @@ use Rattle.topic_core.specs.State.{Topic, receipts_due}
 use Rattle.topic_core.specs.Steps.{TopicStep, receipts_of}
 use Rattle.topic_core.specs.Soundness.{IsSoundTopic}
 use Rattle.topic_core.specs.Crashes.{ReopenStep}
-use Rattle.node.specs.Moves.{Handed, Move, Command, Tell, Lose, Grant, Deliver, Miss, Leave, Flush, Take, Finish, Reopen, Crash, MoveStep, Moves, Takes, Sends, told_on, told_by, is_crash}
+use Rattle.node.specs.Moves.{Handed, Move, Command, Tell, Lose, Grant, Deliver, Miss, Leave, Flush, Take, Finish, Reopen, Crash, Cut, MoveStep, Moves, Takes, Sends, told_on, told_by, is_crash}
 use Rattle.node.specs.Telling.{receipts_told}
 use Rattle.node.proofs.Carrying.{Respected, respects}
 use Rattle.node.proofs.Commands.{producer_topic, refused_topic, silent_topic, accepted_topic, subscribe_topic, ack_topic, close_topic, unsubscribe_topic, detach_topic, redeliver_topic, granted_topic}
-use Rattle.node.proofs.Endings.{RespectedByFlushes, taking, finishing, flushing, reopen_cases}
+use Rattle.node.proofs.Endings.{RespectedByFlushes, taking, finishing, flushing, reopen_cases, cutting}
 use Rattle.node.proofs.Sound.{moves_sound}
 
 -- the receipts that were told are among those that were collected
@@ -78,6 +78,7 @@ move_counts t (Take result) u is step = omega (arith, taking SameHanded flush_co
 move_counts t (Finish written result) u is step = omega (arith, finishing SameHanded flush_counts t written result u step)
 move_counts t (Reopen result) u is step = omega (arith, reopen_counts t result u step)
 move_counts t Crash u is step = absurd (no_crash is)
+move_counts t Cut u is step = omega (arith, cutting SameHanded flush_counts t u step)
 
 counts_told : Respected CountsTold
 counts_told = record {

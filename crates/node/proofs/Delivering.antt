@@ -14,12 +14,12 @@ use Rattle.topic_core.proofs.Flushes.{all-taken, all-dropped}
 use Rattle.topic_core.proofs.Keeps.{dispatch-admits}
 use Rattle.topic_core.proofs.Queues.{all-queued, all-collected, all-filter, all-map}
 use Rattle.topic_core.proofs.Receipts.{all-append, all-drop_one}
-use Rattle.node.specs.Moves.{Handed, outgoing, Move, Command, Tell, Lose, Grant, Deliver, Miss, Leave, Flush, Take, Finish, Reopen, Crash, MoveStep, Moves, Takes, told_on, told_by}
+use Rattle.node.specs.Moves.{Handed, outgoing, Move, Command, Tell, Lose, Grant, Deliver, Miss, Leave, Flush, Take, Finish, Reopen, Crash, Cut, MoveStep, Moves, Takes, told_on, told_by}
 use Rattle.node.specs.Telling.{is_message}
 use Rattle.node.specs.Finding.{IsQuiet}
 use Rattle.node.specs.Delivering.{Delivers, DeliversEach}
 use Rattle.node.proofs.Commands.{Awaits, producer_topic, refused_topic, silent_topic, accepted_topic, subscribe_topic, ack_topic, close_topic, unsubscribe_topic, detach_topic, redeliver_topic, granted_topic, sent_topic}
-use Rattle.node.proofs.Endings.{RespectedByFlushes, taking, finishing, flushing, reopen_cases, moves_grow}
+use Rattle.node.proofs.Endings.{RespectedByFlushes, taking, finishing, flushing, reopen_cases, moves_grow, cutting}
 use Rattle.node.proofs.Finding.{stays}
 
 -- no message is owed: those go out at once
@@ -122,6 +122,7 @@ moved t (Take result) u s none = taking KeepsNone flush_keeps t result u s none
 moved t (Finish written result) u s none = finishing KeepsNone flush_keeps t written result u s none
 moved t (Reopen result) u s none = ⊎_elim (λ is. same_topic t u is none) (λ again. subst OwesNoMessage (sym again.again) none) (reopen_cases t result u s)
 moved t Crash u s none = subst OwesNoMessage (sym s.again) tt
+moved t Cut u s none = cutting KeepsNone flush_keeps t u s none
 
 not_message : (r : Reply) → is_message r ≡ false → is_message r ≡ true → ⊥
 not_message r isnt is = cc

@@ -12,7 +12,8 @@ use Rattle.topic_core.specs.State.{Topic, entries_of, entries_in_doubt}
 use Rattle.topic_core.specs.Flush.{TakeStep, FinishStep, FlushStep, FlushIn, FlushEnds, has_no_flush, handed_on, finished, taken_back, failed}
 use Rattle.topic_core.specs.Crashes.{IsLeft, ReopenStep, ReopenIn, ReopenEnds, reopened}
 use Rattle.topic_core.proofs.Flushing.{finished-handed_on}
-use Rattle.node.specs.Moves.{Move, Command, Tell, Lose, Grant, Deliver, Miss, Leave, Flush, Take, Finish, Reopen, Crash, MoveStep, Moves}
+use Rattle.node.specs.Steps as steps
+use Rattle.node.specs.Moves.{Move, Command, Tell, Lose, Grant, Deliver, Miss, Leave, Flush, Take, Finish, Reopen, Crash, Cut, MoveStep, Moves}
 use Rattle.node.proofs.Carrying.{Respected, respects}
 use Rattle.node.proofs.Commands.{command_ledger, granted_topic}
 
@@ -53,6 +54,15 @@ module _ (R : Topic → Topic → Type 0) (by : RespectedByFlushes R) where
 
   pub flushing : (t : Topic) (result : Result ℕ WriteError) (u : Topic) → FlushStep t result u → R t u
   flushing t result u s = flush_in t.failed (has_no_flush t) t result u s
+
+  begins : (fails nothing : Bool) (t : Topic) → R t (steps.flushing fails nothing t)
+  begins true nothing t = by.same t
+  begins false true t = by.same t
+  begins false false t = by.take t
+
+  -- the power is cut within a flush
+  pub cutting : (t u : Topic) → u ≡ steps.in_flush t → R t u
+  cutting t u s = is t (steps.in_flush t) u s (begins t.failed (has_no_flush t) t)
 
 -- a failed topic is opened again
 pub record Reopened (t u : Topic) : Type 0 where
@@ -134,6 +144,7 @@ move_grows t (Take result) u s = taking GrowsTo flush_grows t result u s
 move_grows t (Finish written result) u s = finishing GrowsTo flush_grows t written result u s
 move_grows t (Reopen result) u s = ⊎_elim (λ is. same_topic t u is) (λ again. left_grows t u again.left) (reopen_cases t result u s)
 move_grows t Crash u s = left_grows t u s.left
+move_grows t Cut u s = cutting GrowsTo flush_grows t u s
 
 abbrev GrowsBy : Topic → List Move → Topic → Type 0
 GrowsBy t moves u = Grows t.ledger u.ledger

@@ -18,10 +18,10 @@ use Rattle.topic_core.specs.Flush.{handed_on, finished, taken_back, failed}
 use Rattle.topic_core.specs.Crashes.{TopicCrash, reopened}
 use Rattle.topic_core.proofs.Keeps.{moved as moved_on}
 use Rattle.topic_core.proofs.Receipts.{all-append}
-use Rattle.node.specs.Moves.{Handed, Move, Command, Tell, Lose, Grant, Deliver, Miss, Leave, Flush, Take, Finish, Reopen, Crash, MoveStep, Moves, Takes, told_on, told_by}
+use Rattle.node.specs.Moves.{Handed, Move, Command, Tell, Lose, Grant, Deliver, Miss, Leave, Flush, Take, Finish, Reopen, Crash, Cut, MoveStep, Moves, Takes, told_on, told_by}
 use Rattle.node.specs.Finding.{Sent, sent_at, sent_by, sends_on, sends_by, IsLatest, Finds, FindsEach, IsPublished, IsQuiet}
 use Rattle.node.proofs.Commands.{Awaits, producer_topic, refused_topic, silent_topic, accepted_topic, subscribe_topic, ack_topic, close_topic, unsubscribe_topic, detach_topic, redeliver_topic, granted_topic, sent_topic}
-use Rattle.node.proofs.Endings.{RespectedByFlushes, taking, finishing, flushing, reopen_cases, Reopened, Front, left_front, moves_grow}
+use Rattle.node.proofs.Endings.{RespectedByFlushes, taking, finishing, flushing, reopen_cases, Reopened, Front, left_front, moves_grow, cutting}
 use Rattle.node.proofs.Queues.{Debt, Due, HandedOn, Pending, hands_on, makes_due, takes_back, refuses, debts_to, AreWithin, within-queued, within-collected, within-left, within-mapped, debts-handed_on, debts-made_due, debts-taken_back, debts-refused}
 use Rattle.node.proofs.Owed.{handed, same_handed, AllOwed, each_owed, queued_owed, due_owed, collected_owed, left_owed, turned_owed}
 
@@ -417,6 +417,7 @@ module _ (base : ℕ) (before : List Sent) where
   moved t (Finish written result) u s o = none_sent t u (finishing KeepsOwed flush_keeps t written result u s o)
   moved t (Reopen result) u s o = none_sent t u (⊎_elim (λ is. same_topic t u is o) (λ again. opens_again t u again o) (reopen_cases t result u s))
   moved t Crash u s o = none_sent t u (crashes t u s o)
+  moved t Cut u s o = none_sent t u (cutting KeepsOwed flush_keeps t u s o)
 
   -- what goes out on a move is found before it
   told_found : (t : Topic) (m : Move) (u : Topic) → MoveStep t m u → Owes base before t → FindsEach before t.ledger (told_on m)

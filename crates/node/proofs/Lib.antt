@@ -24,4 +24,5 @@ pub mod Holding
 pub mod Accepting
 pub mod Promising
 pub mod Accounts
+pub mod Cutting
 pub mod Segments

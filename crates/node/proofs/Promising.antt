@@ -28,12 +28,12 @@ use Rattle.topic_core.specs.Soundness.{IsSound, IsSoundTopic}
 use Rattle.topic_core.specs.Crashes.{IsLeft, TopicCrash}
 use Rattle.topic_core.specs.Steps.{Outcome, TopicStep, Meets, GrantStep, key_of, seat_of, refused_or, first_standing, producer_refusals, subscribe_refusal, subscribed, start_of, ack_refusals, ack_refused, ack_accepted, close_refusals, closing, unsubscribe_refusal, unsubscribed, detach_refusals, detach_outcome, detached, redeliver_outcome, redelivered, asked_back, with_producer, accepted, receipt, bytes_of}
 use Rattle.topic_core.proofs.Keeps.{step-keeps, grant-keeps}
-use Rattle.node.specs.Moves.{Move, Command, Tell, Lose, Grant, Deliver, Miss, Leave, Flush, Take, Finish, Reopen, Crash, MoveStep, Moves}
+use Rattle.node.specs.Moves.{Move, Command, Tell, Lose, Grant, Deliver, Miss, Leave, Flush, Take, Finish, Reopen, Crash, Cut, MoveStep, Moves}
 use Rattle.node.specs.Finding.{IsQuiet}
 use Rattle.node.specs.Promising.{Promise, IsKept, Word, nothing_yet, promise_of, positions_of, removed_by, ack_reply, released, with_owed, without_first, promised, told, answered, word_after, word_by, InTurn, AreInTurn}
 use Rattle.node.specs.Laws.{WordIsKept}
 use Rattle.node.proofs.Commands.{producer_topic, refused_topic, silent_topic, accepted_topic}
-use Rattle.node.proofs.Endings.{RespectedByFlushes, taking, finishing, flushing, reopen_cases, Reopened}
+use Rattle.node.proofs.Endings.{RespectedByFlushes, taking, finishing, flushing, reopen_cases, Reopened, cutting}
 use Rattle.node.proofs.Sound.{move_sound}
 use Rattle.node.proofs.Lasting.{Lasts, lasts_first, lasts_more, behind_more, kept_more}
 use Rattle.node.proofs.Turns.{to_each}
@@ -309,6 +309,7 @@ module _ (word : Word) where
   moved t (Finish written result) u s sound sound' h = finishing KeepsHeld flush_holds t written result u s h
   moved t (Reopen result) u s sound sound' h = ⊎_elim (λ is. same_topic t u is h) (λ again. opens_again t u again sound h) (reopen_cases t result u s)
   moved t Crash u s sound sound' h = crashes t u s h
+  moved t Cut u s sound sound' h = cutting KeepsHeld flush_holds t u s h
 
   turn : (t : Topic) (m : Move) (u : Topic) → MoveStep t m u → HoldsAt t word → InTurn word m
   turn t (Tell handed) u s h = in_turn (changes_of t.doubt) t.subs.changes t.kept t.queues word h handed (due_to handed.session u.queues) s.first

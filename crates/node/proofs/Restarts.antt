@@ -1,6 +1,7 @@
 -- The power is cut, and comes again.
-use Rattle.std.proofs.Common.{◌≡◌, ◌⊎◌, inl, ⊎_elim, ℕ, ◌≤◌, refl, subst, sym, ap, ◌∙◌, false, [], arith}
-use Rattle.disk.specs.Disk.{Disk, Image, Same, Advances, Stays, Kept, Failed}
+use Rattle.std.proofs.Common.{◌≡◌, ◌⊎◌, inl, ⊎_elim, ℕ, ◌≤◌, refl, subst, sym, ap, ◌∙◌, Bool, false, [], arith}
+use Rattle.disk.specs.Disk.{Disk, Image, Same, Advances, Leaves, Stays, Kept, Failed}
+use Rattle.disk.specs.Moments.{starts, call, joins, weaken}
 use Rattle.managed_ledger.specs.Entries.{Entries}
 use Rattle.records.specs.Maps.{Kept as Cursors}
 use Rattle.topic_stores.specs.declared.store.TopicStore.{Ghosts as StoreMembers}
@@ -12,7 +13,9 @@ use Rattle.node.specs.State.{State, broker_with}
 use Rattle.node.specs.Standing.{StandsForBroker, AtRest}
 use Rattle.node.specs.Passing.{OnlyReads}
 use Rattle.node.specs.Runs.{Life, OpeningStep, StateCrash}
-use Rattle.node.specs.Driving.{IsServed, Holds}
+use Rattle.node.specs.Cuts.{amid_event}
+use Rattle.node.specs.Driving.{IsServed, Holds, disk_in}
+use Rattle.node.specs.declared.event.Event.{Event}
 use Rattle.node.specs.declared.event.Output.{Output}
 use Rattle.node.specs.declared.event.Verdict.TheVariants as verdict
 use Rattle.node.specs.declared.power.Machine.{Machine}
@@ -69,7 +72,30 @@ after_crash stands s old new r time kept = record {
   faults = omega (arith, r.faults, kept.faults);
 }
 
+-- at each moment of a crash and of the opening after it
+module _ (stands : ℕ → Image → Entries → Cursors → Type 0) (s : State) where
+  abbrev Left : Image → Type 0
+  Left files = StandsForBroker stands s.broker files
+
+  pub start_leaves : (old new : Disk) → AtRest stands s old → Leaves old.may_leave old new → Leaves Left old new
+  start_leaves old new r leaves = weaken old.may_leave Left old new leaves r.left
+
+  pub crash_leaves : (old mid new : Disk) → AtRest stands s old → Advances Same old mid → Leaves Left mid new → Leaves Left old new
+  crash_leaves old mid new r time leaves =
+      joins Left Left Left old mid new (call Left Same old mid time (λ c was. subst Left (sym was.2) (r.left was.0 was.1))) leaves (λ c left. left) (λ c left. left)
+
+-- a node that is down leaves the device alone
+down_leaves : (stands : ℕ → Image → Entries → Cursors → Type 0) (life : Life) (event : Event) (d : Disk) → AtRest stands life.state d → life.up ≡ false
+    → Leaves (StandsForBroker stands (amid_event life.up life.state.broker event)) d d
+down_leaves stands life event d r down =
+    subst (λ (up : Bool). Leaves (StandsForBroker stands (amid_event up life.state.broker event)) d d) (sym down) (starts (StandsForBroker stands life.state.broker) d r.left)
+
 module _ {T S : Type 0} {store : StoreMembers T} (disk : S → Disk) where
+  pub down_leaves_so : (per_ledger : ℕ) (m : Machine T S store) (shelf : S) (life : Life) (event : Event) → m ≡ machine.Down shelf → Holds disk per_ledger m life
+      → Leaves (StandsForBroker store.stands (amid_event life.up life.state.broker event)) (disk_in disk m) (disk_in disk m)
+  down_leaves_so per_ledger (machine.Up node) shelf life event is holds = absurd (let no : machine.Up node ≡ machine.Down shelf = is in cc)
+  down_leaves_so per_ledger (machine.Down here) shelf life event is holds = down_leaves store.stands life event (disk here) holds.0 holds.1
+
   pub holds_served : (per_ledger : ℕ) (m : Machine T S store) (life : Life) → Holds disk per_ledger m life → IsServed per_ledger life.state
   holds_served per_ledger (machine.Up node) life h = h.2
   holds_served per_ledger (machine.Down shelf) life h = h.2

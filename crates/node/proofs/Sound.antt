@@ -1,5 +1,5 @@
 -- Moves keep a topic sound.
-use Rattle.std.proofs.Common.{◌≡◌, ◌∙◌, ℕ, ◌<◌, zero, suc, true, Option, None, Some, is_some, Ok, List, [], ◌∷◌, refl, sym, ap, subst, arith}
+use Rattle.std.proofs.Common.{◌≡◌, ◌∙◌, ℕ, ◌<◌, zero, suc, Bool, true, false, Option, None, Some, is_some, Ok, List, [], ◌∷◌, refl, sym, ap, subst, arith}
 use Rattle.std.specs.Ordering.{nat_cmp}
 use Rattle.std.specs.Cmp.Lexicographic.{slice_cmp}
 use Rattle.std.specs.FinMap as map
@@ -9,18 +9,22 @@ use Rattle.topic_core.specs.Steps.{Collects, collected}
 use Rattle.topic_core.specs.Soundness.{IsSoundTopic}
 use Rattle.topic_core.proofs.Keeps.{command-sound, grant-sound, dispatch-sound, flush-sound, take-sound, finish-sound, reopen-sound, crash-sound, collected-sound, leave-sound}
 use Rattle.topic_core.proofs.Openings.{sound-opened, receipts-opened}
+use Rattle.topic_core.proofs.Flushes.{sound-handed_on, receipts-handed_on}
+use Rattle.topic_core.specs.Flush.{handed_on, has_no_flush}
 use Rattle.session.specs.Broker.{Broker, fresh, topic_at}
 use Rattle.subscriptions.specs.Steps as subscriptions
 use Rattle.subscriptions.specs.Laws.{AreDurable}
 use Rattle.subscriptions.proofs.Durable.{are_kept}
 use Rattle.cursor.specs.Positions.{Positions}
 use Rattle.node.specs.State.{State, fresh_broker}
+use Rattle.node.specs.Steps.{flushing}
 use Rattle.node.specs.Runs.{Run, Life, AllowedRun}
 use Rattle.node.specs.declared.event.Event.{Event}
 use Rattle.node.specs.declared.event.Happening.{Happening}
 use Rattle.node.specs.declared.event.Output.{Output}
-use Rattle.node.proofs.Unfolding.{run_unfolds, life_unfolds}
-use Rattle.node.specs.Moves.{Handed, outgoing, Move, Command, Tell, Lose, Grant, Deliver, Miss, Leave, Flush, Take, Finish, Reopen, Crash, MoveStep, Moves, Takes}
+use Rattle.node.specs.Cuts.{Turn, AllowedLife}
+use Rattle.node.proofs.Unfolding.{run_unfolds, life_unfolds, cut_life_unfolds}
+use Rattle.node.specs.Moves.{Handed, outgoing, Move, Command, Tell, Lose, Grant, Deliver, Miss, Leave, Flush, Take, Finish, Reopen, Crash, Cut, MoveStep, Moves, Takes}
 use Rattle.node.specs.Telling.{RunUnfolds}
 use Rattle.node.specs.Laws.{IsSoundBroker}
 use Rattle.node.proofs.Carrying.{Respected, respects}
@@ -33,6 +37,15 @@ takes_sound t u h takes s =
     let c = collected t h.session h.reply in
     let step : Collects t h.session (Some h.reply) c = (takes.first ∙ ap (λ (x : Topic). h.reply ∷ due_to h.session x.queues) takes.taken, refl) in
     subst (λ (x : Topic). IsSoundTopic x) (sym takes.taken) (collected-sound t h.session (Some h.reply) c step s)
+
+handed_on_sound : (t : Topic) → IsSoundTopic t → IsSoundTopic (handed_on t)
+handed_on_sound t s = record { state = sound-handed_on t s.state; receipts = receipts-handed_on t s.state s.receipts; counted = s.counted; kept = s.kept; slots = s.slots }
+
+-- a topic within a flush is sound
+flushing_sound : (failed nothing : Bool) (t : Topic) → IsSoundTopic t → IsSoundTopic (flushing failed nothing t)
+flushing_sound true nothing t s = s
+flushing_sound false true t s = s
+flushing_sound false false t s = handed_on_sound t s
 
 pub move_sound : (t : Topic) (m : Move) (u : Topic) → MoveStep t m u → IsSoundTopic t → IsSoundTopic u
 move_sound t (Command who command answer) u step s = command-sound t who command answer u step s
@@ -47,6 +60,7 @@ move_sound t (Take result) u step s = take-sound t result u step s
 move_sound t (Finish written result) u step s = finish-sound t written result u step s
 move_sound t (Reopen result) u step s = reopen-sound t result u step s
 move_sound t Crash u step s = crash-sound t u step s
+move_sound t Cut u step s = subst (λ (x : Topic). IsSoundTopic x) (sym step) (flushing_sound t.failed (has_no_flush t) t s)
 
 keeps_sound : Respected KeepsSound
 keeps_sound = record {
@@ -88,3 +102,6 @@ run_sound old events outputs new run sound = unfolds_sound old.broker _ outputs 
 
 pub life_sound : (old : Life) (happenings : List Happening) (outputs : List Output) (new : Life) → AllowedRun old happenings outputs new → IsSoundBroker old.state.broker → IsSoundBroker new.state.broker
 life_sound old happenings outputs new run sound = unfolds_sound old.state.broker _ outputs new.state.broker (life_unfolds old happenings outputs new run) sound
+
+pub cut_life_sound : (old : Life) (turns : List Turn) (outputs : List Output) (new : Life) → AllowedLife old turns outputs new → IsSoundBroker old.state.broker → IsSoundBroker new.state.broker
+cut_life_sound old turns outputs new run sound = unfolds_sound old.state.broker _ outputs new.state.broker (cut_life_unfolds old turns outputs new run) sound

@@ -10,7 +10,8 @@ use Rattle.session.specs.Client.{Client, Play, play, frames_of}
 use Rattle.node.specs.State.{State, Stage, Resting, Taken, Written, place_in, place_of, is_full}
 use Rattle.node.specs.Steps as steps
 use Rattle.node.specs.Runs.{Run, Life, OpeningEnds, EventIn, HappeningStep, AllowedRun}
-use Rattle.node.specs.Moves.{Handed, Flush, Take, Finish, Reopen, Crash}
+use Rattle.node.specs.Moves.{Handed, Flush, Take, Finish, Reopen, Crash, Cut}
+use Rattle.node.specs.Cuts.{Turn, Whole, Within, cut_in, TurnStep, AllowedLife, hearer_in}
 use Rattle.node.specs.Telling.{Said, all_outgoing, from_topic, AnswersAreAtOnce, hearer, hearer_of, AreHeard, Course, Unfolds, RunUnfolds}
 use Rattle.node.specs.declared.event.Event.{Event}
 use Rattle.node.specs.declared.event.Event.TheVariants as event
@@ -198,3 +199,42 @@ life_unfolds old (h ∷ hs) (o ∷ os) new s =
     and_then (hearer_of h) (map (λ h. hearer_of h) hs) o os old.state.broker s.0.state.broker new.state.broker (happening_utters old h o s.0 s.1) (life_unfolds s.0 hs os new s.2)
 life_unfolds old [] (o ∷ os) new s = absurd s
 life_unfolds old (h ∷ hs) [] new s = absurd s
+
+-- a cut within an event is a move of its topic where that was flushed, and the opening after it another
+utters_both : (a b c : Broker) (bytes : List ℕ) → ((number : ℕ) → Course (topic_at a number) [] (topic_at b number)) → Utters None b bytes c → Utters None a bytes c
+utters_both a b c bytes first u = record {
+  said = u.said;
+  written = u.written;
+  heard = u.heard;
+  at_once = u.at_once;
+  each = λ number. then_course (topic_at a number) (topic_at b number) (topic_at c number) [] (from_topic number u.said) (first number) (u.each number);
+}
+
+stays_put : (b : Broker) (number : ℕ) → Course (topic_at b number) [] (topic_at b number)
+stays_put b number = still_course (topic_at b number)
+
+until_cut : (b : Broker) (e : Event) (number : ℕ) → Course (topic_at b number) [] (topic_at (steps.during b e) number)
+until_cut b event.Open number = stays_put b number
+until_cut b (event.Bytes who bytes) number = stays_put b number
+until_cut b (event.Pump who) number = stays_put b number
+until_cut b (event.Close who) number = stays_put b number
+until_cut b (event.Flush at) number =
+    placed_each b (steps.during b (event.Flush at)) at (steps.in_flush (topic_at b at)) (one_move (topic_at b at) Cut (steps.in_flush (topic_at b at)) refl) refl number
+until_cut b (event.Take at) number = stays_put b number
+until_cut b (event.Write at) number = stays_put b number
+until_cut b (event.Finish at) number = stays_put b number
+until_cut b (event.Reopen at) number = stays_put b number
+
+turn_utters : (old : Life) (t : Turn) (output : Output) (new : Life) → TurnStep old t output new → Utters (hearer_in t) old.state.broker output.bytes new.state.broker
+turn_utters old (Whole h) output new s = happening_utters old h output new s
+turn_utters old (Within e) output new s =
+    let at = cut_in old.state e s.faults in
+    utters_both old.state.broker at.broker new.state.broker output.bytes (until_cut old.state.broker e) (opening_utters output.result at output.bytes new s.opening.0 s.opening.1)
+
+pub cut_life_unfolds : (old : Life) (turns : List Turn) (outputs : List Output) (new : Life) → AllowedLife old turns outputs new
+    → RunUnfolds old.state.broker (map (λ t. hearer_in t) turns) outputs new.state.broker
+cut_life_unfolds old [] [] new s = no_event old.state.broker new.state.broker (ap (λ (l : Life). l.state.broker) s)
+cut_life_unfolds old (t ∷ ts) (o ∷ os) new s =
+    and_then (hearer_in t) (map (λ t. hearer_in t) ts) o os old.state.broker s.0.state.broker new.state.broker (turn_utters old t o s.0 s.1) (cut_life_unfolds s.0 ts os new s.2)
+cut_life_unfolds old [] (o ∷ os) new s = absurd s
+cut_life_unfolds old (t ∷ ts) [] new s = absurd s

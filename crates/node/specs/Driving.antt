@@ -6,10 +6,13 @@ use Rattle.topic_stores.specs.declared.store.TopicStore.{Ghosts as StoreMembers}
 use Rattle.subscriptions.specs.Statuses.{AreStatuses}
 use Rattle.topic_core.specs.State.{Topic}
 use Rattle.topic_core.specs.Standing.{Phase, Before, Written, Lost}
-use Rattle.session.specs.Broker.{topic_at}
+use Rattle.session.specs.Broker.{topic_at, Broker}
 use Rattle.node.specs.State.{State, broker_with}
-use Rattle.node.specs.Standing.{state_of, phase_in, Stands, AtRest}
+use Rattle.node.specs.Standing.{state_of, phase_in, Stands, AtRest, StandsForBroker}
+use Rattle.managed_ledger.specs.Entries.{Entries}
+use Rattle.records.specs.Maps.{Kept}
 use Rattle.node.specs.Runs.{Life, AllowedRun}
+use Rattle.node.specs.Cuts.{Amidst}
 use Rattle.node.specs.Laws.{IsAtStart, Accounts}
 use Rattle.node.specs.declared.event.Happening.{Happening}
 use Rattle.node.specs.declared.event.Happening.TheVariants as happening
@@ -40,6 +43,16 @@ TellsSegments laid Before files segments = HasSegments laid files segments
 TellsSegments laid Written files segments = HasSegments laid files segments
 TellsSegments laid Lost files segments = Unit {0}
 
+-- the files stand for what a crash leaves of a broker that a front of the happenings reaches, the first opening before them
+abbrev pub StandsAmidst : (ℕ → Image → Entries → Kept → Type 0) → State → List Happening → Image → Type 0
+StandsAmidst files_stand first happenings files =
+    (broker : Broker) × Amidst (record { up = false; state = first }) (happening.Crash ∷ happenings) broker × StandsForBroker files_stand broker files
+
+-- the device of a machine
+abbrev pub shelf_in : {T S : Type 0} {store : StoreMembers T} → Machine T S store → S
+shelf_in (machine.Up node) = node.topics.shelf
+shelf_in (machine.Down shelf) = shelf
+
 module _ {T S : Type 0} {store : StoreMembers T} (disk : S → Disk) where
   -- The machine holds this life: a node that works, or the device alone, which stands for what a crash leaves of the state.
   abbrev pub Holds : ℕ → Machine T S store → Life → Type 0
@@ -51,6 +64,10 @@ module _ {T S : Type 0} {store : StoreMembers T} (disk : S → Disk) where
   SegmentsTold laid (machine.Up node) (Some status) = TellsSegments laid (phase_in node.topics) (disk node.topics.shelf).seen status.segments
   SegmentsTold laid (machine.Up node) None = ⊥
   SegmentsTold laid (machine.Down shelf) told = Unit {0}
+
+  -- what it does
+  abbrev pub disk_in : Machine T S store → Disk
+  disk_in m = disk (shelf_in m)
 
   -- The node was opened, and then a front of the happenings was worked, as long as the outputs that were added; all of them
   -- where no memory was refused for an output. From a start where nothing is owed, what the sessions were told is accounted for.

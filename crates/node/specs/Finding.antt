@@ -11,7 +11,7 @@ use Rattle.topic_core.specs.State.{Topic, next_position, entries_of}
 use Rattle.ids.specs.Ids.{message_id_at}
 use Rattle.reply_queues.specs.Replies.{is_receipt}
 use Rattle.topic_core.specs.Steps.{bytes_of}
-use Rattle.node.specs.Moves.{Handed, Move, Command, Tell, Lose, Grant, Deliver, Miss, Leave, Flush, Take, Finish, Reopen, Crash, Moves}
+use Rattle.node.specs.Moves.{Handed, Move, Command, Tell, Lose, Grant, Deliver, Miss, Leave, Flush, Take, Finish, Reopen, Crash, Cut, Moves}
 
 -- an accepted SEND: where its entry will stand, and the receipt that its session is promised
 pub record Sent : Type 0 where
@@ -55,6 +55,7 @@ sends_on t (Take result) = []
 sends_on t (Finish written result) = []
 sends_on t (Reopen result) = []
 sends_on t Crash = []
+sends_on t Cut = []
 
 -- The accepted SENDs of a topic's moves, in order. A position comes again where the entry that had it was lost in a crash.
 abbrev pub sends_by : (old : Topic) (moves : List Move) (new : Topic) → Moves old moves new → List Sent

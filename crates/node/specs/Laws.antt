@@ -1,11 +1,12 @@
 -- What holds of every step and every run.
-use Rattle.std.specs.Prelude.{◌≡◌, ◌<◌, ◌≤◌, ℕ, ◌+◌, false, List, length, map}
+use Rattle.std.specs.Prelude.{◌≡◌, ◌<◌, ◌≤◌, ℕ, ◌+◌, false, Option, List, length, map}
 use Rattle.std.specs.List.{AllByRecursion}
 use Rattle.topic_core.specs.State.{Topic, receipts_due}
 use Rattle.topic_core.specs.Soundness.{IsSoundTopic}
 use Rattle.session.specs.Broker.{Broker, topic_at}
 use Rattle.node.specs.State.{State, fresh_broker}
 use Rattle.node.specs.Runs.{Run, Life, AllowedRun}
+use Rattle.node.specs.Cuts.{Turn, AllowedLife, hearer_in}
 use Rattle.node.specs.Moves.{Handed, Move, Moves, told_by, is_crash}
 use Rattle.node.specs.Telling.{Said, hearer, hearer_of, Spells, from_topic, AnswersAreAtOnce, receipts_told, RunUnfolds}
 use Rattle.node.specs.Finding.{sends_by, FindsEach, IsPublished, IsQuiet}
@@ -20,10 +21,12 @@ abbrev pub RunsUnfold : Type 0
 RunsUnfold = (old : State) (events : List Event) (outputs : List Output) (new : State) → Run old events outputs new
     → RunUnfolds old.broker (map (λ event. hearer event) events) outputs new.broker
 
--- so it is with crashes in between
-abbrev pub LivesUnfold : Type 0
-LivesUnfold = (old : Life) (happenings : List Happening) (outputs : List Output) (new : Life) → AllowedRun old happenings outputs new
-    → RunUnfolds old.state.broker (map (λ happening. hearer_of happening) happenings) outputs new.state.broker
+-- so it is with crashes in between, and with cuts of the power within events
+pub record LivesUnfold : Type 0 where
+  pub life : (old : Life) (happenings : List Happening) (outputs : List Output) (new : Life) → AllowedRun old happenings outputs new
+      → RunUnfolds old.state.broker (map (λ happening. hearer_of happening) happenings) outputs new.state.broker
+  pub cut : (old : Life) (turns : List Turn) (outputs : List Output) (new : Life) → AllowedLife old turns outputs new
+      → RunUnfolds old.state.broker (map (λ turn. hearer_in turn) turns) outputs new.state.broker
 
 -- each topic is sound
 abbrev pub IsSoundBroker : Broker → Type 0
@@ -34,6 +37,7 @@ pub record StaysSound : Type 0 where
   pub fresh : (per_ledger : ℕ) → 0 < per_ledger → IsSoundBroker (fresh_broker per_ledger)
   pub run : (old : State) (events : List Event) (outputs : List Output) (new : State) → Run old events outputs new → IsSoundBroker old.broker → IsSoundBroker new.broker
   pub life : (old : Life) (happenings : List Happening) (outputs : List Output) (new : Life) → AllowedRun old happenings outputs new → IsSoundBroker old.state.broker → IsSoundBroker new.state.broker
+  pub cut : (old : Life) (turns : List Turn) (outputs : List Output) (new : Life) → AllowedLife old turns outputs new → IsSoundBroker old.state.broker → IsSoundBroker new.state.broker
 
 -- the ledger of a topic that was quiet only grows, by entries of accepted SENDs at their positions
 abbrev pub MovesPublish : Type 0
@@ -79,20 +83,25 @@ pub record Account (old : Topic) (told : List Handed) (new : Topic) : Type 0 whe
   pub delivered : DeliversEach old moves new.ledger told
 
 -- what goes out to each session are frames, each whole; receipts and messages come from topics alone, and each topic can account for them
-pub record Accounts (old : Broker) (happenings : List Happening) (outputs : List Output) (new : Broker) : Type 0 where
+pub record AccountsTo (old : Broker) (hearers : List (Option ℕ)) (outputs : List Output) (new : Broker) : Type 0 where
   pub said : List Said
-  pub spells : Spells (map (λ happening. hearer_of happening) happenings) outputs said
+  pub spells : Spells hearers outputs said
   pub at_once : AnswersAreAtOnce said
   pub each : (number : ℕ) → Account (topic_at old number) (from_topic number said) (topic_at new number)
+
+abbrev pub Accounts : Broker → List Happening → List Output → Broker → Type 0
+Accounts old happenings outputs new = AccountsTo old (map (λ happening. hearer_of happening) happenings) outputs new
 
 -- a broker that is sound, and whose topics owe nothing and have nothing waiting
 pub record IsAtStart (b : Broker) : Type 0 where
   pub sound : IsSoundBroker b
   pub quiet : (number : ℕ) → IsQuiet (topic_at b number)
 
--- The headline: whatever happens to a node from such a start, with device failures and crashes anywhere, it can account
--- for all that its sessions were told.
+-- The headline: whatever happens to a node from such a start, with device failures and crashes anywhere, within events too, it
+-- can account for all that its sessions were told.
 pub record LivesAccount : Type 0 where
   pub fresh : (per_ledger : ℕ) → 0 < per_ledger → IsAtStart (fresh_broker per_ledger)
   pub life : (old : Life) (happenings : List Happening) (outputs : List Output) (new : Life) → AllowedRun old happenings outputs new → IsAtStart old.state.broker
       → Accounts old.state.broker happenings outputs new.state.broker
+  pub cut : (old : Life) (turns : List Turn) (outputs : List Output) (new : Life) → AllowedLife old turns outputs new → IsAtStart old.state.broker
+      → AccountsTo old.state.broker (map (λ turn. hearer_in turn) turns) outputs new.state.broker

@@ -9,6 +9,7 @@ pub mod Runs
 pub mod Driving
 pub mod Moves
 pub mod Telling
+pub mod Cuts
 pub mod Finding
 pub mod Promising
 pub mod Delivering

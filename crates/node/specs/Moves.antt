@@ -14,6 +14,7 @@ use Rattle.topic_core.specs.Steps.{TopicStep, GrantStep, collected, left}
 use Rattle.topic_core.specs.Dispatch.{DispatchStep}
 use Rattle.topic_core.specs.Flush.{TakeStep, FinishStep, FlushStep}
 use Rattle.topic_core.specs.Crashes.{ReopenStep, TopicCrash}
+use Rattle.node.specs.Steps.{in_flush}
 
 -- what a session takes from a topic: a reply, and behind a MESSAGE its entry
 pub record Handed : Type 0 where
@@ -37,6 +38,7 @@ pub data Move : Type 0 where
   Finish : Result (Unit {0}) WriteError → Result ℕ WriteError → Move  -- it ends as its write did
   Reopen : Result (Unit {0}) Refusal → Move
   Crash : Move  -- the power was cut, and the topic was opened again
+  Cut : Move  -- the power is cut within a flush of it, which has handed on all that waits
 
 -- a session takes its first due reply, behind which nothing stands
 pub record Takes (old : Topic) (handed : Handed) (new : Topic) : Type 0 where
@@ -61,6 +63,7 @@ MoveStep old (Take result) new = TakeStep old result new
 MoveStep old (Finish written result) new = FinishStep old written result new
 MoveStep old (Reopen result) new = ReopenStep old result new
 MoveStep old Crash new = TopicCrash old new
+MoveStep old Cut new = new ≡ in_flush old
 
 -- moves, one after another
 abbrev pub Moves : Topic → List Move → Topic → Type 0
@@ -81,6 +84,7 @@ told_on (Take result) = []
 told_on (Finish written result) = []
 told_on (Reopen result) = []
 told_on Crash = []
+told_on Cut = []
 
 abbrev pub told_by : List Move → List Handed
 told_by [] = []
@@ -99,3 +103,4 @@ is_crash (Take result) = false
 is_crash (Finish written result) = false
 is_crash (Reopen result) = false
 is_crash Crash = true
+is_crash Cut = false

@@ -22,7 +22,7 @@ use Rattle.topic_core.specs.declared.command.TopicCommand.{TopicCommand}
 use Rattle.topic_core.specs.declared.command.TopicCommand.TheVariants as asked
 use Rattle.topic_core.specs.State.{Topic}
 use Rattle.topic_core.specs.Steps.{key_of, position_at, receipt}
-use Rattle.node.specs.Moves.{Handed, Move, Command, Tell, Lose, Grant, Deliver, Miss, Leave, Flush, Take, Finish, Reopen, Crash, Moves}
+use Rattle.node.specs.Moves.{Handed, Move, Command, Tell, Lose, Grant, Deliver, Miss, Leave, Flush, Take, Finish, Reopen, Crash, Cut, Moves}
 
 -- the subscription of this name is there, and these positions are acknowledged on it
 pub record Promise : Type 0 where
@@ -175,6 +175,7 @@ word_after t (Take result) word = word
 word_after t (Finish written result) word = word
 word_after t (Reopen result) word = word
 word_after t Crash word = record word { owed = [] }
+word_after t Cut word = word
 
 -- what was told on moves, and what is owed after them
 abbrev pub word_by : (old : Topic) (moves : List Move) (new : Topic) → Moves old moves new → Word → Word
@@ -202,6 +203,7 @@ InTurn word (Take result) = Unit {0}
 InTurn word (Finish written result) = Unit {0}
 InTurn word (Reopen result) = Unit {0}
 InTurn word Crash = Unit {0}
+InTurn word Cut = Unit {0}
 
 -- each reply of a topic's moves comes in its turn
 abbrev pub AreInTurn : (old : Topic) (moves : List Move) (new : Topic) → Moves old moves new → Word → Type 0

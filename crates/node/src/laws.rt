@@ -1,3 +1,4 @@
+ghost use Rattle.node.specs.Cuts.{CutsAreTurns};
 ghost use Rattle.node.specs.Laws.{RunsUnfold, LivesUnfold, StaysSound, MovesPublish, ReceiptsAreCovered, ReceiptsAreFound, WordsAreKept, MessagesAreAdmitted, LivesAccount};
 
 /// The bytes that go out to each session are frames, each whole, and each topic moves by allowed moves, on which it
@@ -6,12 +7,12 @@ pub fn runs_unfold()
     ensures { RunsUnfold }
 {}
 
-/// The same with crashes and openings in between.
+/// The same with crashes and openings in between, and with cuts of the power within events.
 pub fn lives_unfold()
     ensures { LivesUnfold }
 {}
 
-/// Each step and each crash keeps every topic sound.
+/// Each step, each crash and each cut within an event keeps every topic sound.
 pub fn stays_sound()
     ensures { StaysSound }
 {}
@@ -47,7 +48,13 @@ pub fn messages_are_admitted()
     ensures { MessagesAreAdmitted }
 {}
 
-/// All of this, of every life of a node, from the bytes of each session.
+/// Where a broker is reached within happenings, the opening after a cut there is a turn of an allowed life behind those that were
+/// worked, of which nothing but the opening is told.
+pub fn cuts_are_turns()
+    ensures { CutsAreTurns }
+{}
+
+/// All of this, of every life of a node, with cuts within events too, from the bytes of each session.
 pub fn lives_account()
     ensures { LivesAccount }
 {}

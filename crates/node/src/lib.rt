@@ -17,8 +17,8 @@ mod topics;
 pub use event::{Event, Happening, Output, Verdict};
 pub use gated_log::Refusal;
 pub use laws::{
-    lives_account, lives_unfold, messages_are_admitted, moves_publish, receipts_are_covered,
-    receipts_are_found, runs_unfold, stays_sound, words_are_kept,
+    cuts_are_turns, lives_account, lives_unfold, messages_are_admitted, moves_publish,
+    receipts_are_covered, receipts_are_found, runs_unfold, stays_sound, words_are_kept,
 };
 pub use node::Node;
 pub use octets::Octets;

@@ -1,8 +1,10 @@
 // A node that is driven through events and crashes.
 ghost use Rattle.std.specs.Prelude.{◌≡◌, ◌<◌, ◌≤◌, ◌++◌, ◌∷◌, List, ℕ, IfOk, OnOk, false, length, take};
 ghost use Rattle.node.specs.State.{State};
-ghost use Rattle.node.specs.Standing.{AtRest};
-ghost use Rattle.node.specs.Driving.{Holds, IsServed, StatusOf, SegmentsTold, Drove};
+ghost use Rattle.disk.specs.Disk.{Leaves};
+ghost use Rattle.node.specs.Standing.{AtRest, StandsForBroker};
+ghost use Rattle.node.specs.Cuts.{amid_event, amid};
+ghost use Rattle.node.specs.Driving.{Holds, IsServed, StatusOf, SegmentsTold, shelf_in, disk_in, StandsAmidst, Drove};
 ghost use Rattle.node.specs.Runs.{Life, OpeningStep, HappeningStep};
 ghost use Rattle.node.specs.declared.event.Happening.TheVariants as happening;
 
@@ -24,8 +26,10 @@ impl<T: TopicStore, S: CrashShelf + Drop> Machine<T, S> {
     /// The power comes, and the node is opened. The output has no bytes.
     pub fn start(alloc: Global, per_ledger: u32, shelf: S) -> (Machine<T, S>, Output)
         requires numbered { 1 ≤ per_ledger }
-        ensures { (old : State) → AtRest T.stands old (S.disk shelf) → IsServed per_ledger old →
+        ensures step { (old : State) → AtRest T.stands old (S.disk shelf) → IsServed per_ledger old →
             (life : Life) × OpeningStep old result.1 life × Holds S.disk per_ledger result.0 life }
+        ensures any_moment { (old : State) → AtRest T.stands old (S.disk shelf) →
+            Leaves (StandsForBroker T.stands old.broker) (S.disk shelf) (disk_in S.disk result.0) }
     {
         match Node::open(alloc, per_ledger, shelf) {
             Ok(node) => (Machine::Up(node), only(alloc, Verdict::Done)),
@@ -35,7 +39,8 @@ impl<T: TopicStore, S: CrashShelf + Drop> Machine<T, S> {
 
     /// The device alone, with what the node wrote.
     pub fn into_shelf(self) -> S
-        ensures { (per_ledger : ℕ) (life : Life) → Holds S.disk per_ledger self life → AtRest T.stands life.state (S.disk result) }
+        ensures at_rest { (per_ledger : ℕ) (life : Life) → Holds S.disk per_ledger self life → AtRest T.stands life.state (S.disk result) }
+        ensures device { result ≡ shelf_in self }
     {
         match self {
             Machine::Up(node) => node.into_shelf(),
@@ -46,8 +51,10 @@ impl<T: TopicStore, S: CrashShelf + Drop> Machine<T, S> {
     /// The power is cut, and comes again.
     pub fn crash(self, alloc: Global, per_ledger: u32) -> (Machine<T, S>, Output)
         requires numbered { 1 ≤ per_ledger }
-        ensures { (old : Life) → Holds S.disk per_ledger self old →
+        ensures step { (old : Life) → Holds S.disk per_ledger self old →
             (new : Life) × HappeningStep old (happening.Crash) result.1 new × Holds S.disk per_ledger result.0 new }
+        ensures any_moment { (old : Life) → Holds S.disk per_ledger self old →
+            Leaves (StandsForBroker T.stands old.state.broker) (disk_in S.disk self) (disk_in S.disk result.0) }
     {
         let mut shelf = self.into_shelf();
         shelf.crash();
@@ -56,8 +63,10 @@ impl<T: TopicStore, S: CrashShelf + Drop> Machine<T, S> {
 
     /// Works an event. A node that is down knows no session and no topic.
     pub fn event(&mut self, alloc: Global, event: Event) -> Output
-        ensures { (per_ledger : ℕ) (old : Life) → Holds S.disk per_ledger self.old old →
+        ensures step { (per_ledger : ℕ) (old : Life) → Holds S.disk per_ledger self.old old →
             (new : Life) × HappeningStep old (happening.Event event) result new × Holds S.disk per_ledger self.new new }
+        ensures any_moment { (per_ledger : ℕ) (old : Life) → Holds S.disk per_ledger self.old old →
+            Leaves (StandsForBroker T.stands (amid_event old.up old.state.broker event)) (disk_in S.disk self.old) (disk_in S.disk self.new) }
     {
         match self {
             Machine::Up(node) => node.step(event),
@@ -94,8 +103,10 @@ impl<T: TopicStore, S: CrashShelf + Drop> Machine<T, S> {
         happening: Happening,
     ) -> (Machine<T, S>, Output)
         requires numbered { 1 ≤ per_ledger }
-        ensures { (old : Life) → Holds S.disk per_ledger self old →
+        ensures step { (old : Life) → Holds S.disk per_ledger self old →
             (new : Life) × HappeningStep old happening result.1 new × Holds S.disk per_ledger result.0 new }
+        ensures any_moment { (old : Life) → Holds S.disk per_ledger self old →
+            Leaves (StandsForBroker T.stands (amid old.up old.state.broker happening)) (disk_in S.disk self) (disk_in S.disk result.0) }
     {
         match happening {
             Happening::Event(event) => {
@@ -107,7 +118,8 @@ impl<T: TopicStore, S: CrashShelf + Drop> Machine<T, S> {
     }
 }
 
-/// Opens the node that the device holds, and works through events and crashes, one output each after that of the opening.
+/// Opens the node that the device holds, and works through events and crashes, one output each after that of the opening. A crash
+/// at any moment, within calls too, leaves what a crash leaves of a broker that a front of them reaches.
 pub fn drive<T: TopicStore, S: CrashShelf + Drop>(
     alloc: Global,
     per_ledger: u32,
@@ -116,8 +128,10 @@ pub fn drive<T: TopicStore, S: CrashShelf + Drop>(
     outputs: &mut Vec<Output>,
 ) -> Result<Machine<T, S>, AllocError>
     requires numbered { 1 ≤ per_ledger }
-    ensures { (first : State) → AtRest T.stands first (S.disk shelf) → IsServed per_ledger first →
+    ensures drove { (first : State) → AtRest T.stands first (S.disk shelf) → IsServed per_ledger first →
         Drove S.disk per_ledger first happenings.items outputs.old.items result outputs.new.items }
+    ensures any_moment { (first : State) → AtRest T.stands first (S.disk shelf) → IsServed per_ledger first →
+        IfOk result (λ machine. Leaves (StandsAmidst T.stands first happenings.items) (S.disk shelf) (disk_in S.disk machine)) }
 {
     outputs.reserve(1)?;
     let (mut machine, output) = Machine::start(alloc, per_ledger, shelf);

@@ -11,3 +11,4 @@ pub mod Found
 pub mod Durable
 pub mod Told
 pub mod Lowered
+pub mod Forgotten

@@ -1,3 +1,4 @@
+ghost use Rattle.subscriptions.specs.Forgetting.{CountsAreForgotten};
 ghost use Rattle.subscriptions.specs.Laws.{StaysSound, DeliveriesAreCommitted, AreKept, PickedIsOpen};
 
 /// Each call keeps the subscriptions sound.
@@ -18,4 +19,9 @@ pub fn subscriptions_are_kept()
 /// A position that is picked is committed, unacknowledged and held by nobody.
 pub fn picked_is_open()
     ensures { PickedIsOpen }
+{}
+
+/// Whether the count of an acknowledged position is forgotten changes no answer, now and after any calls.
+pub fn counts_are_forgotten()
+    ensures { CountsAreForgotten }
 {}

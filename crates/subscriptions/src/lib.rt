@@ -19,6 +19,9 @@ mod table;
 
 pub use consumer::{Consumer, Mode, Refusal, TooManyPermits};
 pub use initial_position::InitialPosition;
-pub use laws::{deliveries_are_committed, picked_is_open, stays_sound, subscriptions_are_kept};
+pub use laws::{
+    counts_are_forgotten, deliveries_are_committed, picked_is_open, stays_sound,
+    subscriptions_are_kept,
+};
 pub use status::SubscriptionStatus;
 pub use table::Subscriptions;

@@ -2,6 +2,8 @@ use Rattle.std.proofs.Common.{◌≡◌, ◌++◌, [], ◌∷◌, List, ap, sym,
 use Rattle.node.specs.Runs.{Life}
 use Rattle.node.specs.declared.event.Happening.{Happening}
 use Rattle.node.specs.declared.event.Happening.TheVariants as happening
+use Rattle.node.specs.Driving.{disk_in}
+use Rattle.node.proofs.Cutting.{short_first, short_more}
 use Rattle.node.proofs.Accounts.{life_accounts}
 use Rattle.node.proofs.Lives.{AllowedRun-push, front_run, none_added, one_added, none_more, all_worked, worked_length}
 use Rattle.node.proofs.Reaching.{one_more}
@@ -17,8 +19,9 @@ loop-happening-init g c =
     record {
       prefix = sym c.into_iter-happening-iterator.ensures.into_iter_gives.0;
       run = λ first rest served.
-          let s = c.start-machine.ensures first rest served in
-          (c.start-machine.result.1 ∷ [], s.0, pushed, (s.0, s.1, refl), s.2);
+          let s = c.start-machine.ensures.step first rest served in
+          let moments = short_first g.T.TopicStore.stands first c.args.happenings.items (g.S.Shelf.disk c.args.shelf) (disk_in g.S.Shelf.disk c.start-machine.result.0) (c.start-machine.ensures.any_moment first rest) in
+          (c.start-machine.result.1 ∷ [], s.0, pushed, (s.0, s.1, refl), s.2, moments);
     }
 
 pub loop-happening-preserved : goal.loop-happening-preserved
@@ -29,18 +32,22 @@ loop-happening-preserved g c =
       prefix = one_more _ _ _ _ _ i.prefix c.in-Some.ensures.steps.0;
       run = λ first rest served.
           let r = i.run first rest served in
-          let s = c.happen-next.ensures r.1 r.4 in
+          let s = c.happen-next.ensures.step r.1 r.4 in
+          let moments = short_more g.T.TopicStore.stands first c.args.happenings.items c.loop-happening.yielded r.0 r.1 r.3 c.in-Some.happening _ _
+          (g.S.Shelf.disk c.args.shelf) (disk_in g.S.Shelf.disk c.loop-happening.machine) (disk_in g.S.Shelf.disk c.happen-next.result.0)
+          i.prefix c.in-Some.ensures.steps.0 r.5 (c.happen-next.ensures.any_moment r.1 r.4) in
           let start : Life = record { up = false; state = first } in (
             r.0 ++ c.happen-next.result.1 ∷ [],
             s.0,
             one_added c.args.outputs.now.items c.loop-happening.outputs.items _ r.0 c.happen-next.result.1 r.2 pushed,
             AllowedRun-push start (happening.Crash ∷ c.loop-happening.yielded) r.0 r.1 c.in-Some.happening c.happen-next.result.1 s.0 r.3 s.1,
             s.2,
+            moments,
           );
     }
 
-pub returns-in_err-reserve : goal.returns-in_err-reserve
-returns-in_err-reserve g c = λ first rest served.
+pub returns-in_err-reserve-clause-drove : goal.returns-in_err-reserve-clause-drove
+returns-in_err-reserve-clause-drove g c = λ first rest served.
     let start : Life = record { up = false; state = first } in
     record {
       answers = [];
@@ -51,8 +58,8 @@ returns-in_err-reserve g c = λ first rest served.
       accounts = λ at_start. life_accounts start [] [] start refl at_start;
     }
 
-pub returns-in_err-reserve-2 : goal.returns-in_err-reserve-2
-returns-in_err-reserve-2 g c = λ first rest served.
+pub returns-in_err-reserve-2-clause-drove : goal.returns-in_err-reserve-2-clause-drove
+returns-in_err-reserve-2-clause-drove g c = λ first rest served.
     let i = c.loop-happening.invariant in
     let r = i.run first rest served in
     let start : Life = record { up = false; state = first } in
@@ -67,8 +74,8 @@ returns-in_err-reserve-2 g c = λ first rest served.
       accounts = λ at_start. life_accounts start _ r.0 r.1 run at_start;
     }
 
-pub returns : goal.returns
-returns g c = λ first rest served.
+pub returns-clause-drove : goal.returns-clause-drove
+returns-clause-drove g c = λ first rest served.
     let i = c.loop-happening.invariant in
     let r = i.run first rest served in
     let start : Life = record { up = false; state = first } in
@@ -85,3 +92,6 @@ returns g c = λ first rest served.
       whole = (worked_length start c.loop-happening.yielded c.args.happenings.items r.0 r.1 happening.Crash e r.3, r.4);
       accounts = λ at_start. life_accounts start _ r.0 r.1 run at_start;
     }
+
+pub returns-clause-any_moment : goal.returns-clause-any_moment
+returns-clause-any_moment g c = λ first rest served. (c.loop-happening.invariant.run first rest served).5

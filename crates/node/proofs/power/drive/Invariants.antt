@@ -1,7 +1,8 @@
 use Rattle.std.proofs.Common.{◌≡◌, ◌++◌, ◌∷◌, List, false}
 use Rattle.node.specs.State.{State}
 use Rattle.node.specs.Standing.{AtRest}
-use Rattle.node.specs.Driving.{Holds, IsServed}
+use Rattle.node.specs.Driving.{Holds, IsServed, disk_in, StandsAmidst}
+use Rattle.disk.specs.Disk.{Leaves}
 use Rattle.node.specs.Runs.{Life, AllowedRun}
 use Rattle.node.specs.declared.event.Happening.TheVariants as happening
 use Rattle.node.specs.declared.event.Output.{Output}
@@ -13,5 +14,6 @@ invariant-loop-happening g l = record {
   run : (first : State) → AtRest g.T.TopicStore.stands first (g.S.Shelf.disk l.fn.shelf) → IsServed l.per_ledger first →
       (answers : List Output) × (last : Life) × (l.outputs.items ≡ l.fn.outputs.items ++ answers)
       × AllowedRun (record { up = false; state = first }) (happening.Crash ∷ l.yielded) answers last
-      × Holds g.S.Shelf.disk l.per_ledger l.machine last;
+      × Holds g.S.Shelf.disk l.per_ledger l.machine last
+      × Leaves (StandsAmidst g.T.TopicStore.stands first l.fn.happenings.items) (g.S.Shelf.disk l.fn.shelf) (disk_in g.S.Shelf.disk l.machine);
 }

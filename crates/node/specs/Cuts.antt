@@ -1,0 +1,74 @@
+-- Lives in which the power is cut within events too.
+use Rattle.std.specs.Prelude.{◌≡◌, ◌⊎◌, ◌≤◌, ℕ, Bool, true, false, Option, None, List, [], ◌∷◌, ◌++◌, map}
+use Rattle.session.specs.Broker.{Broker}
+use Rattle.node.specs.State.{State}
+use Rattle.node.specs.Steps.{during}
+use Rattle.node.specs.Runs.{Life, OpeningStep, HappeningStep, AllowedRun}
+use Rattle.node.specs.Telling.{hearer_of}
+use Rattle.node.specs.declared.event.Event.{Event}
+use Rattle.node.specs.declared.event.Happening.{Happening}
+use Rattle.node.specs.declared.event.Happening.TheVariants as happening
+use Rattle.node.specs.declared.event.Output.{Output}
+
+pub data Turn : Type 0 where
+  Whole : Happening → Turn  -- an event is worked, or the power is cut between two of them and comes again
+  Within : Event → Turn  -- the power is cut while the node works this event, and comes again
+
+-- the node where the power is cut: within a flush all that waits is in doubt; the device may have failed by then
+abbrev pub cut_in : State → Event → ℕ → State
+cut_in old event faults = record old { broker = during old.broker event; faults = faults }
+
+-- the power is cut within an event of a node that works, of which nothing was told; the output is that of the opening
+pub record CutWithin (old : Life) (event : Event) (output : Output) (new : Life) : Type 0 where
+  pub up : old.up ≡ true
+  pub faults : ℕ
+  pub more : old.state.faults ≤ faults
+  pub opening : OpeningStep (cut_in old.state event faults) output new
+
+abbrev pub TurnStep : Life → Turn → Output → Life → Type 0
+TurnStep old (Whole happening) output new = HappeningStep old happening output new
+TurnStep old (Within event) output new = CutWithin old event output new
+
+-- turns and outputs, one after another
+abbrev pub AllowedLife : Life → List Turn → List Output → Life → Type 0
+AllowedLife old [] [] new = new ≡ old
+AllowedLife old (turn ∷ turns) (output ∷ outputs) new = (between : Life) × TurnStep old turn output between × AllowedLife between turns outputs new
+AllowedLife old [] (output ∷ outputs) new = ⊥
+AllowedLife old (turn ∷ turns) [] new = ⊥
+
+-- the session whose client a turn's bytes go out to
+abbrev pub hearer_in : Turn → Option ℕ
+hearer_in (Whole happening) = hearer_of happening
+hearer_in (Within event) = None
+
+-- the broker while a happening goes on; a node that is down works no event
+abbrev pub amid_event : Bool → Broker → Event → Broker
+amid_event true b event = during b event
+amid_event false b event = b
+
+abbrev pub amid : Bool → Broker → Happening → Broker
+amid up b (happening.Event event) = amid_event up b event
+amid up b (happening.Crash) = b
+
+-- a broker that a front of the happenings reaches: between two of them, or while the next one, an event of a node that works, goes on
+pub record Amidst (old : Life) (happenings : List Happening) (broker : Broker) : Type 0 where
+  pub worked : List Happening
+  pub rest : List Happening
+  pub outputs : List Output
+  pub between : Life
+  pub run : AllowedRun old worked outputs between
+  pub front : happenings ≡ worked ++ rest
+  pub here : (broker ≡ between.state.broker) ⊎ ((next : Event) × (later : List Happening) × (rest ≡ happening.Event next ∷ later) × (between.up ≡ true) × (broker ≡ during between.state.broker next))
+
+abbrev pub uncut : List Happening → List Turn
+uncut happenings = map (λ happening. Whole happening) happenings
+
+-- the opening of such a broker, after a cut there, is a turn of an allowed life behind that front
+pub record CutLife (old : Life) (worked : List Happening) (outputs : List Output) (output : Output) (new : Life) : Type 0 where
+  pub turn : Turn
+  pub silent : hearer_in turn ≡ None
+  pub life : AllowedLife old (uncut worked ++ turn ∷ []) (outputs ++ output ∷ []) new
+
+abbrev pub CutsAreTurns : Type 0
+CutsAreTurns = (old : Life) (happenings : List Happening) (broker : Broker) (at : Amidst old happenings broker) (faults : ℕ) (output : Output) (new : Life) → at.between.state.faults ≤ faults
+    → OpeningStep (record at.between.state { broker = broker; faults = faults }) output new → CutLife old at.worked at.outputs output new
