@@ -26,3 +26,4 @@ pub mod Promising
 pub mod Accounts
 pub mod Cutting
 pub mod Segments
+pub mod Failing

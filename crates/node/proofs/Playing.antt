@@ -17,6 +17,7 @@ use Rattle.commands.specs.declared.server_error.ServerError.{ServerError}
 use Rattle.commands.specs.declared.server_error.ServerError.TheVariants.{TooManyRequests, NotAllowedError, ConsumerNotFound}
 use Rattle.frames.specs.declared.frame.Frame.{Frame}
 use Rattle.frames.specs.declared.frame.FrameEntry.{FrameEntry}
+use Rattle.gated_log.specs.declared.read_error.ReadError.{ReadError}
 use Rattle.topic_core.specs.State.{Topic}
 use Rattle.std.specs.Ordering.{nat_cmp}
 use Rattle.std.specs.Cmp.Lexicographic.{slice_cmp}
@@ -50,9 +51,9 @@ use Rattle.session.specs.declared.port.Found.TheVariants as found
 use Rattle.session.specs.declared.pumping.More.{More}
 use Rattle.session.specs.declared.pumping.PumpFault.{PumpFault}
 use Rattle.node.specs.Moves.{Handed, Command as Commands, Tell, Lose, Grant, Deliver, Miss, Leave, Takes}
-use Rattle.node.specs.Telling.{From, IsAtOnce, Course, Unfolds}
+use Rattle.node.specs.Telling.{From, IsAtOnce, Talk, Unfolds}
 use Rattle.node.proofs.Brokers.{set_at, map_at, one_more_at}
-use Rattle.node.proofs.Saying.{still_course, one_move, told_at, silently, silent, becomes, alike, one_frame, at_once, then}
+use Rattle.node.proofs.Saying.{still_talk, one_talk, told_at, silently, silent, becomes, alike, one_frame, at_once, then}
 
 -- of a session
 pub record Plays (p q : Play) : Type 0 where
@@ -62,26 +63,26 @@ pub record Plays (p q : Play) : Type 0 where
   pub unfolds : Unfolds p.client.number p.broker bytes q.broker
 
 -- one topic moves, and tells nothing
-pub placed_each : (b c : Broker) (at : ℕ) (t : Topic) → Course (topic_at b at) [] t → c ≡ with_topic b at t → (number : ℕ) → Course (topic_at b number) [] (topic_at c number)
+pub placed_each : (b c : Broker) (at : ℕ) (t : Topic) → Talk (topic_at b at) [] t → c ≡ with_topic b at t → (number : ℕ) → Talk (topic_at b number) [] (topic_at c number)
 placed_each b c at t moved is = λ number.
-    subst (λ (x : Broker). Course (topic_at b number) [] (topic_at x number)) (sym is)
-    (set_at (λ x y. Course x [] y) still_course b.topics at number t (fresh b.per_ledger) moved)
+    subst (λ (x : Broker). Talk (topic_at b number) [] (topic_at x number)) (sym is)
+    (set_at (λ x y. Talk x [] y) still_talk b.topics at number t (fresh b.per_ledger) moved)
 
-placed : (hears : ℕ) (b c : Broker) (at : ℕ) (t : Topic) → Course (topic_at b at) [] t → c ≡ with_topic b at t → Unfolds hears b [] c
+placed : (hears : ℕ) (b c : Broker) (at : ℕ) (t : Topic) → Talk (topic_at b at) [] t → c ≡ with_topic b at t → Unfolds hears b [] c
 placed hears b c at t moved is = silently hears b c (placed_each b c at t moved is)
 
 commanded : (hears : ℕ) (b c : Broker) (at who : ℕ) (asked : TopicCommand) (answer : Answer) → CommandStep b at who asked answer c → Unfolds hears b [] c
-commanded hears b c at who asked answer s = placed hears b c at (topic_at c at) (one_move (topic_at b at) (Commands who asked answer) (topic_at c at) s.step) s.others
+commanded hears b c at who asked answer s = placed hears b c at (topic_at c at) (one_talk (topic_at b at) (Commands who asked answer) (topic_at c at) s.step refl) s.others
 
-pub gone_each : (b : Broker) (who number : ℕ) → Course (topic_at b number) [] (topic_at (left_all b who) number)
-gone_each b who number = map_at (λ x y. Course x [] y) still_course (λ t. left t who) (λ t. one_move t (Leave who) (left t who) refl) b.topics number (fresh b.per_ledger)
+pub gone_each : (b : Broker) (who number : ℕ) → Talk (topic_at b number) [] (topic_at (left_all b who) number)
+gone_each b who number = map_at (λ x y. Talk x [] y) still_talk (λ t. left t who) (λ t. one_talk t (Leave who) (left t who) refl refl) b.topics number (fresh b.per_ledger)
 
 gone : (hears : ℕ) (b : Broker) (who : ℕ) → Unfolds hears b [] (left_all b who)
 gone hears b who = silently hears b (left_all b who) (λ number. gone_each b who number)
 
 made_one : (hears : ℕ) (b : Broker) (name : List ℕ) → Unfolds hears b [] (made b name)
 made_one hears b name = silently hears b (made b name) (λ number.
-    subst (λ (t : Topic). Course (topic_at b number) [] t) (sym (one_more_at b.topics number (fresh b.per_ledger))) (still_course (topic_at b number)))
+    subst (λ (t : Topic). Talk (topic_at b number) [] t) (sym (one_more_at b.topics number (fresh b.per_ledger))) (still_talk (topic_at b number)))
 
 finds_one : (hears : ℕ) (there : Option ℕ) (b : Broker) (name : List ℕ) (f : Found) (c : Broker) → FindIn there b name f c → Unfolds hears b [] c
 finds_one hears None b name found.NoMemory c s = alike hears b c [] refl s
@@ -196,7 +197,7 @@ grants (Some topic) old c new s =
     let u = topic_at new.broker topic in
     stays old new (ap (λ (x : Client). x.number) s.client ∙ granting_number old.client s.result) s.out
     (placed old.client.number old.broker new.broker topic u
-    (one_move t (Grant old.client.number c.consumer_id c.message_permits s.result) u s.step.step) s.step.others)
+    (one_talk t (Grant old.client.number c.consumer_id c.message_permits s.result) u s.step.step refl) s.step.others)
 
 refuses_ack : (request : Option ℕ) (old : Play) (id : ℕ) (new : Play) → consuming.RefusesAck request old id new → Plays old new
 refuses_ack None old id new s = still_play old new s
@@ -302,7 +303,7 @@ collects_from at old new r takes (inl went) =
             heard = (refl, tt);
             at_once = tt;
             each = λ number. told_at old.broker.topics at number u (fresh old.broker.per_ledger) handed
-                (is_there old.broker.topics at old.client.number old.broker.per_ledger r _ takes.0) (one_move t (Tell handed) u taken);
+                (is_there old.broker.topics at old.client.number old.broker.per_ledger r _ takes.0) (one_talk t (Tell handed) u taken refl);
           }) refl takes.1;
     }
 collects_from at old new r takes (inr lost) =
@@ -310,7 +311,7 @@ collects_from at old new r takes (inr lost) =
     let t = topic_at old.broker at in
     let u = collected t old.client.number r in
     let taken : Takes t handed u = takes_due old.broker new.broker at old.client.number r takes in
-    stays old new (ap (λ (c : Client). c.number) lost.0) lost.1 (placed old.client.number old.broker new.broker at u (one_move t (Lose handed) u taken) takes.1)
+    stays old new (ap (λ (c : Client). c.number) lost.0) lost.1 (placed old.client.number old.broker new.broker at u (one_talk t (Lose handed) u taken refl) takes.1)
 
 collects : (count : ℕ) (old new : Play) → Collects count old new → Plays old new
 collects zero old new s = still_play old new s
@@ -351,38 +352,39 @@ sends_from at id old new message takes (inl went) =
             heard = (refl, tt);
             at_once = tt;
             each = λ number. told_at old.broker.topics at number u (fresh old.broker.per_ledger) handed
-                (is_served old.broker.topics at old.broker.per_ledger (key_of old.client.number id) sent.0 sent.1.admitted) (one_move t (Deliver id handed) u takes.step);
+                (is_served old.broker.topics at old.broker.per_ledger (key_of old.client.number id) sent.0 sent.1.admitted) (one_talk t (Deliver id handed) u takes.step refl);
           }) refl takes.others;
     }
 sends_from at id old new message takes (inr lost) =
     let handed : Handed = record { session = old.client.number; reply = message.reply; entry = message.entry } in
-    stays old new (ap (λ (c : Client). c.number) lost.0) lost.1 (placed old.client.number old.broker new.broker at (topic_at new.broker at) (one_move (topic_at old.broker at) (Miss id handed) (topic_at new.broker at) takes.step) takes.others)
+    stays old new (ap (λ (c : Client). c.number) lost.0) lost.1 (placed old.client.number old.broker new.broker at (topic_at new.broker at) (one_talk (topic_at old.broker at) (Miss id handed) (topic_at new.broker at) takes.step refl) takes.others)
 
 messages : (consumer : ConsumerEntry) (count : ℕ) (old new : Play) → Sends consumer count old new → Plays old new
 messages consumer zero old new s = still_play old new s
 messages consumer (suc count) old new s =
     then_play old s.0 new (messages consumer count old s.0 s.1) (sends_from consumer.topic consumer.consumer_id s.0 new s.2.message s.2.takes s.2.says)
 
-stops : (old new : Play) → (new ≡ old) ⊎ FindsNoMemory old new → Plays old new
-stops old new (inl s) = still_play old new s
-stops old new (inr s) = ends old new _ s.ends
+module _ (Refused : ReadError → Type 0) where
+  stops : (old new : Play) → (new ≡ old) ⊎ FindsNoMemory Refused old new → Plays old new
+  stops old new (inl s) = still_play old new s
+  stops old new (inr s) = ends old new _ s.ends
 
-serves_each : (consumers : List ConsumerEntry) (most count : ℕ) (old new : Play) → ServesEach consumers most count old new → Plays old new
-serves_each [] most count old new s = still_play old new s.1
-serves_each (c ∷ cs) most count old new s =
-    then_play old s.2 new (then_play old s.3.sent s.2 (messages c s.0 old s.3.sent s.3.sends) (stops s.3.sent s.2 s.3.stops)) (serves_each cs (most - s.0) s.1 s.2 new s.4)
+  serves_each : (consumers : List ConsumerEntry) (most count : ℕ) (old new : Play) → ServesEach Refused consumers most count old new → Plays old new
+  serves_each [] most count old new s = still_play old new s.1
+  serves_each (c ∷ cs) most count old new s =
+      then_play old s.2 new (then_play old s.3.sent s.2 (messages c s.0 old s.3.sent s.3.sends) (stops s.3.sent s.2 s.3.stops)) (serves_each cs (most - s.0) s.1 s.2 new s.4)
 
-serves_all : (consumers : List ConsumerEntry) (most : ℕ) (result : Result ℕ PumpFault) (old new : Play) → ServesAll consumers most result old new → Plays old new
-serves_all consumers most (Ok count) old new s = serves_each consumers most count old new s
-serves_all consumers most (Err why) old new s =
-    then_play old s.between new (serves_each s.before most s.count old s.between s.served) (messages s.consumer s.until.count s.between new s.until.sends)
+  serves_all : (consumers : List ConsumerEntry) (most : ℕ) (result : Result ℕ PumpFault) (old new : Play) → ServesAll Refused consumers most result old new → Plays old new
+  serves_all consumers most (Ok count) old new s = serves_each consumers most count old new s
+  serves_all consumers most (Err why) old new s =
+      then_play old s.between new (serves_each s.before most s.count old s.between s.served) (messages s.consumer s.until.count s.between new s.until.sends)
 
-serves_if : (goes_on : Bool) (result : Result ℕ PumpFault) (old new : Play) → ServesIf goes_on result old new → Plays old new
-serves_if true result old new s = serves_all old.client.consumers 64 result old new s
-serves_if false result old new s = still_play old new s.1
+  serves_if : (goes_on : Bool) (result : Result ℕ PumpFault) (old new : Play) → ServesIf Refused goes_on result old new → Plays old new
+  serves_if true result old new s = serves_all old.client.consumers 64 result old new s
+  serves_if false result old new s = still_play old new s.1
 
-pub pumped : (fault : Option Fault) (old : Play) (result : Result More PumpFault) (new : Play) → PumpIn fault old result new → Plays old new
-pumped None old result new s =
-    then_play old s.collected new (collects s.replies old s.collected s.collects)
-    (then_play s.collected s.served new (serves_if (nat_lt s.replies 65536) s.messages s.collected s.served s.serves) (settles s.served new s.ends))
-pumped (Some why) old result new s = still_play old new s.1
+  pub pumped : (fault : Option Fault) (old : Play) (result : Result More PumpFault) (new : Play) → PumpIn Refused fault old result new → Plays old new
+  pumped None old result new s =
+      then_play old s.collected new (collects s.replies old s.collected s.collects)
+      (then_play s.collected s.served new (serves_if (nat_lt s.replies 65536) s.messages s.collected s.served s.serves) (settles s.served new s.ends))
+  pumped (Some why) old result new s = still_play old new s.1

@@ -7,8 +7,9 @@ use Rattle.topic_core.specs.declared.dispatch.Outgoing.{Outgoing}
 use Rattle.topic_core.specs.State.{Topic}
 use Rattle.session.specs.Broker.{Broker, topic_at}
 use Rattle.session.specs.Client.{plain, frame_of, frames_of}
-use Rattle.node.specs.Moves.{Handed, Move, MoveStep, Moves, told_on, told_by}
-use Rattle.node.specs.Telling.{Said, AtOnce, From, outgoing_of, all_outgoing, from_topic, IsAtOnce, AnswersAreAtOnce, AreFor, Course, Unfolds}
+use Rattle.std.specs.List.{AllByRecursion}
+use Rattle.node.specs.Moves.{Handed, Move, MoveStep, Moves, told_on, told_by, is_of_session}
+use Rattle.node.specs.Telling.{Said, AtOnce, From, outgoing_of, all_outgoing, from_topic, IsAtOnce, AnswersAreAtOnce, AreFor, Course, Talk, Unfolds}
 
 -- moves, and then others
 pub Moves-append : (t : Topic) (first : List Move) (u : Topic) (then : List Move) (v : Topic) → Moves t first u → Moves u then v → Moves t (first ++ then) v
@@ -32,19 +33,39 @@ then_course t u v first then a b = record {
   tells = ap (λ (l : List Handed). l ++ then) a.tells ∙ ap (λ (l : List Handed). told_by a.moves ++ l) b.tells ∙ sym (told_by-append a.moves b.moves);
 }
 
+all_both : {A : Type 0} (P : A → Type 0) (xs ys : List A) → AllByRecursion P xs → AllByRecursion P ys → AllByRecursion P (xs ++ ys)
+all_both P [] ys a b = b
+all_both P (x ∷ xs) ys a b = (a.0, all_both P xs ys a.1 b)
+
+-- so of a session
+pub still_talk : (t : Topic) → Talk t [] t
+unfolding still_course
+still_talk t = record { course = still_course t; own = tt }
+
+pub one_talk : (t : Topic) (m : Move) (u : Topic) → MoveStep t m u → is_of_session m ≡ true → Talk t (told_on m) u
+unfolding one_move
+one_talk t m u step own = record { course = one_move t m u step; own = (own, tt) }
+
+pub then_talk : (t u v : Topic) (first then : List Handed) → Talk t first u → Talk u then v → Talk t (first ++ then) v
+unfolding then_course
+then_talk t u v first then a b = record {
+  course = then_course t u v first then a.course b.course;
+  own = all_both (λ (m : Move). is_of_session m ≡ true) a.course.moves b.course.moves a.own b.own;
+}
+
 -- the topic of a number tells one thing
-pub told_at : (topics : List Topic) (at number : ℕ) (t other : Topic) (handed : Handed) → at < length topics → Course (get_or topics at other) (handed ∷ []) t
-    → Course (get_or topics number other) (cond (nat_eq at number) (handed ∷ []) []) (get_or (set topics at t) number other)
+pub told_at : (topics : List Topic) (at number : ℕ) (t other : Topic) (handed : Handed) → at < length topics → Talk (get_or topics at other) (handed ∷ []) t
+    → Talk (get_or topics number other) (cond (nat_eq at number) (handed ∷ []) []) (get_or (set topics at t) number other)
 told_at topics at number t other handed within course =
-    let P : Bool → Type 0 = λ b. Course (get_or topics number other) (cond b (handed ∷ []) []) (get_or (set topics at t) number other) in
+    let P : Bool → Type 0 = λ b. Talk (get_or topics number other) (cond b (handed ∷ []) []) (get_or (set topics at t) number other) in
     ⊎_elim
     (λ same.
-    let Q : ℕ → Type 0 = λ n. Course (get_or topics n other) (handed ∷ []) (get_or (set topics at t) n other) in
-    let R : Topic → Type 0 = λ u. Course (get_or topics at other) (handed ∷ []) u in
+    let Q : ℕ → Type 0 = λ n. Talk (get_or topics n other) (handed ∷ []) (get_or (set topics at t) n other) in
+    let R : Topic → Type 0 = λ u. Talk (get_or topics at other) (handed ∷ []) u in
     subst P (sym same.0) (subst Q same.1 (subst R (sym (get_or-set_same topics at t other within)) course)))
     (λ differs.
-    let R : Topic → Type 0 = λ u. Course (get_or topics number other) [] u in
-    subst P (sym differs.0) (subst R (sym (get_or-set_other topics at number t other (λ is. differs.1 (sym is)))) (still_course (get_or topics number other))))
+    let R : Topic → Type 0 = λ u. Talk (get_or topics number other) [] u in
+    subst P (sym differs.0) (subst R (sym (get_or-set_other topics at number t other (λ is. differs.1 (sym is)))) (still_talk (get_or topics number other))))
     (eqb_tells at number)
 
 pub all_outgoing-append : (xs ys : List Said) → all_outgoing (xs ++ ys) ≡ all_outgoing xs ++ all_outgoing ys
@@ -73,11 +94,11 @@ for-append who (AtOnce reply ∷ xs) ys a b = for-append who xs ys a b
 for-append who (From number handed ∷ xs) ys a b = (a.0, for-append who xs ys a.1 b)
 
 -- nothing goes out
-pub silently : (who : ℕ) (b c : Broker) → ((number : ℕ) → Course (topic_at b number) [] (topic_at c number)) → Unfolds who b [] c
+pub silently : (who : ℕ) (b c : Broker) → ((number : ℕ) → Talk (topic_at b number) [] (topic_at c number)) → Unfolds who b [] c
 silently who b c each = record { said = []; written = refl; heard = tt; at_once = tt; each = each }
 
 pub silent : (who : ℕ) (b : Broker) → Unfolds who b [] b
-silent who b = silently who b b (λ number. still_course (topic_at b number))
+silent who b = silently who b b (λ number. still_talk (topic_at b number))
 
 -- the same, of an equal broker and equal bytes
 pub becomes : (who : ℕ) (b c c' : Broker) (x y : List ℕ) → Unfolds who b x c → y ≡ x → c' ≡ c → Unfolds who b y c'
@@ -92,7 +113,7 @@ one_frame outgoing = sym (append-nil (frame_of outgoing))
 -- a reply that is neither a receipt nor a message goes out
 pub at_once : (who : ℕ) (b c : Broker) (reply : Reply) → IsAtOnce reply → c ≡ b → Unfolds who b (frame_of (plain reply)) c
 at_once who b c reply may is = becomes who b b c (frame_of (plain reply)) (frame_of (plain reply))
-    (record { said = AtOnce reply ∷ []; written = one_frame (plain reply); heard = tt; at_once = (may, tt); each = λ number. still_course (topic_at b number) }) refl is
+    (record { said = AtOnce reply ∷ []; written = one_frame (plain reply); heard = tt; at_once = (may, tt); each = λ number. still_talk (topic_at b number) }) refl is
 
 pub then : (who : ℕ) (a b c : Broker) (x y : List ℕ) → Unfolds who a x b → Unfolds who b y c → Unfolds who a (x ++ y) c
 then who a b c x y p q = record {
@@ -103,6 +124,6 @@ then who a b c x y p q = record {
   heard = for-append who p.said q.said p.heard q.heard;
   at_once = at_once-append p.said q.said p.at_once q.at_once;
   each = λ number.
-      subst (λ (l : List Handed). Course (topic_at a number) l (topic_at c number)) (sym (from_topic-append number p.said q.said))
-      (then_course (topic_at a number) (topic_at b number) (topic_at c number) (from_topic number p.said) (from_topic number q.said) (p.each number) (q.each number));
+      subst (λ (l : List Handed). Talk (topic_at a number) l (topic_at c number)) (sym (from_topic-append number p.said q.said))
+      (then_talk (topic_at a number) (topic_at b number) (topic_at c number) (from_topic number p.said) (from_topic number q.said) (p.each number) (q.each number));
 }

@@ -1,5 +1,5 @@
 -- A flush, its parts and an opening of the topic, as steps of the node.
-use Rattle.std.proofs.Common.{◌≡◌, ◌≢◌, ℕ, ◌<◌, ◌≤◌, Bool, true, false, Option, Some, None, Result, Err, List, [], ◌∷◌, refl, sym, ap, subst, arith}
+use Rattle.std.proofs.Common.{◌≡◌, ◌≢◌, ℕ, ◌<◌, ◌≤◌, Bool, true, false, Option, Some, None, is_some, Result, Err, List, [], ◌∷◌, refl, sym, ap, subst, arith}
 use Rattle.disk.specs.Disk.{Disk, Image, Leaves}
 use Rattle.disk.specs.Moments.{starts}
 use Rattle.disk.specs.Areas.{OfTopic, Within, own_files}
@@ -65,10 +65,11 @@ module _ (n m : ℕ) (t u : Topic) (stage : Stage) (sessions : List Client) (use
         cause = cause;
       })
 
-  pub finishes : (written : Result (Unit {0}) WriteError) (result : Result ℕ WriteError) → stage ≡ Written written → topics.FinishStep t written result u → FinishStep (place_in (t ∷ []) topic) was (answer (verdict_of_flush result)) (is Resting)
-  finishes written result at step =
+  pub finishes : (written : Result (Unit {0}) WriteError) (result : Result ℕ WriteError) → is_some t.doubt ≡ true → stage ≡ Written written → topics.FinishStep t written result u → FinishStep (place_in (t ∷ []) topic) was (answer (verdict_of_flush result)) (is Resting)
+  finishes written result handed_on at step =
       subst (λ x. FinishStep (place_in (t ∷ []) x) was (answer (verdict_of_flush result)) (is Resting)) (sym zero)
       (subst (λ s. FinishesIn s was 0 (answer (verdict_of_flush result)) (is Resting)) (sym at) (record {
+        handed_on = handed_on;
         finished = u;
         result = result;
         step = step;

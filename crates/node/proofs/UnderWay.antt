@@ -31,6 +31,9 @@ module _ (t : Topic) (batch : Batch) (is_for : IsFor t batch) where
   pub works : t.failed ≡ false
   works = awaited.0
 
+  pub hands_on : is_some t.doubt ≡ true
+  hands_on = awaited.1
+
   pub no_other : has_no_flush t ≡ true
   no_other = ap (λ b. b || is_idle t) awaited.1
 

@@ -5,9 +5,9 @@ use Rattle.std.proofs.lemmas.List.Quantifiers.{position-Some}
 use Rattle.std.proofs.lemmas.Option.{get_or_from_slice_get}
 use Rattle.gated_log.specs.declared.refusal.Refusal.TheVariants as refusal
 use Rattle.topic_core.specs.State.{Topic}
-use Rattle.session.specs.Broker.{Broker, topic_at}
+use Rattle.session.specs.Broker.{Broker, fresh, topic_at, with_topic}
 use Rattle.session.specs.Client.{Client, Play, play, frames_of}
-use Rattle.node.specs.State.{State, Stage, Resting, Taken, Written, place_in, place_of, is_full}
+use Rattle.node.specs.State.{State, MayRefuse, Stage, Resting, Taken, Written, place_in, place_of, is_full}
 use Rattle.node.specs.Steps as steps
 use Rattle.node.specs.Runs.{Run, Life, OpeningEnds, EventIn, HappeningStep, AllowedRun}
 use Rattle.node.specs.Moves.{Handed, Flush, Take, Finish, Reopen, Crash, Cut}
@@ -21,7 +21,8 @@ use Rattle.node.specs.declared.event.Verdict.{Verdict}
 use Rattle.node.specs.declared.event.Verdict.TheVariants as verdict
 use Rattle.node.specs.declared.event.Output.{Output}
 use Rattle.node.proofs.Saying.{still_course, one_move, then_course, becomes, at_once-append, from_topic-append}
-use Rattle.node.proofs.Playing.{Plays, placed_each, gone_each, fed, pumped}
+use Rattle.node.proofs.Brokers.{set_at}
+use Rattle.node.proofs.Playing.{Plays, gone_each, fed, pumped}
 
 -- bytes go out to the one who hears them, or to none
 pub record Utters (who : Option ℕ) (old : Broker) (bytes : List ℕ) (new : Broker) : Type 0 where
@@ -32,7 +33,7 @@ pub record Utters (who : Option ℕ) (old : Broker) (bytes : List ℕ) (new : Br
   pub each : (number : ℕ) → Course (topic_at old number) (from_topic number said) (topic_at new number)
 
 heard_by : (who : ℕ) (b : Broker) (bytes : List ℕ) (c : Broker) → Unfolds who b bytes c → Utters (Some who) b bytes c
-heard_by who b bytes c u = record { said = u.said; written = u.written; heard = u.heard; at_once = u.at_once; each = u.each }
+heard_by who b bytes c u = record { said = u.said; written = u.written; heard = u.heard; at_once = u.at_once; each = λ number. (u.each number).course }
 
 -- nothing goes out, whoever hears
 hushed : (who : Option ℕ) → AreHeard who []
@@ -87,7 +88,7 @@ pumps : (who : ℕ) (place : Option ℕ) (old : State) (output : Output) (new : 
 pumps who None old output new is s = only (Some who) verdict.Unknown old output new s
 pumps who (Some place) old output new is s =
     plays_out who old new s.client s.played output.bytes (found_at old.sessions who place s.client is s.stands)
-    (pumped s.client.fault (play s.client old.broker []) s.result s.played s.step) (ap (λ (o : Output). o.bytes) s.settles.answer) s.settles.broker
+    (pumped (MayRefuse old.stage old.faults new.faults) s.client.fault (play s.client old.broker []) s.result s.played s.step) (ap (λ (o : Output). o.bytes) s.settles.answer) s.settles.broker
 
 -- a listener who is told nothing is none
 unheard : (b : Broker) (bytes : List ℕ) (c : Broker) → bytes ≡ [] → ((number : ℕ) → Course (topic_at b number) [] (topic_at c number)) → Utters None b bytes c
@@ -97,7 +98,13 @@ closes : (place : Option ℕ) (old : State) (output : Output) (new : State) → 
 closes None old output new s = only None verdict.Unknown old output new s
 closes (Some place) old output new s =
     unheard old.broker output.bytes new.broker (no_bytes verdict.Done output s.answer)
-    (λ number. subst (λ (x : Broker). Course (topic_at old.broker number) [] (topic_at x number)) (sym s.broker) (gone_each old.broker s.client.number number))
+    (λ number. subst (λ (x : Broker). Course (topic_at old.broker number) [] (topic_at x number)) (sym s.broker) (gone_each old.broker s.client.number number).course)
+
+-- one topic moves, and tells nothing
+placed_each : (b c : Broker) (at : ℕ) (t : Topic) → Course (topic_at b at) [] t → c ≡ with_topic b at t → (number : ℕ) → Course (topic_at b number) [] (topic_at c number)
+placed_each b c at t moved is = λ number.
+    subst (λ (x : Broker). Course (topic_at b number) [] (topic_at x number)) (sym is)
+    (set_at (λ x y. Course x [] y) still_course b.topics at number t (fresh b.per_ledger) moved)
 
 moves_one : (old : State) (at : ℕ) (t : Topic) (stage : Stage) (answer : Verdict) (output : Output) (new : State) → Course (topic_at old.broker at) [] t → output ≡ record { bytes = []; result = answer }
     → steps.Moves old at t stage new → Utters None old.broker output.bytes new.broker

@@ -14,3 +14,4 @@ pub mod Finding
 pub mod Promising
 pub mod Delivering
 pub mod Laws
+pub mod Failing

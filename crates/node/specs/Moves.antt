@@ -104,3 +104,19 @@ is_crash (Finish written result) = false
 is_crash (Reopen result) = false
 is_crash Crash = true
 is_crash Cut = false
+
+-- a move that a session makes: no part of a flush, no opening and no cut of the power
+abbrev pub is_of_session : Move → Bool
+is_of_session (Command who command answer) = true
+is_of_session (Tell handed) = true
+is_of_session (Lose handed) = true
+is_of_session (Grant who id permits result) = true
+is_of_session (Deliver id handed) = true
+is_of_session (Miss id handed) = true
+is_of_session (Leave who) = true
+is_of_session (Flush result) = false
+is_of_session (Take result) = false
+is_of_session (Finish written result) = false
+is_of_session (Reopen result) = false
+is_of_session Crash = false
+is_of_session Cut = false

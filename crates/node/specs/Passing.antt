@@ -1,7 +1,9 @@
 -- Calls of a port, one after another.
-use Rattle.std.proofs.Common.{◌≡◌, ℕ, refl, sym, subst, ◌∙◌, arith}
+use Rattle.std.proofs.Common.{◌≡◌, ℕ, ◌≤◌, inl, inr, refl, sym, subst, ◌∙◌, arith}
 use Rattle.disk.specs.Disk.{Disk, Image, Same, Leaves, Kept as Counted}
 use Rattle.disk.specs.Moments.{starts, joins, weaken}
+use Rattle.gated_log.specs.declared.read_error.ReadError.{ReadError}
+use Rattle.gated_log.specs.declared.read_error.ReadError.TheVariants as read
 use Rattle.managed_ledger.specs.Entries.{Entries}
 use Rattle.records.specs.Maps.{Kept}
 use Rattle.topic_stores.specs.declared.store.TopicStore.{Ghosts as StoreMembers}
@@ -12,9 +14,9 @@ use Rattle.topic_core.specs.Crashes.{IsLeft, longer, changed}
 use Rattle.topic_core.specs.Standing.{Phase, Before, Written, Lost, Match, Holds, Standing, GoesOn}
 use Rattle.topic_core.proofs.Standings.{left_like, standing_goes_on}
 use Rattle.node.specs.declared.topics.Topics.{Topics}
-use Rattle.node.specs.State.{Stage}
+use Rattle.node.specs.State.{Stage, MayRefuse}
 use Rattle.node.specs.Flights.{stage_of, phase_at, IsUnderWay}
-use Rattle.node.specs.Standing.{StandsForBroker, view_in, broker_of, TopicsStand, Passes}
+use Rattle.node.specs.Standing.{StandsForBroker, view_in, broker_of, TopicsStand, Passes, Refuses}
 
 -- what a crash leaves of a topic it left before the topic went on
 left_before : (old new : Topic) → GoesOn old new → (l : Entries) (k : Kept) → IsLeft new l k → IsLeft old l k
@@ -40,6 +42,13 @@ holds_read : (phase : Phase) (t : Topic) (v : StoreView) (old new : Disk) → On
 holds_read Before t v old new reads x = settled_read v old new t.ledger t.kept reads x
 holds_read Written t v old new reads x = settled_read v old new (longer t) (changed t) reads x
 holds_read Lost t v old new reads x = tt
+
+-- what was refused in between was refused from the first to the last
+refused_within : (first second : Stage) (a b c d : ℕ) (why : ReadError) → second ≡ first → a ≤ b → c ≤ d → MayRefuse second b c why → MayRefuse first a d why
+refused_within first second a b c d read.NoMemory same before after may = tt
+refused_within first second a b c d read.Device same before after (inl failed) = inl (omega (arith, before, after, failed))
+refused_within first second a b c d read.Device same before after (inr written) = inr (sym same ∙ written)
+refused_within first second a b c d (read.Damaged file offset) same before after may = may
 
 module _ (stands : ℕ → Image → Entries → Kept → Type 0) where
   -- a topic stands on a device that only read
@@ -97,6 +106,13 @@ module _ {T S : Type 0} {store : StoreMembers T} (disk : S → Disk) where
         stage = q.stage ∙ p.stage;
         faults = omega (arith, p.faults, q.faults);
       }
+
+  pub refuses_within : (a b c d : Topics T S store) (why : ReadError) → Passes disk a b → Passes disk b c → Passes disk c d → Refuses disk b why c → Refuses disk a why d
+  refuses_within a b c d why first second third refused standing =
+      let p = first standing in
+      let q = second p.standing in
+      let r = third q.standing in
+      refused_within (stage_of a.flight) (stage_of b.flight) (disk a.shelf).faults (disk b.shelf).faults (disk c.shelf).faults (disk d.shelf).faults why p.stage p.faults r.faults (refused p.standing)
 
   module _ (t : Topics T S store) (core : Topic) (number : (view_in t).topic ≡ 0) (matched : Match (phase_at core.failed (stage_of t.flight)) core (view_in t)) (under_way : IsUnderWay core t.flight) (go : GoesOn t.core core) where
     -- only the core goes on

@@ -1,6 +1,7 @@
 -- How a node and its device hold the abstract node together.
 use Rattle.std.specs.Prelude.{◌≡◌, ◌≤◌, ℕ}
 use Rattle.disk.specs.Disk.{Disk, Image, Leaves}
+use Rattle.gated_log.specs.declared.read_error.ReadError.{ReadError}
 use Rattle.managed_ledger.specs.Entries.{Entries}
 use Rattle.records.specs.Maps.{Kept}
 use Rattle.topic_stores.specs.declared.store.TopicStore.{Ghosts as StoreMembers}
@@ -9,7 +10,7 @@ use Rattle.topic_stores.specs.Writing.{StandsFor}
 use Rattle.topic_core.specs.Crashes.{IsLeft}
 use Rattle.topic_core.specs.Standing.{Phase, Standing}
 use Rattle.session.specs.Broker.{Broker, topic_at}
-use Rattle.node.specs.State.{State, broker_with}
+use Rattle.node.specs.State.{State, MayRefuse, broker_with}
 use Rattle.node.specs.Flights.{stage_of, phase_at}
 use Rattle.node.specs.declared.topics.Topics.{Topics}
 use Rattle.node.specs.declared.node.Node.{Node}
@@ -46,6 +47,10 @@ module _ {T S : Type 0} {store : StoreMembers T} where
 
     abbrev pub Passes : Topics T S store → Topics T S store → Type 0
     Passes old new = TopicsStand old → Passed old new
+
+    -- a message was refused so between the two
+    abbrev pub Refuses : Topics T S store → ReadError → Topics T S store → Type 0
+    Refuses old why new = TopicsStand old → MayRefuse (stage_of old.flight) (disk old.shelf).faults (disk new.shelf).faults why
 
     -- the abstract node
     abbrev pub state_of : Node T S store → State

@@ -1,9 +1,12 @@
 -- The abstract node.
-use Rattle.std.specs.Prelude.{ℕ, ◌+◌, ◌^◌, ◌||◌, Option, Some, None, Result, Ok, Err, Bool, List, [], ◌∷◌, ◌++◌, length, nat_lt, nat_le, nat_eq, cond, remove, position, codes}
+use Rattle.std.specs.Prelude.{◌≡◌, ◌⊎◌, ◌<◌, ℕ, ◌+◌, ◌^◌, ◌||◌, Option, Some, None, Result, Ok, Err, Bool, List, [], ◌∷◌, ◌++◌, length, nat_lt, nat_le, nat_eq, cond, remove, position, codes}
+use Rattle.gated_log.specs.declared.read_error.ReadError.{ReadError}
+use Rattle.gated_log.specs.declared.read_error.ReadError.TheVariants as read
 use Rattle.gated_log.specs.declared.refusal.Refusal.{Refusal}
 use Rattle.gated_log.specs.declared.refusal.Refusal.TheVariants as refusal
 use Rattle.topic_stores.specs.declared.batch.Batch.{Batch}
 use Rattle.topic_stores.specs.declared.error.WriteError.{WriteError}
+use Rattle.topic_stores.specs.declared.error.WriteError.TheVariants as write
 use Rattle.topic_stores.specs.Writing.{refusal_of}
 use Rattle.topic_core.specs.State.{Topic}
 use Rattle.session.specs.declared.fault.Fault.{Fault}
@@ -82,3 +85,10 @@ abbrev pub stage_after : Result (Option Batch) WriteError → Stage → Stage
 stage_after (Ok None) stage = stage
 stage_after (Ok (Some batch)) stage = Taken
 stage_after (Err why) stage = stage
+
+-- A message is refused for a failure of the device only where the device failed since, or where it failed in writing the batch of a
+-- flush that isn't finished. It is never refused for damage.
+abbrev pub MayRefuse : Stage → ℕ → ℕ → ReadError → Type 0
+MayRefuse stage before after read.NoMemory = Unit {0}
+MayRefuse stage before after read.Device = (before < after) ⊎ (stage ≡ Written (Err write.Device))
+MayRefuse stage before after (read.Damaged file offset) = ⊥

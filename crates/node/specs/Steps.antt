@@ -1,5 +1,5 @@
 -- What each event does to the abstract node.
-use Rattle.std.specs.Prelude.{◌≡◌, ◌<◌, ◌≤◌, ℕ, Option, Some, None, Result, Err, Bool, true, false, List, [], slice_get, slice_set, remove}
+use Rattle.std.specs.Prelude.{◌≡◌, ◌<◌, ◌≤◌, ℕ, Option, Some, None, is_some, Result, Err, Bool, true, false, List, [], slice_get, slice_set, remove}
 use Rattle.gated_log.specs.declared.refusal.Refusal.{Refusal}
 use Rattle.gated_log.specs.declared.refusal.Refusal.TheVariants as refusal
 use Rattle.topic_stores.specs.declared.batch.Batch.{Batch}
@@ -15,7 +15,7 @@ use Rattle.session.specs.Broker.{Broker, topic_at, with_topic, left_all}
 use Rattle.session.specs.Client.{Client, Play, play}
 use Rattle.session.specs.Working.{FeedStep}
 use Rattle.session.specs.Pumping as pumping
-use Rattle.node.specs.State.{State, Stage, Resting, Taken, Written, place_in, place_of, is_full, with_session, verdict_of, verdict_of_pump, verdict_for, verdict_of_flush, stage_after, settled}
+use Rattle.node.specs.State.{State, MayRefuse, Stage, Resting, Taken, Written, place_in, place_of, is_full, with_session, verdict_of, verdict_of_pump, verdict_for, verdict_of_flush, stage_after, settled}
 use Rattle.node.specs.declared.event.Event.{Event}
 use Rattle.node.specs.declared.event.Event.TheVariants.{Open, Bytes, Pump, Close, Flush, Take, Write, Finish, Reopen}
 use Rattle.node.specs.declared.event.Verdict.{Verdict}
@@ -61,13 +61,13 @@ pub record Feeds (old : State) (place : ℕ) (bytes : List ℕ) (output : Output
   pub step : FeedStep (play client old.broker []) bytes result played
   pub settles : Settles old place played (verdict_of played.client.fault) output new
 
--- an open session collects, and gets messages
+-- an open session collects, and gets messages, of which one is refused only for a cause
 pub record Pumps (old : State) (place : ℕ) (output : Output) (new : State) : Type 0 where
   pub client : Client
   pub stands : slice_get old.sessions place ≡ Some client
   pub result : Result More PumpFault
   pub played : Play
-  pub step : pumping.PumpStep (play client old.broker []) result played
+  pub step : pumping.PumpStep (MayRefuse old.stage old.faults new.faults) (play client old.broker []) result played
   pub settles : Settles old place played (verdict_of_pump result) output new
 
 -- an open session leaves each topic
@@ -113,8 +113,9 @@ pub record Writes (old : State) (topic : ℕ) (output : Output) (new : State) : 
   pub moves : Moves old topic (topic_at old.broker topic) (Written result) new
   pub cause : result ≡ Err Device → old.faults < new.faults
 
--- a flush in parts ends as its write did
+-- a flush in parts ends as its write did, of a topic that has handed on the batch
 pub record Finishes (written : Result (Unit {0}) WriteError) (old : State) (topic : ℕ) (output : Output) (new : State) : Type 0 where
+  pub handed_on : is_some (topic_at old.broker topic).doubt ≡ true
   pub finished : Topic
   pub result : Result ℕ WriteError
   pub step : topics.FinishStep (topic_at old.broker topic) written result finished

@@ -1,5 +1,6 @@
 -- What a run tells its clients, and the moves on which it does.
 use Rattle.std.specs.Prelude.{◌≡◌, ℕ, ◌+◌, cond, nat_eq, Bool, true, false, Option, Some, None, List, [], ◌∷◌, ◌++◌}
+use Rattle.std.specs.List.{AllByRecursion}
 use Rattle.commands.specs.declared.reply.Reply.{Reply}
 use Rattle.commands.specs.declared.reply.Reply.TheVariants.{Connected, ProducerSuccess, SendReceipt, SendError, Message, Success, Error, AckResponse, Pong}
 use Rattle.topic_core.specs.declared.dispatch.Outgoing.{Outgoing}
@@ -8,7 +9,7 @@ use Rattle.reply_queues.specs.Replies.{is_receipt}
 use Rattle.topic_core.specs.Steps.{receipts_of}
 use Rattle.session.specs.Broker.{Broker, topic_at}
 use Rattle.session.specs.Client.{plain, frames_of}
-use Rattle.node.specs.Moves.{Handed, outgoing, Move, Moves, told_by}
+use Rattle.node.specs.Moves.{Handed, outgoing, Move, Moves, told_by, is_of_session}
 use Rattle.node.specs.declared.event.Event.{Event}
 use Rattle.node.specs.declared.event.Event.TheVariants.{Open, Bytes, Pump, Close, Flush, Take, Write, Finish, Reopen}
 use Rattle.node.specs.declared.event.Happening.{Happening}
@@ -101,13 +102,18 @@ pub record Course (old : Topic) (told : List Handed) (new : Topic) : Type 0 wher
   pub steps : Moves old moves new
   pub tells : told ≡ told_by moves
 
+-- it does so by moves of a session
+pub record Talk (old : Topic) (told : List Handed) (new : Topic) : Type 0 where
+  pub course : Course old told new
+  pub own : AllByRecursion (λ move. is_of_session move ≡ true) course.moves
+
 -- a session's bytes go out, which are frames, each whole; and each topic makes moves, on which it tells just its own ones
 pub record Unfolds (who : ℕ) (old : Broker) (bytes : List ℕ) (new : Broker) : Type 0 where
   pub said : List Said
   pub written : bytes ≡ frames_of (all_outgoing said)
   pub heard : AreFor who said
   pub at_once : AnswersAreAtOnce said
-  pub each : (number : ℕ) → Course (topic_at old number) (from_topic number said) (topic_at new number)
+  pub each : (number : ℕ) → Talk (topic_at old number) (from_topic number said) (topic_at new number)
 
 -- outputs go out to those who hear them, and each topic makes moves, on which it tells just its own ones
 pub record RunUnfolds (old : Broker) (hearers : List (Option ℕ)) (outputs : List Output) (new : Broker) : Type 0 where

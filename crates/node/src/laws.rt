@@ -1,4 +1,5 @@
 ghost use Rattle.node.specs.Cuts.{CutsAreTurns};
+ghost use Rattle.node.specs.Failing.{FailsForACause};
 ghost use Rattle.node.specs.Laws.{RunsUnfold, LivesUnfold, StaysSound, MovesPublish, ReceiptsAreCovered, ReceiptsAreFound, WordsAreKept, MessagesAreAdmitted, LivesAccount};
 
 /// The bytes that go out to each session are frames, each whole, and each topic moves by allowed moves, on which it
@@ -15,6 +16,11 @@ pub fn lives_unfold()
 /// Each step, each crash and each cut within an event keeps every topic sound.
 pub fn stays_sound()
     ensures { StaysSound }
+{}
+
+/// A topic has failed only where the device has since the topic's last opening, and a flush tells a failure of the device only there.
+pub fn topics_fail_for_a_cause()
+    ensures { FailsForACause }
 {}
 
 /// Ledgers only grow, through crashes too, and each entry that came is that of the latest SEND that was accepted for its

@@ -7,7 +7,7 @@ use session::{Found, Port};
 use topic_core::{Answer, Outgoing, ReadError, TooManyPermits, TopicCommand, TopicStore};
 
 impl<T: TopicStore, S: Shelf> Port for Topics<T, S> {
-    ghost use Rattle.node.specs.Standing.{broker_of, TopicsStand, Passes};
+    ghost use Rattle.node.specs.Standing.{broker_of, TopicsStand, Passes, Refuses};
 
     ghost broker = { broker_of };
 
@@ -16,6 +16,8 @@ impl<T: TopicStore, S: Shelf> Port for Topics<T, S> {
     ghost sole = { TopicsStand S.disk };
 
     ghost passes = { Passes S.disk };
+
+    ghost refuses = { Refuses S.disk };
 
     fn topics(&self) -> u64 {
         1
@@ -66,13 +68,15 @@ impl<T: TopicStore, S: Shelf> Port for Topics<T, S> {
     }
 
     ghost use Rattle.std.proofs.Common.{refl, lit≤};
-    ghost use Rattle.node.specs.Passing.{passes_nothing, passes_both};
+    ghost use Rattle.node.specs.Passing.{passes_nothing, passes_both, refuses_within};
 
     ghost passes_nothing = { passes_nothing S.disk };
 
     ghost passes_both = { passes_both S.disk };
 
     ghost passes_sole = { λ old new passes standing. (passes standing).standing };
+
+    ghost refuses_within = { refuses_within S.disk };
 
     ghost passes_count = { λ a b h. lit≤ tt };
 

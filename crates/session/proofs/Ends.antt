@@ -11,6 +11,7 @@ use Rattle.subscriptions.specs.Steps.{is_on, is_consumer, left_on}
 use Rattle.topic_core.specs.Steps.{has_producer, is_producer, has_consumer, key_of, left}
 use Rattle.session.specs.declared.fault.Fault.{Fault}
 use Rattle.session.specs.declared.pumping.More.TheVariants.{No}
+use Rattle.gated_log.specs.declared.read_error.ReadError.{ReadError}
 use Rattle.session.specs.declared.pumping.PumpFault.{PumpFault}
 use Rattle.session.specs.declared.pumping.PumpFault.TheVariants.{Ended, Device}
 use Rattle.session.specs.Broker.{Broker, fresh, topic_at, left_all}
@@ -95,22 +96,23 @@ ended_feeds_leave old bytes why new none h =
     let s = subst P none h in
     ended_leaves _ new why s.0.ends (fault_of-feed new.client.fault why s.1)
 
--- a pump whose device fails ends no session
-serves_until : (goes_on : Bool) (why : PumpFault) (a b : Play) → ServesIf goes_on (Err why) a b → why ≡ Device
-serves_until true why a b h = h.until.device
-serves_until false why a b h = let e = h.0 in absurd (let no : ⊥ = cc in no)
+module _ (Refused : ReadError → Type 0) where
+  -- a pump whose device fails ends no session
+  serves_until : (goes_on : Bool) (why : PumpFault) (a b : Play) → ServesIf Refused goes_on (Err why) a b → why ≡ Device
+  serves_until true why a b h = h.until.device
+  serves_until false why a b h = let e = h.0 in absurd (let no : ⊥ = cc in no)
 
-fault_of-pump : (f : Option Fault) (goes_on : Bool) (replies : ℕ) (messages : Result ℕ PumpFault) (why : Fault) (a b : Play) → ServesIf goes_on messages a b →
-    Err (Ended why) ≡ pump_result f replies messages → (x : Fault) × (f ≡ Some x)
-fault_of-pump None goes_on replies (Ok messages) why a b s h = absurd (let no : ⊥ = cc in no)
-fault_of-pump None goes_on replies (Err other) why a b s h = let e = serves_until goes_on other a b s in absurd (let no : ⊥ = cc in no)
-fault_of-pump (Some x) goes_on replies messages why a b s h = (x, refl)
+  fault_of-pump : (f : Option Fault) (goes_on : Bool) (replies : ℕ) (messages : Result ℕ PumpFault) (why : Fault) (a b : Play) → ServesIf Refused goes_on messages a b →
+      Err (Ended why) ≡ pump_result f replies messages → (x : Fault) × (f ≡ Some x)
+  fault_of-pump None goes_on replies (Ok messages) why a b s h = absurd (let no : ⊥ = cc in no)
+  fault_of-pump None goes_on replies (Err other) why a b s h = let e = serves_until goes_on other a b s in absurd (let no : ⊥ = cc in no)
+  fault_of-pump (Some x) goes_on replies messages why a b s h = (x, refl)
 
 pub ended_pumps_leave : EndedPumpsLeave
 ended_pumps_leave old why new none h =
-    let P : Option Fault → Type 0 = λ f. PumpIn f old (Err (Ended why)) new in
+    let P : Option Fault → Type 0 = λ f. PumpIn (λ why. Unit {0}) f old (Err (Ended why)) new in
     let s = subst P none h in
-    let f = fault_of-pump s.served.client.fault (nat_lt s.replies 65536) s.replies s.messages why s.collected s.served s.serves s.result_is in
+    let f = fault_of-pump (λ why. Unit {0}) s.served.client.fault (nat_lt s.replies 65536) s.replies s.messages why s.collected s.served s.serves s.result_is in
     ended_leaves s.served new f.0 s.ends (ap (λ (p : Play). p.client.fault) s.ends ∙ f.1)
 
 -- a pump that answers that no more is due has met no fault and not its bound
@@ -121,13 +123,14 @@ stops_by_itself None replies (Ok messages) h e =
     (refl, ⊎_elim (λ same. let bound = subst P same e in absurd (let no : ⊥ = cc in no)) (λ other. omega arith) (cases_eq replies 65536))
 stops_by_itself (Some why) replies messages h e = absurd (let no : ⊥ = cc in no)
 
-finishes : (f : Option Fault) (old new : Play) → PumpIn f old (Ok No) new → HasNothingDue new
-finishes None old new h =
-    let stop = stops_by_itself h.served.client.fault h.replies h.messages h.most h.result_is in
-    let same : new ≡ h.served = h.ends ∙ ap (λ (f : Option Fault). let p : Play = record h.served { broker = left_if f h.served.broker h.served.client.number } in p) stop.0 in
-    let before = serves_if-fault (nat_lt h.replies 65536) h.messages h.collected h.served h.serves stop.0 in
-    subst HasNothingDue (sym same) (serves_if-due (nat_lt h.replies 65536) h.messages h.collected h.served h.serves (h.all before stop.1))
-finishes (Some why) old new h = absurd (let no : ⊥ = cc in no)
+module _ (Refused : ReadError → Type 0) where
+  finishes : (f : Option Fault) (old new : Play) → PumpIn Refused f old (Ok No) new → HasNothingDue new
+  finishes None old new h =
+      let stop = stops_by_itself h.served.client.fault h.replies h.messages h.most h.result_is in
+      let same : new ≡ h.served = h.ends ∙ ap (λ (f : Option Fault). let p : Play = record h.served { broker = left_if f h.served.broker h.served.client.number } in p) stop.0 in
+      let before = serves_if-fault Refused (nat_lt h.replies 65536) h.messages h.collected h.served h.serves stop.0 in
+      subst HasNothingDue (sym same) (serves_if-due Refused (nat_lt h.replies 65536) h.messages h.collected h.served h.serves (h.all before stop.1))
+  finishes (Some why) old new h = absurd (let no : ⊥ = cc in no)
 
 pub pumps_finish : PumpsFinish
-pumps_finish old new h = finishes old.client.fault old new h
+pumps_finish old new h = finishes (λ why. Unit {0}) old.client.fault old new h

@@ -1,4 +1,7 @@
 pub mod Absent
+pub mod Absorbing
+pub mod Admitted
+pub mod Admitting
 pub mod AllRanges
 pub mod Ends
 pub mod Leaving

@@ -4,6 +4,7 @@ use Rattle.std.proofs.lemmas.List.{length-set, get_or-set_other}
 use Rattle.frames.specs.declared.fault.Fault.{Fault as FrameFault}
 use Rattle.frames.specs.declared.frame.Frame.{Frame}
 use Rattle.frames.specs.Streams.{Progress, FeedsOn}
+use Rattle.gated_log.specs.declared.read_error.ReadError.{ReadError}
 use Rattle.topic_core.specs.declared.dispatch.Outgoing.{Outgoing}
 use Rattle.topic_core.specs.State.{Topic}
 use Rattle.reply_queues.specs.Replies.{due_to}
@@ -74,7 +75,7 @@ set-due (x ∷ xs) (suc at) t zero who n same = refl
 set-due (x ∷ xs) (suc at) t (suc number) who n same = set-due xs at t number who n same
 
 -- what is said changes no more than the fault
-says-number : (c : Client) (out : List ℕ) (o : Outgoing) (d : Client) (out' : List ℕ) → Says c out o d out' → d.number ≡ c.number
+pub says-number : (c : Client) (out : List ℕ) (o : Outgoing) (d : Client) (out' : List ℕ) → Says c out o d out' → d.number ≡ c.number
 says-number c out o d out' (inl went) = ap (λ (x : Client). x.number) went.0
 says-number c out o d out' (inr lost) = ap (λ (x : Client). x.number) lost.0
 
@@ -83,25 +84,26 @@ pub sends-fault : (consumer : ConsumerEntry) (n : ℕ) (a b : Play) → Sends co
 sends-fault consumer zero a b h none = sym (ap (λ (p : Play). p.client.fault) h) ∙ none
 sends-fault consumer (suc n) a b h none = sends-fault consumer n a h.0 h.1 h.2.goes_on
 
-stops-fault : (consumer : ConsumerEntry) (a b : Play) → (b ≡ a) ⊎ FindsNoMemory a b → b.client.fault ≡ None → a.client.fault ≡ None
-stops-fault consumer a b (inl same) none = sym (ap (λ (p : Play). p.client.fault) same) ∙ none
-stops-fault consumer a b (inr stops) none = stops.goes_on
+module _ (Refused : ReadError → Type 0) where
+  stops-fault : (consumer : ConsumerEntry) (a b : Play) → (b ≡ a) ⊎ FindsNoMemory Refused a b → b.client.fault ≡ None → a.client.fault ≡ None
+  stops-fault consumer a b (inl same) none = sym (ap (λ (p : Play). p.client.fault) same) ∙ none
+  stops-fault consumer a b (inr stops) none = stops.goes_on
 
-pub serves-fault : (consumer : ConsumerEntry) (most n : ℕ) (a b : Play) → Serves consumer most n a b → b.client.fault ≡ None → a.client.fault ≡ None
-serves-fault consumer most n a b h none = sends-fault consumer n a h.sent h.sends (stops-fault consumer h.sent b h.stops none)
+  pub serves-fault : (consumer : ConsumerEntry) (most n : ℕ) (a b : Play) → Serves Refused consumer most n a b → b.client.fault ≡ None → a.client.fault ≡ None
+  serves-fault consumer most n a b h none = sends-fault consumer n a h.sent h.sends (stops-fault consumer h.sent b h.stops none)
 
-serves_each-fault : (consumers : List ConsumerEntry) (most n : ℕ) (a b : Play) → ServesEach consumers most n a b → b.client.fault ≡ None → a.client.fault ≡ None
-serves_each-fault [] most n a b h none = sym (ap (λ (p : Play). p.client.fault) h.1) ∙ none
-serves_each-fault (c ∷ cs) most n a b h none = serves-fault c most h.0 a h.2 h.3 (serves_each-fault cs (most - h.0) h.1 h.2 b h.4 none)
+  pub serves_each-fault : (consumers : List ConsumerEntry) (most n : ℕ) (a b : Play) → ServesEach Refused consumers most n a b → b.client.fault ≡ None → a.client.fault ≡ None
+  serves_each-fault [] most n a b h none = sym (ap (λ (p : Play). p.client.fault) h.1) ∙ none
+  serves_each-fault (c ∷ cs) most n a b h none = serves-fault c most h.0 a h.2 h.3 (serves_each-fault cs (most - h.0) h.1 h.2 b h.4 none)
 
-serves_all-fault : (consumers : List ConsumerEntry) (most : ℕ) (result : Result ℕ PumpFault) (a b : Play) → ServesAll consumers most result a b → b.client.fault ≡ None → a.client.fault ≡ None
-serves_all-fault consumers most (Ok n) a b h none = serves_each-fault consumers most n a b h none
-serves_all-fault consumers most (Err why) a b h none =
-    serves_each-fault h.before most h.count a h.between h.served (sends-fault h.consumer h.until.count h.between b h.until.sends none)
+  serves_all-fault : (consumers : List ConsumerEntry) (most : ℕ) (result : Result ℕ PumpFault) (a b : Play) → ServesAll Refused consumers most result a b → b.client.fault ≡ None → a.client.fault ≡ None
+  serves_all-fault consumers most (Ok n) a b h none = serves_each-fault consumers most n a b h none
+  serves_all-fault consumers most (Err why) a b h none =
+      serves_each-fault h.before most h.count a h.between h.served (sends-fault h.consumer h.until.count h.between b h.until.sends none)
 
-pub serves_if-fault : (goes_on : Bool) (result : Result ℕ PumpFault) (a b : Play) → ServesIf goes_on result a b → b.client.fault ≡ None → a.client.fault ≡ None
-serves_if-fault true result a b h none = serves_all-fault a.client.consumers 64 result a b h none
-serves_if-fault false result a b h none = sym (ap (λ (p : Play). p.client.fault) h.1) ∙ none
+  pub serves_if-fault : (goes_on : Bool) (result : Result ℕ PumpFault) (a b : Play) → ServesIf Refused goes_on result a b → b.client.fault ≡ None → a.client.fault ≡ None
+  serves_if-fault true result a b h none = serves_all-fault a.client.consumers 64 result a b h none
+  serves_if-fault false result a b h none = sym (ap (λ (p : Play). p.client.fault) h.1) ∙ none
 
 -- a message leaves what is due
 dispatch-due : (b c : Broker) (number who id : ℕ) (message : Outgoing) → DispatchAt b number who id (Ok (Some message)) c → (topic other : ℕ) → due_at c topic other ≡ due_at b topic other
@@ -118,30 +120,32 @@ sends-due : (consumer : ConsumerEntry) (n : ℕ) (a b : Play) → Sends consumer
 sends-due consumer zero a b h none = subst HasNothingDue (sym h) none
 sends-due consumer (suc n) a b h none = sends_one-due consumer h.0 b h.2 (sends-due consumer n a h.0 h.1 none)
 
-stops-due : (a b : Play) → (b ≡ a) ⊎ FindsNoMemory a b → HasNothingDue a → HasNothingDue b
-stops-due a b (inl same) none = subst HasNothingDue (sym same) none
-stops-due a b (inr stops) none = subst HasNothingDue (sym stops.ends) none
+module _ (Refused : ReadError → Type 0) where
+  stops-due : (a b : Play) → (b ≡ a) ⊎ FindsNoMemory Refused a b → HasNothingDue a → HasNothingDue b
+  stops-due a b (inl same) none = subst HasNothingDue (sym same) none
+  stops-due a b (inr stops) none = subst HasNothingDue (sym stops.ends) none
 
-serves_each-due : (consumers : List ConsumerEntry) (most n : ℕ) (a b : Play) → ServesEach consumers most n a b → HasNothingDue a → HasNothingDue b
-serves_each-due [] most n a b h none = subst HasNothingDue (sym h.1) none
-serves_each-due (c ∷ cs) most n a b h none =
-    serves_each-due cs (most - h.0) h.1 h.2 b h.4 (stops-due h.3.sent h.2 h.3.stops (sends-due c h.0 a h.3.sent h.3.sends none))
+  serves_each-due : (consumers : List ConsumerEntry) (most n : ℕ) (a b : Play) → ServesEach Refused consumers most n a b → HasNothingDue a → HasNothingDue b
+  serves_each-due [] most n a b h none = subst HasNothingDue (sym h.1) none
+  serves_each-due (c ∷ cs) most n a b h none =
+      serves_each-due cs (most - h.0) h.1 h.2 b h.4 (stops-due h.3.sent h.2 h.3.stops (sends-due c h.0 a h.3.sent h.3.sends none))
 
-serves_all-due : (consumers : List ConsumerEntry) (most : ℕ) (result : Result ℕ PumpFault) (a b : Play) → ServesAll consumers most result a b → HasNothingDue a → HasNothingDue b
-serves_all-due consumers most (Ok n) a b h none = serves_each-due consumers most n a b h none
-serves_all-due consumers most (Err why) a b h none =
-    sends-due h.consumer h.until.count h.between b h.until.sends (serves_each-due h.before most h.count a h.between h.served none)
+  serves_all-due : (consumers : List ConsumerEntry) (most : ℕ) (result : Result ℕ PumpFault) (a b : Play) → ServesAll Refused consumers most result a b → HasNothingDue a → HasNothingDue b
+  serves_all-due consumers most (Ok n) a b h none = serves_each-due consumers most n a b h none
+  serves_all-due consumers most (Err why) a b h none =
+      sends-due h.consumer h.until.count h.between b h.until.sends (serves_each-due h.before most h.count a h.between h.served none)
 
-pub serves_if-due : (goes_on : Bool) (result : Result ℕ PumpFault) (a b : Play) → ServesIf goes_on result a b → HasNothingDue a → HasNothingDue b
-serves_if-due true result a b h none = serves_all-due a.client.consumers 64 result a b h none
-serves_if-due false result a b h none = subst HasNothingDue (sym h.1) none
+  pub serves_if-due : (goes_on : Bool) (result : Result ℕ PumpFault) (a b : Play) → ServesIf Refused goes_on result a b → HasNothingDue a → HasNothingDue b
+  serves_if-due true result a b h none = serves_all-due a.client.consumers 64 result a b h none
+  serves_if-due false result a b h none = subst HasNothingDue (sym h.1) none
 
--- one consumer more is served
-pub serves_each-push : (consumers : List ConsumerEntry) (most n k : ℕ) (a m b : Play) (consumer : ConsumerEntry) → ServesEach consumers most n a m → Serves consumer (most - n) k m b → ServesEach (consumers ++ consumer ∷ []) most (n + k) a b
-serves_each-push [] most n k a m b consumer h s =
-    let P : Play → Type 0 = λ p. Serves consumer (most - n) k p b in
-    let Q : ℕ → Type 0 = λ i. Serves consumer i k a b in
-    (k, 0, b, subst Q (omega (arith, h.0)) (subst P h.1 s), (refl, refl), omega (arith, h.0))
-serves_each-push (c ∷ cs) most n k a m b consumer h s =
-    let Q : ℕ → Type 0 = λ i. Serves consumer i k m b in
-    (h.0, h.1 + k, h.2, h.3, serves_each-push cs (most - h.0) h.1 k h.2 m b consumer h.4 (subst Q (omega (arith, h.5)) s), omega (arith, h.5))
+module _ (Refused : ReadError → Type 0) where
+  -- one consumer more is served
+  pub serves_each-push : (consumers : List ConsumerEntry) (most n k : ℕ) (a m b : Play) (consumer : ConsumerEntry) → ServesEach Refused consumers most n a m → Serves Refused consumer (most - n) k m b → ServesEach Refused (consumers ++ consumer ∷ []) most (n + k) a b
+  serves_each-push [] most n k a m b consumer h s =
+      let P : Play → Type 0 = λ p. Serves Refused consumer (most - n) k p b in
+      let Q : ℕ → Type 0 = λ i. Serves Refused consumer i k a b in
+      (k, 0, b, subst Q (omega (arith, h.0)) (subst P h.1 s), (refl, refl), omega (arith, h.0))
+  serves_each-push (c ∷ cs) most n k a m b consumer h s =
+      let Q : ℕ → Type 0 = λ i. Serves Refused consumer i k m b in
+      (h.0, h.1 + k, h.2, h.3, serves_each-push cs (most - h.0) h.1 k h.2 m b consumer h.4 (subst Q (omega (arith, h.5)) s), omega (arith, h.5))

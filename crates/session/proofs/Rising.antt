@@ -29,6 +29,7 @@ use Rattle.session.specs.declared.fault.Fault.{Fault}
 use Rattle.session.specs.declared.port.Found.{Found}
 use Rattle.session.specs.declared.port.Found.TheVariants as found
 use Rattle.session.specs.declared.pumping.More.{More}
+use Rattle.gated_log.specs.declared.read_error.ReadError.{ReadError}
 use Rattle.session.specs.declared.pumping.PumpFault.{PumpFault}
 use Rattle.session.specs.Client.{Client, Play, plain, Ends, Says, SaysAlone, Answered}
 use Rattle.session.specs.Producing as producing
@@ -257,27 +258,28 @@ sends_messages : (consumer : ConsumerEntry) (count : ℕ) (old new : Play) → S
 sends_messages consumer zero old new h = still old new h
 sends_messages consumer (suc count) old new h = said h.0.client h.0.out h.2.message new.client new.out h.2.says ∙ sends_messages consumer count old h.0 h.1
 
-stops : (old new : Play) → (new ≡ old) ⊎ FindsNoMemory old new → Keeps old new
-stops old new (inl h) = still old new h
-stops old new (inr h) = ends old new _ h.ends
+module _ (Refused : ReadError → Type 0) where
+  stops : (old new : Play) → (new ≡ old) ⊎ FindsNoMemory Refused old new → Keeps old new
+  stops old new (inl h) = still old new h
+  stops old new (inr h) = ends old new _ h.ends
 
-serves_each : (consumers : List ConsumerEntry) (most count : ℕ) (old new : Play) → ServesEach consumers most count old new → Keeps old new
-serves_each [] most count old new h = still old new h.1
-serves_each (c ∷ cs) most count old new h =
-    serves_each cs (most - h.0) h.1 h.2 new h.4 ∙ stops h.3.sent h.2 h.3.stops ∙ sends_messages c h.0 old h.3.sent h.3.sends
+  pub serves_each : (consumers : List ConsumerEntry) (most count : ℕ) (old new : Play) → ServesEach Refused consumers most count old new → Keeps old new
+  serves_each [] most count old new h = still old new h.1
+  serves_each (c ∷ cs) most count old new h =
+      serves_each cs (most - h.0) h.1 h.2 new h.4 ∙ stops h.3.sent h.2 h.3.stops ∙ sends_messages c h.0 old h.3.sent h.3.sends
 
-serves_all : (consumers : List ConsumerEntry) (most : ℕ) (result : Result ℕ PumpFault) (old new : Play) → ServesAll consumers most result old new → Keeps old new
-serves_all consumers most (Ok count) old new h = serves_each consumers most count old new h
-serves_all consumers most (Err why) old new h = sends_messages h.consumer h.until.count h.between new h.until.sends ∙ serves_each h.before most h.count old h.between h.served
+  serves_all : (consumers : List ConsumerEntry) (most : ℕ) (result : Result ℕ PumpFault) (old new : Play) → ServesAll Refused consumers most result old new → Keeps old new
+  serves_all consumers most (Ok count) old new h = serves_each consumers most count old new h
+  serves_all consumers most (Err why) old new h = sends_messages h.consumer h.until.count h.between new h.until.sends ∙ serves_each h.before most h.count old h.between h.served
 
-serves_if : (goes_on : Bool) (result : Result ℕ PumpFault) (old new : Play) → ServesIf goes_on result old new → Keeps old new
-serves_if true result old new h = serves_all old.client.consumers 64 result old new h
-serves_if false result old new h = still old new h.1
+  serves_if : (goes_on : Bool) (result : Result ℕ PumpFault) (old new : Play) → ServesIf Refused goes_on result old new → Keeps old new
+  serves_if true result old new h = serves_all old.client.consumers 64 result old new h
+  serves_if false result old new h = still old new h.1
 
-pump_keeps : (fault : Option Fault) (old : Play) (result : Result More PumpFault) (new : Play) → PumpIn fault old result new → Keeps old new
-pump_keeps None old result new h =
-    ap (λ (p : Play). p.client.consumers) h.ends ∙ serves_if _ h.messages h.collected h.served h.serves ∙ collects h.replies old h.collected h.collects
-pump_keeps (Some why) old result new h = still old new h.1
+  pump_keeps : (fault : Option Fault) (old : Play) (result : Result More PumpFault) (new : Play) → PumpIn Refused fault old result new → Keeps old new
+  pump_keeps None old result new h =
+      ap (λ (p : Play). p.client.consumers) h.ends ∙ serves_if _ h.messages h.collected h.served h.serves ∙ collects h.replies old h.collected h.collects
+  pump_keeps (Some why) old result new h = still old new h.1
 
-pub pumps_rise : (old : Play) (result : Result More PumpFault) (new : Play) → PumpStep old result new → Rises old new
-pumps_rise old result new h = rises old new (pump_keeps old.client.fault old result new h)
+  pub pumps_rise : (old : Play) (result : Result More PumpFault) (new : Play) → PumpStep Refused old result new → Rises old new
+  pumps_rise old result new h = rises old new (pump_keeps old.client.fault old result new h)

@@ -1,85 +1,175 @@
 -- How serving one consumer ends.
-use Rattle.std.proofs.Common.{◌≡◌, inl, inr, ◌<◌, ◌≤◌, ℕ, suc, ◌+◌, ◌-◌, List, [], ◌∷◌, ◌++◌, length, take, drop, get_or, refl, sym, ap, ◌∙◌, subst, Some, None, arith}
+use Rattle.std.proofs.Common.{◌≡◌, inl, inr, ◌<◌, ◌≤◌, ℕ, suc, ◌+◌, ◌-◌, List, [], ◌∷◌, ◌++◌, length, take, drop, get_or, refl, sym, ap, ◌∙◌, subst, ◌⊎◌, Bool, true, false, Option, Some, None, Result, Ok, Err, arith}
+use Rattle.std.specs.Prelude.{nat_lt}
 use Rattle.std.proofs.Math.Seq.{take-suc, drop-cons}
 use Rattle.std.proofs.lemmas.List.{take-append-drop}
 use Rattle.session.specs.declared.fault.Fault.{Fault}
+use Rattle.gated_log.specs.declared.read_error.ReadError.{ReadError}
+use Rattle.gated_log.specs.declared.read_error.ReadError.TheVariants as read
 use Rattle.session.specs.declared.consumer_entry.ConsumerEntry.{ConsumerEntry}
-use Rattle.session.specs.Client.{Play}
-use Rattle.session.specs.Pumping.{AdmitsNothing, Sends, SendsNothing, Serves, ServesEach, ServesUntil, ServesEachUntil}
+use Rattle.session.specs.Broker.{Broker}
+use Rattle.session.specs.Client.{Client, Play, play, left_if}
+use Rattle.session.specs.Pumping.{Collects, HasNothingDue, pump_result, AdmitsNothing, Sends, IsTold, FindsNoMemory, SendsNothing, Serves, ServesEach, ServesUntil, ServesEachUntil, ServesAll, ServesIf, PumpIn, PumpStep}
 use Rattle.session.specs.declared.pumping.PumpFault.{PumpFault}
-use Rattle.session.specs.declared.pumping.PumpFault.TheVariants.{Device}
+use Rattle.session.specs.declared.pumping.PumpFault.TheVariants.{Ended, Device, Damaged}
+use Rattle.session.specs.declared.pumping.More.{More}
 use Rattle.session.proofs.Absent.{admits-absent}
 use Rattle.session.proofs.Plays.{serves_each-push}
 
-not_none : (why : Fault) → Some why ≡ None → ⊥
+-- what is told of some refusals is so of more
+module _ (R S : ReadError → Type 0) (more : (why : ReadError) → R why → S why) where
+  pub is_told-more : (why : PumpFault) → IsTold R why → IsTold S why
+  is_told-more (Ended why) h = tt
+  is_told-more Device h = more read.Device h
+  is_told-more (Damaged file offset) h = more (read.Damaged file offset) h
+
+  finds_no_memory-more : (a b : Play) → FindsNoMemory R a b → FindsNoMemory S a b
+  finds_no_memory-more a b h = record { goes_on = h.goes_on; refused = more read.NoMemory h.refused; ends = h.ends }
+
+  pub sends_nothing-more : (consumer : ConsumerEntry) (a b : Play) → SendsNothing R consumer a b → SendsNothing S consumer a b
+  sends_nothing-more consumer a b (inl nothing) = inl nothing
+  sends_nothing-more consumer a b (inr finds) = inr (finds_no_memory-more a b finds)
+
+  stops-more : (a b : Play) → (b ≡ a) ⊎ FindsNoMemory R a b → (b ≡ a) ⊎ FindsNoMemory S a b
+  stops-more a b (inl same) = inl same
+  stops-more a b (inr finds) = inr (finds_no_memory-more a b finds)
+
+  pub serves-more : (consumer : ConsumerEntry) (most n : ℕ) (a b : Play) → Serves R consumer most n a b → Serves S consumer most n a b
+  serves-more consumer most n a b h = record { sent = h.sent; sends = h.sends; within = h.within; stops = stops-more h.sent b h.stops; all = h.all }
+
+  pub serves_each-more : (consumers : List ConsumerEntry) (most n : ℕ) (a b : Play) → ServesEach R consumers most n a b → ServesEach S consumers most n a b
+  serves_each-more [] most n a b h = h
+  serves_each-more (c ∷ cs) most n a b h = (h.0, h.1, h.2, serves-more c most h.0 a h.2 h.3, serves_each-more cs (most - h.0) h.1 h.2 b h.4, h.5)
+
+  pub serves_until-more : (consumer : ConsumerEntry) (most : ℕ) (why : PumpFault) (a b : Play) → ServesUntil R consumer most why a b → ServesUntil S consumer most why a b
+  serves_until-more consumer most why a b h = record { count = h.count; sends = h.sends; within = h.within; goes_on = h.goes_on; device = h.device; refused = more read.Device h.refused }
+
+  serves_all-more : (consumers : List ConsumerEntry) (most : ℕ) (result : Result ℕ PumpFault) (a b : Play) → ServesAll R consumers most result a b → ServesAll S consumers most result a b
+  serves_all-more consumers most (Ok n) a b h = serves_each-more consumers most n a b h
+  serves_all-more consumers most (Err why) a b h = record {
+    before = h.before;
+    consumer = h.consumer;
+    behind = h.behind;
+    are = h.are;
+    count = h.count;
+    between = h.between;
+    served = serves_each-more h.before most h.count a h.between h.served;
+    until = serves_until-more h.consumer (most - h.count) why h.between b h.until;
+  }
+
+  pub serves_if-more : (goes_on : Bool) (result : Result ℕ PumpFault) (a b : Play) → ServesIf R goes_on result a b → ServesIf S goes_on result a b
+  serves_if-more true result a b h = serves_all-more a.client.consumers 64 result a b h
+  serves_if-more false result a b h = h
+
+  pump_in-more : (fault : Option Fault) (a : Play) (result : Result More PumpFault) (b : Play) → PumpIn R fault a result b → PumpIn S fault a result b
+  pump_in-more None a result b h = record {
+    replies = h.replies;
+    collected = h.collected;
+    collects = h.collects;
+    most = h.most;
+    all = h.all;
+    messages = h.messages;
+    served = h.served;
+    serves = serves_if-more (nat_lt h.replies 65536) h.messages h.collected h.served h.serves;
+    ends = h.ends;
+    result_is = h.result_is;
+  }
+  pump_in-more (Some why) a result b h = h
+
+  pub pump_step-more : (a : Play) (result : Result More PumpFault) (b : Play) → PumpStep R a result b → PumpStep S a result b
+  pump_step-more a result b h = pump_in-more a.client.fault a result b h
+
+  -- a pump of a session that has no fault, from its parts
+  pub pump_made : (v : Client) (b b' : Broker) (out : List ℕ) (replies : ℕ) (collected : Play) (messages : Result ℕ PumpFault) (served : Play) (result : Result More PumpFault) →
+      v.fault ≡ None → Collects replies (play v b out) collected → replies ≤ 65536 → (collected.client.fault ≡ None → replies < 65536 → HasNothingDue collected) →
+      ServesIf R (nat_lt replies 65536) messages collected served → b' ≡ left_if served.client.fault served.broker served.client.number → result ≡ pump_result served.client.fault replies messages →
+      PumpStep S (play v b out) result (record served { broker = b' })
+  pump_made v b b' out replies collected messages served result none collects most all serves left is =
+      let P : Option Fault → Type 0 = λ f. PumpIn S f (play v b out) result (record served { broker = b' }) in
+      subst P (sym none) (record {
+        replies = replies;
+        collected = collected;
+        collects = collects;
+        most = most;
+        all = all;
+        messages = messages;
+        served = served;
+        serves = serves_if-more (nat_lt replies 65536) messages collected served serves;
+        ends = ap (λ (x : Broker). let p : Play = record served { broker = x } in p) left;
+        result_is = is;
+      })
+
+pub not_none : (why : Fault) → Some why ≡ None → ⊥
 not_none why is = cc
 
--- by a topic that isn't there
-pub serves-absent : (consumer : ConsumerEntry) (most : ℕ) (p : Play) → length p.broker.topics ≤ consumer.topic → Serves consumer most 0 p p
-serves-absent consumer most p h = record {
-  sent = p;
-  sends = refl;
-  within = omega arith;
-  stops = inl refl;
-  all = λ none few i a. admits-absent p.broker consumer.topic _ i h a;
-}
+module _ (Refused : ReadError → Type 0) where
+  -- by a topic that isn't there
+  pub serves-absent : (consumer : ConsumerEntry) (most : ℕ) (p : Play) → length p.broker.topics ≤ consumer.topic → Serves Refused consumer most 0 p p
+  serves-absent consumer most p h = record {
+    sent = p;
+    sends = refl;
+    within = omega arith;
+    stops = inl refl;
+    all = λ none few i a. admits-absent p.broker consumer.topic _ i h a;
+  }
 
--- without a message more
-pub serves-stopped : (consumer : ConsumerEntry) (most n : ℕ) (a m b : Play) → n ≤ most → Sends consumer n a m → SendsNothing consumer m b → Serves consumer most n a b
-serves-stopped consumer most n a m b within sends (inl nothing) = record {
-  sent = m;
-  sends = sends;
-  within = within;
-  stops = inl nothing.1;
-  all = λ none few. subst (AdmitsNothing consumer) (sym nothing.1) nothing.0;
-}
-serves-stopped consumer most n a m b within sends (inr stops) = record {
-  sent = m;
-  sends = sends;
-  within = within;
-  stops = inr stops;
-  all = λ none few. absurd (not_none _ (sym (ap (λ (p : Play). p.client.fault) stops.ends) ∙ none));
-}
+  -- without a message more
+  pub serves-stopped : (consumer : ConsumerEntry) (most n : ℕ) (a m b : Play) → n ≤ most → Sends consumer n a m → SendsNothing Refused consumer m b → Serves Refused consumer most n a b
+  serves-stopped consumer most n a m b within sends (inl nothing) = record {
+    sent = m;
+    sends = sends;
+    within = within;
+    stops = inl nothing.1;
+    all = λ none few. subst (AdmitsNothing consumer) (sym nothing.1) nothing.0;
+  }
+  serves-stopped consumer most n a m b within sends (inr stops) = record {
+    sent = m;
+    sends = sends;
+    within = within;
+    stops = inr stops;
+    all = λ none few. absurd (not_none _ (sym (ap (λ (p : Play). p.client.fault) stops.ends) ∙ none));
+  }
 
--- at its bound, or with the session
-pub serves-bound : (consumer : ConsumerEntry) (most n : ℕ) (a b : Play) → n ≤ most → Sends consumer n a b → (b.client.fault ≡ None → n < most → ⊥) → Serves consumer most n a b
-serves-bound consumer most n a b within sends ends = record {
-  sent = b;
-  sends = sends;
-  within = within;
-  stops = inl refl;
-  all = λ none few. absurd (ends none few);
-}
+  -- at its bound, or with the session
+  pub serves-bound : (consumer : ConsumerEntry) (most n : ℕ) (a b : Play) → n ≤ most → Sends consumer n a b → (b.client.fault ≡ None → n < most → ⊥) → Serves Refused consumer most n a b
+  serves-bound consumer most n a b within sends ends = record {
+    sent = b;
+    sends = sends;
+    within = within;
+    stops = inl refl;
+    all = λ none few. absurd (ends none few);
+  }
 
--- until the device fails
-pub serves-refused : (consumer : ConsumerEntry) (most n : ℕ) (why : PumpFault) (a m b : Play) → n < most → Sends consumer n a m → m.client.fault ≡ None → (why ≡ Device) × (b ≡ m) → ServesUntil consumer most why a b
-serves-refused consumer most n why a m b within sends none stops = record {
-  count = n;
-  sends = subst (Sends consumer n a) (sym stops.1) sends;
-  within = within;
-  goes_on = ap (λ (p : Play). p.client.fault) stops.1 ∙ none;
-  device = stops.0;
-}
+  -- until the device fails
+  pub serves-refused : (consumer : ConsumerEntry) (most n : ℕ) (why : PumpFault) (a m b : Play) → n < most → Sends consumer n a m → m.client.fault ≡ None → (why ≡ Device) × (b ≡ m) → IsTold Refused why → ServesUntil Refused consumer most why a b
+  serves-refused consumer most n why a m b within sends none stops told = record {
+    count = n;
+    sends = subst (Sends consumer n a) (sym stops.1) sends;
+    within = within;
+    goes_on = ap (λ (p : Play). p.client.fault) stops.1 ∙ none;
+    device = stops.0;
+    refused = subst (IsTold Refused) stops.0 told;
+  }
 
--- the consumer at the next place is served
-pub serves_each-next : (consumers : List ConsumerEntry) (place most n k : ℕ) (a m b : Play) (consumer other : ConsumerEntry) → place < length consumers → consumer ≡ get_or consumers place other →
-    ServesEach (take place consumers) most n a m → Serves consumer (most - n) k m b → ServesEach (take (suc place) consumers) most (n + k) a b
-serves_each-next consumers place most n k a m b consumer other within is h s =
-    let P : List ConsumerEntry → Type 0 = λ xs. ServesEach xs most (n + k) a b in
-    subst P (ap (λ (x : ConsumerEntry). take place consumers ++ x ∷ []) is ∙ sym (take-suc consumers place other within)) (serves_each-push (take place consumers) most n k a m b consumer h s)
+  -- the consumer at the next place is served
+  pub serves_each-next : (consumers : List ConsumerEntry) (place most n k : ℕ) (a m b : Play) (consumer other : ConsumerEntry) → place < length consumers → consumer ≡ get_or consumers place other →
+      ServesEach Refused (take place consumers) most n a m → Serves Refused consumer (most - n) k m b → ServesEach Refused (take (suc place) consumers) most (n + k) a b
+  serves_each-next consumers place most n k a m b consumer other within is h s =
+      let P : List ConsumerEntry → Type 0 = λ xs. ServesEach Refused xs most (n + k) a b in
+      subst P (ap (λ (x : ConsumerEntry). take place consumers ++ x ∷ []) is ∙ sym (take-suc consumers place other within)) (serves_each-push Refused (take place consumers) most n k a m b consumer h s)
 
--- until the device fails for the consumer at the next place
-pub serves_each-refused : (consumers : List ConsumerEntry) (place most n : ℕ) (why : PumpFault) (a m b : Play) (consumer other : ConsumerEntry) → place < length consumers → consumer ≡ get_or consumers place other →
-    ServesEach (take place consumers) most n a m → ServesUntil consumer (most - n) why m b → ServesEachUntil consumers most why a b
-serves_each-refused consumers place most n why a m b consumer other within is h s = record {
-  before = take place consumers;
-  consumer = consumer;
-  behind = drop (suc place) consumers;
-  are = sym (take-append-drop place consumers)
-      ∙ ap (λ (xs : List ConsumerEntry). take place consumers ++ xs) (drop-cons consumers place other within)
-      ∙ ap (λ (x : ConsumerEntry). take place consumers ++ x ∷ drop (suc place) consumers) (sym is);
-  count = n;
-  between = m;
-  served = h;
-  until = s;
-}
+  -- until the device fails for the consumer at the next place
+  pub serves_each-refused : (consumers : List ConsumerEntry) (place most n : ℕ) (why : PumpFault) (a m b : Play) (consumer other : ConsumerEntry) → place < length consumers → consumer ≡ get_or consumers place other →
+      ServesEach Refused (take place consumers) most n a m → ServesUntil Refused consumer (most - n) why m b → ServesEachUntil Refused consumers most why a b
+  serves_each-refused consumers place most n why a m b consumer other within is h s = record {
+    before = take place consumers;
+    consumer = consumer;
+    behind = drop (suc place) consumers;
+    are = sym (take-append-drop place consumers)
+        ∙ ap (λ (xs : List ConsumerEntry). take place consumers ++ xs) (drop-cons consumers place other within)
+        ∙ ap (λ (x : ConsumerEntry). take place consumers ++ x ∷ drop (suc place) consumers) (sym is);
+    count = n;
+    between = m;
+    served = h;
+    until = s;
+  }

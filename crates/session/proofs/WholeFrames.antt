@@ -18,6 +18,7 @@ use Rattle.frames.specs.declared.frame.FrameEntry.{FrameEntry}
 use Rattle.topic_core.specs.declared.command.SentEntry.{SentEntry}
 use Rattle.session.specs.declared.fault.Fault.{Fault}
 use Rattle.session.specs.declared.port.Found.{Found}
+use Rattle.gated_log.specs.declared.read_error.ReadError.{ReadError}
 use Rattle.session.specs.declared.port.Found.TheVariants.{Topic, TooMany, NoMemory}
 use Rattle.session.specs.declared.pumping.More.{More}
 use Rattle.session.specs.declared.pumping.PumpFault.{PumpFault}
@@ -153,30 +154,31 @@ sends_write consumer zero old new h = writes_same old new (ap (λ (p : Play). p.
 sends_write consumer (suc count) old new h =
     writes_both old.out h.0.out new.out (sends_write consumer count old h.0 h.1) ((speaks_says h.0.client new.client h.0.out new.out h.2.message h.2.says).writes)
 
-pub serves_writes : (consumer : ConsumerEntry) (most count : ℕ) (old new : Play) → Serves consumer most count old new → Writes old.out new.out
-serves_writes consumer most count old new h =
-    writes_both old.out h.sent.out new.out (sends_write consumer count old h.sent h.sends)
-    (⊎_elim (λ same. writes_same h.sent new (ap (λ (p : Play). p.out) same)) (λ stops. ends_writes h.sent new _ stops.ends) h.stops)
+module _ (Refused : ReadError → Type 0) where
+  pub serves_writes : (consumer : ConsumerEntry) (most count : ℕ) (old new : Play) → Serves Refused consumer most count old new → Writes old.out new.out
+  serves_writes consumer most count old new h =
+      writes_both old.out h.sent.out new.out (sends_write consumer count old h.sent h.sends)
+      (⊎_elim (λ same. writes_same h.sent new (ap (λ (p : Play). p.out) same)) (λ stops. ends_writes h.sent new _ stops.ends) h.stops)
 
-pub serves_each_writes : (consumers : List ConsumerEntry) (most count : ℕ) (old new : Play) → ServesEach consumers most count old new → Writes old.out new.out
-serves_each_writes [] most count old new h = writes_same old new (ap (λ (p : Play). p.out) h.1)
-serves_each_writes (consumer ∷ consumers) most count old new h =
-    writes_both old.out h.2.out new.out (serves_writes consumer most h.0 old h.2 h.3) (serves_each_writes consumers (most - h.0) h.1 h.2 new h.4)
+  pub serves_each_writes : (consumers : List ConsumerEntry) (most count : ℕ) (old new : Play) → ServesEach Refused consumers most count old new → Writes old.out new.out
+  serves_each_writes [] most count old new h = writes_same old new (ap (λ (p : Play). p.out) h.1)
+  serves_each_writes (consumer ∷ consumers) most count old new h =
+      writes_both old.out h.2.out new.out (serves_writes consumer most h.0 old h.2 h.3) (serves_each_writes consumers (most - h.0) h.1 h.2 new h.4)
 
-pub serves_all_writes : (consumers : List ConsumerEntry) (most : ℕ) (result : Result ℕ PumpFault) (old new : Play) → ServesAll consumers most result old new → Writes old.out new.out
-serves_all_writes consumers most (Ok count) old new h = serves_each_writes consumers most count old new h
-serves_all_writes consumers most (Err why) old new h =
-    writes_both old.out h.between.out new.out (serves_each_writes h.before most h.count old h.between h.served) (sends_write h.consumer h.until.count h.between new h.until.sends)
+  pub serves_all_writes : (consumers : List ConsumerEntry) (most : ℕ) (result : Result ℕ PumpFault) (old new : Play) → ServesAll Refused consumers most result old new → Writes old.out new.out
+  serves_all_writes consumers most (Ok count) old new h = serves_each_writes consumers most count old new h
+  serves_all_writes consumers most (Err why) old new h =
+      writes_both old.out h.between.out new.out (serves_each_writes h.before most h.count old h.between h.served) (sends_write h.consumer h.until.count h.between new h.until.sends)
 
-pub serves_if_writes : (goes_on : Bool) (result : Result ℕ PumpFault) (old new : Play) → ServesIf goes_on result old new → Writes old.out new.out
-serves_if_writes true result old new h = serves_all_writes old.client.consumers 64 result old new h
-serves_if_writes false result old new h = writes_same old new (ap (λ (p : Play). p.out) h.1)
+  pub serves_if_writes : (goes_on : Bool) (result : Result ℕ PumpFault) (old new : Play) → ServesIf Refused goes_on result old new → Writes old.out new.out
+  serves_if_writes true result old new h = serves_all_writes old.client.consumers 64 result old new h
+  serves_if_writes false result old new h = writes_same old new (ap (λ (p : Play). p.out) h.1)
 
-pub pump_writes : (fault : Option Fault) (old : Play) (result : Result More PumpFault) (new : Play) → PumpIn fault old result new → Writes old.out new.out
-pump_writes None old result new h =
-    writes_both old.out h.collected.out new.out (collects_writes h.replies old h.collected h.collects)
-    (writes_both h.collected.out h.served.out new.out (serves_if_writes _ h.messages h.collected h.served h.serves) (writes_same h.served new (ap (λ (p : Play). p.out) h.ends)))
-pump_writes (Some why) old result new h = writes_same old new (ap (λ (p : Play). p.out) h.1)
+  pub pump_writes : (fault : Option Fault) (old : Play) (result : Result More PumpFault) (new : Play) → PumpIn Refused fault old result new → Writes old.out new.out
+  pump_writes None old result new h =
+      writes_both old.out h.collected.out new.out (collects_writes h.replies old h.collected h.collects)
+      (writes_both h.collected.out h.served.out new.out (serves_if_writes _ h.messages h.collected h.served h.serves) (writes_same h.served new (ap (λ (p : Play). p.out) h.ends)))
+  pump_writes (Some why) old result new h = writes_same old new (ap (λ (p : Play). p.out) h.1)
 
 pub pumps_write_frames : PumpsWriteFrames
-pumps_write_frames old result new h = pump_writes old.client.fault old result new h
+pumps_write_frames old result new h = pump_writes (λ why. Unit {0}) old.client.fault old result new h

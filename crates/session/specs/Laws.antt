@@ -1,12 +1,14 @@
 -- What holds of every step of a session.
-use Rattle.std.specs.Prelude.{◌≡◌, ◌<◌, ℕ, false, None, List, [], ◌∷◌, Result, Ok, Err}
+use Rattle.std.specs.Prelude.{◌≡◌, ◌<◌, ℕ, ◌+◌, false, None, List, [], ◌∷◌, Result, Ok, Err}
 use Rattle.std.specs.List.{AllByRecursion}
-use Rattle.reply_queues.specs.Replies.{pending_to}
-use Rattle.topic_core.specs.Steps.{has_producer, has_consumer}
-use Rattle.session.specs.Broker.{topic_at, due_at}
+use Rattle.commands.specs.declared.reply.Reply.{Reply}
+use Rattle.reply_queues.specs.Replies.{is_receipt, pending_to}
+use Rattle.topic_core.specs.State.{Topic}
+use Rattle.topic_core.specs.Steps.{has_producer, has_consumer, receipts_of}
+use Rattle.session.specs.Broker.{Broker, topic_at, with_topic, due_at, collected_at, left_all}
 use Rattle.session.specs.Client.{Play, new_client, Writes}
 use Rattle.session.specs.Working.{FeedStep}
-use Rattle.session.specs.Pumping.{HasNothingDue, PumpStep}
+use Rattle.session.specs.Pumping.{HasNothingDue, AdmitsNothing, PumpStep}
 use Rattle.session.specs.declared.consumer_entry.ConsumerEntry.{ConsumerEntry}
 use Rattle.session.specs.declared.fault.Fault.{Fault}
 use Rattle.session.specs.declared.pumping.More.{More}
@@ -14,16 +16,24 @@ use Rattle.session.specs.declared.pumping.More.TheVariants.{No}
 use Rattle.session.specs.declared.pumping.PumpFault.{PumpFault}
 use Rattle.session.specs.declared.pumping.PumpFault.TheVariants.{Ended}
 
+-- a pump, whichever messages it is refused
+abbrev pub AnyPump : Play → Result More PumpFault → Play → Type 0
+AnyPump old result new = PumpStep (λ why. Unit {0}) old result new
+
 -- what goes out are frames, each whole
 abbrev pub FeedsWriteFrames : Type 0
 FeedsWriteFrames = (old : Play) (bytes : List ℕ) (result : Result (Unit {0}) Fault) (new : Play) → FeedStep old bytes result new → Writes old.out new.out
 
 abbrev pub PumpsWriteFrames : Type 0
-PumpsWriteFrames = (old : Play) (result : Result More PumpFault) (new : Play) → PumpStep old result new → Writes old.out new.out
+PumpsWriteFrames = (old : Play) (result : Result More PumpFault) (new : Play) → AnyPump old result new → Writes old.out new.out
 
 -- a pump that stopped by itself left nothing due
 abbrev pub PumpsFinish : Type 0
-PumpsFinish = (old new : Play) → PumpStep old (Ok No) new → HasNothingDue new
+PumpsFinish = (old new : Play) → AnyPump old (Ok No) new → HasNothingDue new
+
+-- and no position that a consumer of the session may get
+abbrev pub PumpsServe : Type 0
+PumpsServe = (old new : Play) → AnyPump old (Ok No) new → AllByRecursion (λ consumer. AdmitsNothing consumer new) new.client.consumers
 
 -- the ids of the session's consumers rise
 abbrev pub AreRising : List ConsumerEntry → Type 0
@@ -34,7 +44,7 @@ AreRising (entry ∷ entries) = AllByRecursion (λ other. entry.consumer_id < ot
 pub record ConsumersRise : Type 0 where
   pub start : (number : ℕ) → AreRising (new_client number).consumers
   pub feed : (old : Play) (bytes : List ℕ) (result : Result (Unit {0}) Fault) (new : Play) → FeedStep old bytes result new → AreRising old.client.consumers → AreRising new.client.consumers
-  pub pump : (old : Play) (result : Result More PumpFault) (new : Play) → PumpStep old result new → AreRising old.client.consumers → AreRising new.client.consumers
+  pub pump : (old : Play) (result : Result More PumpFault) (new : Play) → AnyPump old result new → AreRising old.client.consumers → AreRising new.client.consumers
 
 -- no topic has a producer or a consumer of the session, or a reply for it
 pub record HasLeft (p : Play) : Type 0 where
@@ -48,4 +58,15 @@ abbrev pub EndedFeedsLeave : Type 0
 EndedFeedsLeave = (old : Play) (bytes : List ℕ) (why : Fault) (new : Play) → old.client.fault ≡ None → FeedStep old bytes (Err why) new → HasLeft new
 
 abbrev pub EndedPumpsLeave : Type 0
-EndedPumpsLeave = (old : Play) (why : Fault) (new : Play) → old.client.fault ≡ None → PumpStep old (Err (Ended why)) new → HasLeft new
+EndedPumpsLeave = (old : Play) (why : Fault) (new : Play) → old.client.fault ≡ None → AnyPump old (Err (Ended why)) new → HasLeft new
+
+-- a topic whose count of receipts that were handed on has this reply too
+abbrev pub counted : Topic → Reply → Topic
+counted t reply = record t { handed = t.handed + receipts_of reply }
+
+-- A session that leaves absorbs a reply that it took and that found no memory: the count of receipts that were handed on tells of
+-- it, and nothing else does.
+pub record LostRepliesAreAbsorbed : Type 0 where
+  pub counts : (b : Broker) (number who : ℕ) (reply : Reply)
+      → left_all (collected_at b number who reply) who ≡ with_topic (left_all b who) number (counted (topic_at (left_all b who) number) reply)
+  pub others : (b : Broker) (number who : ℕ) (reply : Reply) → is_receipt reply ≡ false → left_all (collected_at b number who reply) who ≡ left_all b who

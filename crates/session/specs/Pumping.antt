@@ -1,6 +1,8 @@
 -- What a session collects, and the messages that it gets.
 use Rattle.std.specs.Prelude.{◌≡◌, ◌⊎◌, ◌<◌, ◌≤◌, ◌-◌, ◌+◌, ◌||◌, ℕ, zero, suc, Bool, true, false, nat_eq, nat_lt, Option, Some, None, List, [], ◌∷◌, ◌++◌, Result, Ok, Err, if◌then◌else◌}
 use Rattle.commands.specs.declared.reply.Reply.{Reply}
+use Rattle.gated_log.specs.declared.read_error.ReadError.{ReadError}
+use Rattle.gated_log.specs.declared.read_error.ReadError.TheVariants as read
 use Rattle.topic_core.specs.declared.dispatch.Outgoing.{Outgoing}
 use Rattle.topic_core.specs.Steps.{key_of}
 use Rattle.topic_core.specs.Dispatch.{Admits}
@@ -56,81 +58,11 @@ Sends consumer (suc count) old new = (between : Play) × Sends consumer count ol
 abbrev pub AdmitsNothing : ConsumerEntry → Play → Type 0
 AdmitsNothing consumer p = (i : ℕ) → Admits (topic_at p.broker consumer.topic) (key_of p.client.number consumer.consumer_id) i → ⊥
 
--- picking a message finds no memory, which ends a session that hasn't ended
-pub record FindsNoMemory (old new : Play) : Type 0 where
-  pub goes_on : old.client.fault ≡ None
-  pub ends : Ends old fault.NoMemory new
-
--- there is no message for the consumer: nothing is admitted, or picking one finds no memory
-abbrev pub SendsNothing : ConsumerEntry → Play → Play → Type 0
-SendsNothing consumer old new = (AdmitsNothing consumer old × (new ≡ old)) ⊎ FindsNoMemory old new
-
--- one consumer gets messages until nothing is admitted, up to a bound, or until the session ends
-pub record Serves (consumer : ConsumerEntry) (most count : ℕ) (old new : Play) : Type 0 where
-  pub sent : Play
-  pub sends : Sends consumer count old sent
-  pub within : count ≤ most
-  pub stops : (new ≡ sent) ⊎ FindsNoMemory sent new
-  pub all : new.client.fault ≡ None → count < most → AdmitsNothing consumer new
-
--- one consumer after another, with so many messages together at most
-abbrev pub ServesEach : List ConsumerEntry → ℕ → ℕ → Play → Play → Type 0
-ServesEach [] most count old new = (count ≡ 0) × (new ≡ old)
-ServesEach (consumer ∷ consumers) most count old new =
-    (first : ℕ) × (rest : ℕ) × (between : Play) × Serves consumer most first old between × ServesEach consumers (most - first) rest between new × (count ≡ first + rest)
-
--- one consumer gets messages until the device fails in reading one, which changes nothing; no file is ever damaged
-pub record ServesUntil (consumer : ConsumerEntry) (most : ℕ) (why : PumpFault) (old new : Play) : Type 0 where
-  pub count : ℕ
-  pub sends : Sends consumer count old new
-  pub within : count < most
-  pub goes_on : new.client.fault ≡ None
-  pub device : why ≡ Device
-
--- one consumer gets so many messages, or messages until the device fails
-abbrev pub ServesOne : ConsumerEntry → ℕ → Result ℕ PumpFault → Play → Play → Type 0
-ServesOne consumer most (Ok count) old new = Serves consumer most count old new
-ServesOne consumer most (Err why) old new = ServesUntil consumer most why old new
-
--- one consumer after another is served, until the device fails for one of them
-pub record ServesEachUntil (consumers : List ConsumerEntry) (most : ℕ) (why : PumpFault) (old new : Play) : Type 0 where
-  pub before : List ConsumerEntry
-  pub consumer : ConsumerEntry
-  pub behind : List ConsumerEntry
-  pub are : consumers ≡ before ++ consumer ∷ behind
-  pub count : ℕ
-  pub between : Play
-  pub served : ServesEach before most count old between
-  pub until : ServesUntil consumer (most - count) why between new
-
-abbrev pub ServesAll : List ConsumerEntry → ℕ → Result ℕ PumpFault → Play → Play → Type 0
-ServesAll consumers most (Ok count) old new = ServesEach consumers most count old new
-ServesAll consumers most (Err why) old new = ServesEachUntil consumers most why old new
-
--- a pump that may go on serves the session's consumers, in rising id
-abbrev pub ServesIf : Bool → Result ℕ PumpFault → Play → Play → Type 0
-ServesIf true result old new = ServesAll old.client.consumers 64 result old new
-ServesIf false result old new = (result ≡ Ok 0) × (new ≡ old)
-
 -- a fault of the session comes first
 abbrev pub pump_result : Option Fault → ℕ → Result ℕ PumpFault → Result More PumpFault
 pump_result None replies (Ok messages) = Ok (if nat_eq replies 65536 || nat_eq messages 64 then Yes else No)
 pump_result None replies (Err why) = Err why
 pump_result (Some why) replies messages = Err (Ended why)
-
--- a pump collects until nothing is due, or its 65,536th reply; in the first case it then sends messages until nothing is
--- admitted, its 64th message, or a failure of the device. It stops where the session ends, which then leaves each topic
-pub record Pumps (old : Play) (result : Result More PumpFault) (new : Play) : Type 0 where
-  pub replies : ℕ
-  pub collected : Play
-  pub collects : Collects replies old collected
-  pub most : replies ≤ 65536
-  pub all : collected.client.fault ≡ None → replies < 65536 → HasNothingDue collected
-  pub messages : Result ℕ PumpFault
-  pub served : Play
-  pub serves : ServesIf (nat_lt replies 65536) messages collected served
-  pub ends : new ≡ left_if_ended served
-  pub result_is : result ≡ pump_result served.client.fault replies messages
 
 -- why a pump ended the session, or found it ended
 abbrev pub ended_by : PumpFault → Option Fault
@@ -142,10 +74,91 @@ abbrev pub pumped_fault : Result More PumpFault → Option Fault
 pumped_fault (Ok more) = None
 pumped_fault (Err why) = ended_by why
 
-abbrev pub PumpIn : Option Fault → Play → Result More PumpFault → Play → Type 0
-PumpIn None old result new = Pumps old result new
-PumpIn (Some why) old result new = (result ≡ Err (Ended why)) × (new ≡ old)
+-- which refusals of a message the broker answered
+module _ (Refused : ReadError → Type 0) where
+  -- a pump that stops for a device that fails, or for damage, was refused a message so
+  abbrev pub IsTold : PumpFault → Type 0
+  IsTold (Ended why) = Unit {0}
+  IsTold Device = Refused read.Device
+  IsTold (Damaged file offset) = Refused (read.Damaged file offset)
 
--- a session that ended collects nothing
-abbrev pub PumpStep : Play → Result More PumpFault → Play → Type 0
-PumpStep old result new = PumpIn old.client.fault old result new
+  -- the broker refuses a message for want of memory, which ends a session that hasn't ended
+  pub record FindsNoMemory (old new : Play) : Type 0 where
+    pub goes_on : old.client.fault ≡ None
+    pub refused : Refused read.NoMemory
+    pub ends : Ends old fault.NoMemory new
+
+  -- there is no message for the consumer: nothing is admitted, or the broker refuses one for want of memory
+  abbrev pub SendsNothing : ConsumerEntry → Play → Play → Type 0
+  SendsNothing consumer old new = (AdmitsNothing consumer old × (new ≡ old)) ⊎ FindsNoMemory old new
+
+  -- one consumer gets messages until nothing is admitted, up to a bound, or until the session ends
+  pub record Serves (consumer : ConsumerEntry) (most count : ℕ) (old new : Play) : Type 0 where
+    pub sent : Play
+    pub sends : Sends consumer count old sent
+    pub within : count ≤ most
+    pub stops : (new ≡ sent) ⊎ FindsNoMemory sent new
+    pub all : new.client.fault ≡ None → count < most → AdmitsNothing consumer new
+
+  -- one consumer after another, with so many messages together at most
+  abbrev pub ServesEach : List ConsumerEntry → ℕ → ℕ → Play → Play → Type 0
+  ServesEach [] most count old new = (count ≡ 0) × (new ≡ old)
+  ServesEach (consumer ∷ consumers) most count old new =
+      (first : ℕ) × (rest : ℕ) × (between : Play) × Serves consumer most first old between × ServesEach consumers (most - first) rest between new × (count ≡ first + rest)
+
+  -- one consumer gets messages until the broker refuses one, since the device failed in reading it; that changes nothing, and no
+  -- file is ever damaged
+  pub record ServesUntil (consumer : ConsumerEntry) (most : ℕ) (why : PumpFault) (old new : Play) : Type 0 where
+    pub count : ℕ
+    pub sends : Sends consumer count old new
+    pub within : count < most
+    pub goes_on : new.client.fault ≡ None
+    pub device : why ≡ Device
+    pub refused : Refused read.Device
+
+  -- one consumer gets so many messages, or messages until the device fails
+  abbrev pub ServesOne : ConsumerEntry → ℕ → Result ℕ PumpFault → Play → Play → Type 0
+  ServesOne consumer most (Ok count) old new = Serves consumer most count old new
+  ServesOne consumer most (Err why) old new = ServesUntil consumer most why old new
+
+  -- one consumer after another is served, until the device fails for one of them
+  pub record ServesEachUntil (consumers : List ConsumerEntry) (most : ℕ) (why : PumpFault) (old new : Play) : Type 0 where
+    pub before : List ConsumerEntry
+    pub consumer : ConsumerEntry
+    pub behind : List ConsumerEntry
+    pub are : consumers ≡ before ++ consumer ∷ behind
+    pub count : ℕ
+    pub between : Play
+    pub served : ServesEach before most count old between
+    pub until : ServesUntil consumer (most - count) why between new
+
+  abbrev pub ServesAll : List ConsumerEntry → ℕ → Result ℕ PumpFault → Play → Play → Type 0
+  ServesAll consumers most (Ok count) old new = ServesEach consumers most count old new
+  ServesAll consumers most (Err why) old new = ServesEachUntil consumers most why old new
+
+  -- a pump that may go on serves the session's consumers, in rising id
+  abbrev pub ServesIf : Bool → Result ℕ PumpFault → Play → Play → Type 0
+  ServesIf true result old new = ServesAll old.client.consumers 64 result old new
+  ServesIf false result old new = (result ≡ Ok 0) × (new ≡ old)
+
+  -- a pump collects until nothing is due, or its 65,536th reply; in the first case it then sends messages until nothing is
+  -- admitted, its 64th message, or a failure of the device. It stops where the session ends, which then leaves each topic
+  pub record Pumps (old : Play) (result : Result More PumpFault) (new : Play) : Type 0 where
+    pub replies : ℕ
+    pub collected : Play
+    pub collects : Collects replies old collected
+    pub most : replies ≤ 65536
+    pub all : collected.client.fault ≡ None → replies < 65536 → HasNothingDue collected
+    pub messages : Result ℕ PumpFault
+    pub served : Play
+    pub serves : ServesIf (nat_lt replies 65536) messages collected served
+    pub ends : new ≡ left_if_ended served
+    pub result_is : result ≡ pump_result served.client.fault replies messages
+
+  abbrev pub PumpIn : Option Fault → Play → Result More PumpFault → Play → Type 0
+  PumpIn None old result new = Pumps old result new
+  PumpIn (Some why) old result new = (result ≡ Err (Ended why)) × (new ≡ old)
+
+  -- a session that ended collects nothing
+  abbrev pub PumpStep : Play → Result More PumpFault → Play → Type 0
+  PumpStep old result new = PumpIn old.client.fault old result new

@@ -1,4 +1,4 @@
-ghost use Rattle.session.specs.Laws.{FeedsWriteFrames, PumpsWriteFrames, PumpsFinish, ConsumersRise, EndedFeedsLeave, EndedPumpsLeave};
+ghost use Rattle.session.specs.Laws.{FeedsWriteFrames, PumpsWriteFrames, PumpsFinish, PumpsServe, ConsumersRise, EndedFeedsLeave, EndedPumpsLeave, LostRepliesAreAbsorbed};
 
 /// What a session appends to its bytes out are frames, each whole.
 pub fn writes_whole_frames()
@@ -11,6 +11,11 @@ pub fn pumps_finish()
     ensures { PumpsFinish }
 {}
 
+/// A pump that stopped by itself left no position that a consumer of its session may get.
+pub fn pumps_serve()
+    ensures { PumpsServe }
+{}
+
 /// A session's consumers stand in rising id, in which a pump serves them.
 pub fn consumers_rise()
     ensures { ConsumersRise }
@@ -20,4 +25,10 @@ pub fn consumers_rise()
 pub fn ended_sessions_leave()
     ensures feeds { EndedFeedsLeave }
     ensures pumps { EndedPumpsLeave }
+{}
+
+/// A session that leaves absorbs a reply that it took and that found no memory: the count of receipts that were handed on
+/// alone tells of it.
+pub fn lost_replies_are_absorbed()
+    ensures { LostRepliesAreAbsorbed }
 {}

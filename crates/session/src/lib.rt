@@ -20,7 +20,10 @@ mod working;
 
 pub use consumer_entry::ConsumerEntry;
 pub use fault::Fault;
-pub use laws::{consumers_rise, ended_sessions_leave, pumps_finish, writes_whole_frames};
+pub use laws::{
+    consumers_rise, ended_sessions_leave, lost_replies_are_absorbed, pumps_finish, pumps_serve,
+    writes_whole_frames,
+};
 pub use port::{Found, Port};
 pub use producer_entry::ProducerEntry;
 pub use pumping::{More, PumpFault};

@@ -1,4 +1,5 @@
-ghost use Rattle.std.specs.Prelude.{◌≡◌, ◌<◌, ◌≤◌, ℕ, true, length};
+ghost use Rattle.std.specs.Prelude.{◌≡◌, ◌<◌, ◌≤◌, ℕ, true, length, IfErr};
+ghost use Rattle.gated_log.specs.declared.read_error.ReadError.{ReadError};
 ghost use Rattle.topic_core.specs.Steps.{has_producer, has_consumer, Fits};
 ghost use Rattle.session.specs.Broker.{Broker, topic_at, FindStep, IfFound, CommandStep, GrantAt, DispatchAt, SendsTo, CollectedAt, left_at};
 ghost use Rattle.session.specs.TopicName.{is_topic_name};
@@ -30,6 +31,9 @@ pub trait Port {
 
     /// What calls may do besides what they do to the abstract broker.
     ghost passes: { Self → Self → Type 0 };
+
+    /// A message was refused so between the two, and there is a cause for it.
+    ghost refuses: { Self → ReadError → Self → Type 0 };
 
     /// How many topics there are. Their numbers count from 0.
     fn topics(&self) -> u64
@@ -81,6 +85,7 @@ pub trait Port {
         requires { topic < count self.old }
         ensures step { sole self.old → DispatchAt (broker self.old) topic who consumer_id result (broker self.new) }
         ensures sends { SendsTo consumer_id result }
+        ensures refused { IfErr result (λ why. refuses self.old why self.new) }
         ensures passes { passes self.old self.new };
 
     /// Takes the first reply that a topic has due to the session.
@@ -100,6 +105,9 @@ pub trait Port {
     ghost passes_both: { (a b c : Self) → passes a b → passes b c → passes a c };
 
     ghost passes_sole: { (a b : Self) → passes a b → sole a → sole b };
+
+    /// What was refused between two calls was refused between an earlier one and a later one.
+    ghost refuses_within: { (a b c d : Self) (why : ReadError) → passes a b → passes b c → passes c d → refuses b why c → refuses a why d };
 
     /// The count never falls.
     ghost passes_count: { (a b : Self) → passes a b → count a ≤ count b };

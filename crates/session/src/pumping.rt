@@ -2,7 +2,7 @@ ghost use Rattle.std.specs.Prelude.{◌≡◌, ◌≢◌, ◌<◌, ◌≤◌, �
 ghost use Rattle.session.specs.declared.pumping.PumpFault.TheVariants.{Device};
 ghost use Rattle.session.specs.Broker.{due_at, topic_at};
 ghost use Rattle.session.specs.Client.{Client, Play, play, Speaks, Writes};
-ghost use Rattle.session.specs.Pumping.{CollectsFrom, CollectsNothing, CollectsAt, Collects, HasNothingDue, SendsOne, SendsNothing, ServesOne, ServesAll, ServesIf, PumpStep, ended_by, pumped_fault};
+ghost use Rattle.session.specs.Pumping.{CollectsFrom, CollectsNothing, CollectsAt, Collects, HasNothingDue, SendsOne, SendsNothing, ServesOne, ServesAll, ServesIf, PumpStep, IsTold, ended_by, pumped_fault};
 
 use crate::consumer_entry::ConsumerEntry;
 use crate::fault::Fault;
@@ -45,11 +45,12 @@ impl Session {
     /// memory ends the session. A message that the device fails to read stops the pump and changes nothing: what went
     /// out before stands.
     pub fn pump<P: Port>(&mut self, port: &mut P, out: &mut Vec<u8>) -> Result<More, PumpFault>
-        ensures step { P.sole port.old → PumpStep (play self.old (P.broker port.old) out.old.items) result
+        ensures step { P.sole port.old → PumpStep (λ why. P.refuses port.old why port.new) (play self.old (P.broker port.old) out.old.items) result
             (play self.new (P.broker port.new) out.new.items) }
 
         // Whoever else uses the broker:
         ensures result { pumped_fault result ≡ self.new.fault }
+        ensures told { IfErr result (λ fault. IsTold (λ why. P.refuses port.old why port.new) fault) }
         ensures ended { IfSome self.old.fault (λ why. (self.new ≡ self.old) × (out.new.items ≡ out.old.items)) }
         ensures number { self.new.number ≡ self.old.number }
         ensures writes { Writes out.old.items out.new.items }
@@ -140,9 +141,10 @@ impl Session {
         port: &mut P,
         out: &mut Vec<u8>,
     ) -> Result<usize, PumpFault>
-        ensures serves { P.sole port.old → ServesIf goes_on result (play self.old (P.broker port.old) out.old.items)
+        ensures serves { P.sole port.old → ServesIf (λ why. P.refuses port.old why port.new) goes_on result (play self.old (P.broker port.old) out.old.items)
             (play self.new (P.broker port.new) out.new.items) }
         ensures refused { IfErr result (λ why. ended_by why ≡ None) }
+        ensures told { IfErr result (λ fault. IsTold (λ why. P.refuses port.old why port.new) fault) }
         ensures speaks { Speaks self.old out.old.items self.new out.new.items }
         ensures passes { P.passes port.old port.new }
     {
@@ -155,9 +157,10 @@ impl Session {
 
     /// Serves the session's consumers in rising id, and gives how many messages they got.
     fn serve_each<P: Port>(&mut self, port: &mut P, out: &mut Vec<u8>) -> Result<usize, PumpFault>
-        ensures serves { P.sole port.old → ServesAll self.old.consumers 64 result (play self.old (P.broker port.old) out.old.items)
+        ensures serves { P.sole port.old → ServesAll (λ why. P.refuses port.old why port.new) self.old.consumers 64 result (play self.old (P.broker port.old) out.old.items)
             (play self.new (P.broker port.new) out.new.items) }
         ensures refused { IfErr result (λ why. ended_by why ≡ None) }
+        ensures told { IfErr result (λ fault. IsTold (λ why. P.refuses port.old why port.new) fault) }
         ensures speaks { Speaks self.old out.old.items self.new out.new.items }
         ensures passes { P.passes port.old port.new }
     {
@@ -178,9 +181,10 @@ impl Session {
         out: &mut Vec<u8>,
     ) -> Result<usize, PumpFault>
         ensures most { IfOk result (λ count. count ≤ room) }
-        ensures serves { P.sole port.old → ServesOne consumer room result (play self.old (P.broker port.old) out.old.items)
+        ensures serves { P.sole port.old → ServesOne (λ why. P.refuses port.old why port.new) consumer room result (play self.old (P.broker port.old) out.old.items)
             (play self.new (P.broker port.new) out.new.items) }
         ensures refused { IfErr result (λ why. ended_by why ≡ None) }
+        ensures told { IfErr result (λ fault. IsTold (λ why. P.refuses port.old why port.new) fault) }
         ensures consumers { self.new.consumers ≡ self.old.consumers }
         ensures speaks { Speaks self.old out.old.items self.new out.new.items }
         ensures passes { P.passes port.old port.new }
@@ -209,9 +213,10 @@ impl Session {
         requires goes_on { self.old.fault ≡ None }
         ensures some { result ≡ Ok true → P.sole port.old → SendsOne consumer (play self.old (P.broker port.old) out.old.items)
             (play self.new (P.broker port.new) out.new.items) }
-        ensures none { result ≡ Ok false → P.sole port.old → SendsNothing consumer (play self.old (P.broker port.old) out.old.items)
+        ensures none { result ≡ Ok false → P.sole port.old → SendsNothing (λ why. P.refuses port.old why port.new) consumer (play self.old (P.broker port.old) out.old.items)
             (play self.new (P.broker port.new) out.new.items) }
         ensures refused { IfErr result (λ why. ended_by why ≡ None) }
+        ensures told { IfErr result (λ fault. IsTold (λ why. P.refuses port.old why port.new) fault) }
         ensures device { P.sole port.old → IfErr result (λ why. (why ≡ Device)
             × (play self.new (P.broker port.new) out.new.items ≡ play self.old (P.broker port.old) out.old.items)) }
         ensures consumers { self.new.consumers ≡ self.old.consumers }

@@ -39,6 +39,8 @@ impl TopicCore {
         ensures counts { CountsStay self.old self.new }
 
         ensures refused { IsErr result → self.new ≡ self.old }
+        // A topic that has failed has no message, and refuses none.
+        ensures works { IsErr result → self.old.failed ≡ false }
         ensures cause { (T.view stores.now).failed ≡ false → IsErrOf result Device → Failed (S.disk shelf.old) (S.disk shelf.new) }
         ensures seen { (S.disk shelf.old).honest → Same (S.disk shelf.old).seen (S.disk shelf.new).seen }
         ensures any_moment { (S.disk shelf.old).honest → Leaves (S.disk shelf.old).may_leave (S.disk shelf.old) (S.disk shelf.new) }

@@ -65,6 +65,8 @@ impl Port for Board {
 
     ghost passes = { λ old new. old.topics ≤ new.topics };
 
+    ghost refuses = { λ _ _ _. Unit {0} };
+
     fn topics(&self) -> u64 {
         self.topics
     }
@@ -144,6 +146,8 @@ impl Port for Board {
     ghost passes_both = { λ a b c h k. Prim.search rules };
 
     ghost passes_sole = { λ a b h s. s };
+
+    ghost refuses_within = { λ a b c d why h k l refused. tt };
 
     ghost passes_count = { λ a b h. h };
 

@@ -1,7 +1,8 @@
 use disk::FileId;
 use frames::Fault as FrameFault;
 use session::{
-    Fault, PumpFault, consumers_rise, ended_sessions_leave, pumps_finish, writes_whole_frames,
+    Fault, PumpFault, consumers_rise, ended_sessions_leave, pumps_finish, pumps_serve,
+    writes_whole_frames,
 };
 use std::test::Fail;
 
@@ -40,6 +41,7 @@ fn texts_of_faults(rt: HostRuntime) -> Result<(), Fail> {
     }
     writes_whole_frames();
     pumps_finish();
+    pumps_serve();
     consumers_rise();
     ended_sessions_leave();
     Ok(())

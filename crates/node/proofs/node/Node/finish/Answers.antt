@@ -6,7 +6,7 @@ use Rattle.node.specs.Flights.{stage_of, phase_at, IsUnderWay}
 use Rattle.node.specs.declared.flight.Flight.{Flight}
 use Rattle.node.specs.declared.flight.Flight.TheVariants as flight
 use Rattle.node.proofs.Steps.{finishes}
-use Rattle.node.proofs.UnderWay.{works, fits, finish_numbers}
+use Rattle.node.proofs.UnderWay.{works, hands_on, fits, finish_numbers}
 use Rattle.node.proofs.node.Node.finish.Goals as goal
 
 pub invariant_of-self : goal.invariant_of-self
@@ -38,7 +38,7 @@ returns-in-Some-Written-clause-step g c =
     let step = c.finish-finished.ensures.step is_for.awaited in
     λ _. rw (c.only-in-Some-Written.ensures, c.verdict_of_flush.ensures, c.take.ensures.after)
     (finishes t.core.per_ledger u.per_ledger t.core u (stage_of t.flight) n.sessions.items n.used f f c.args.topic (omega (arith, c.if-topic-ne0.false)) (finish_numbers t.core written c.finish-finished.result u step) (omega arith)
-    written c.finish-finished.result (ap (λ (f : Option Flight). stage_of f) is) step)
+    written c.finish-finished.result (hands_on t.core c.in-Some-Written.batch is_for) (ap (λ (f : Option Flight). stage_of f) is) step)
 
 pub returns-in-Some-Written-clause-stands : goal.returns-in-Some-Written-clause-stands
 returns-in-Some-Written-clause-stands g c =

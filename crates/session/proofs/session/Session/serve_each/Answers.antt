@@ -1,8 +1,10 @@
-use Rattle.std.proofs.Common.{◌≡◌, ◌∙◌, ◌<◌, List, length, get_or, ap, add-one, arith}
+use Rattle.std.proofs.Common.{◌≡◌, ◌∙◌, ◌<◌, List, length, take, get_or, ap, sym, subst, add-one, arith}
+use Rattle.std.proofs.Math.Seq.{take-length}
 use Rattle.std.proofs.lemmas.Result.{err_from_is_err_and}
+use Rattle.gated_log.specs.declared.read_error.ReadError.{ReadError}
 use Rattle.session.specs.Client.{Client}
 use Rattle.session.specs.declared.consumer_entry.ConsumerEntry.{ConsumerEntry}
-use Rattle.session.proofs.Serving.{serves_each-next, serves_each-refused}
+use Rattle.session.proofs.Serving.{serves-more, serves_each-more, serves_until-more, serves_each-next, serves_each-refused}
 use Rattle.session.proofs.Speaking.{speaks_both}
 use Rattle.session.proofs.session.Session.serve_each.Goals as goal
 
@@ -12,6 +14,10 @@ loop-place-preserved g c =
     let e = c.serve.ensures in
     let place = c.loop-place.place in
     let one = c.index-consumer.result.now in
+    let port = g.met.P.Port in
+    let Told : ReadError → Type 0 = λ why. g.P.Port.refuses c.args.port.now why c.serve.new.port in
+    let earlier : (why : ReadError) → g.P.Port.refuses c.args.port.now why c.loop-place.port → Told why = λ why h. port.refuses_within c.args.port.now c.args.port.now c.loop-place.port c.serve.new.port why (port.passes_nothing c.args.port.now) i.passes e.passes h in
+    let later : (why : ReadError) → g.P.Port.refuses c.loop-place.port why c.serve.new.port → Told why = λ why h. port.refuses_within c.args.port.now c.loop-place.port c.serve.new.port c.serve.new.port why i.passes e.passes (port.passes_nothing c.serve.new.port) h in
     record {
       most = omega (arith, c.in_ok-count.ensures.most);
       serves = λ s.
@@ -19,7 +25,8 @@ loop-place-preserved g c =
           omega (arith, c.loop-place-test.true, c.len-place-end.ensures, ap (λ (v : Client). length v.consumers) c.self.view_is) in
           let is : one ≡ get_or c.args.self.now.consumers place one =
           c.index-consumer.ensures ∙ ap (λ (xs : List ConsumerEntry). get_or xs place one) (ap (λ (v : Client). v.consumers) c.self-in-loop-place.view_is ∙ i.consumers) in
-          rw add-one (serves_each-next c.args.self.now.consumers place 64 c.loop-place.count c.in_ok-count.field-0 _ _ _ one one within is (i.serves s) (c.in_ok-count.ensures.serves (g.met.P.Port.passes_sole _ _ i.passes s)));
+          rw add-one (serves_each-next Told c.args.self.now.consumers place 64 c.loop-place.count c.in_ok-count.field-0 _ _ _ one one within is
+          (serves_each-more _ Told earlier _ _ _ _ _ (i.serves s)) (serves-more _ Told later _ _ _ _ _ (c.in_ok-count.ensures.serves (port.passes_sole _ _ i.passes s))));
       consumers = e.consumers ∙ i.consumers;
       speaks = speaks_both _ _ _ _ _ _ i.speaks e.speaks;
       passes = g.met.P.Port.passes_both _ _ _ i.passes e.passes;
@@ -35,7 +42,21 @@ returns-in_err-count-clause-serves g c = λ s.
     let is : one ≡ get_or c.args.self.now.consumers place one =
     c.index-consumer.ensures ∙ ap (λ (xs : List ConsumerEntry). get_or xs place one) (ap (λ (v : Client). v.consumers) c.self-in-loop-place.view_is ∙ i.consumers) in
     let p = err_from_is_err_and c.from_residual.result c.from_residual.ensures.1 in
-    rw (p.1, p.2) (serves_each-refused c.args.self.now.consumers place 64 c.loop-place.count _ _ _ _ one one within is (i.serves s) (c.in_err-count.ensures.serves (g.met.P.Port.passes_sole _ _ i.passes s)))
+    let port = g.met.P.Port in
+    let e = c.serve.ensures in
+    let Told : ReadError → Type 0 = λ why. g.P.Port.refuses c.args.port.now why c.serve.new.port in
+    let earlier : (why : ReadError) → g.P.Port.refuses c.args.port.now why c.loop-place.port → Told why = λ why h. port.refuses_within c.args.port.now c.args.port.now c.loop-place.port c.serve.new.port why (port.passes_nothing c.args.port.now) i.passes e.passes h in
+    let later : (why : ReadError) → g.P.Port.refuses c.loop-place.port why c.serve.new.port → Told why = λ why h. port.refuses_within c.args.port.now c.loop-place.port c.serve.new.port c.serve.new.port why i.passes e.passes (port.passes_nothing c.serve.new.port) h in
+    rw (p.1, p.2) (serves_each-refused Told c.args.self.now.consumers place 64 c.loop-place.count _ _ _ _ one one within is
+    (serves_each-more _ Told earlier _ _ _ _ _ (i.serves s)) (serves_until-more _ Told later _ _ _ _ _ (c.in_err-count.ensures.serves (port.passes_sole _ _ i.passes s))))
 
 pub returns-in_err-count-clause-speaks : goal.returns-in_err-count-clause-speaks
 returns-in_err-count-clause-speaks g c = speaks_both _ _ _ _ _ _ c.loop-place.invariant.speaks c.serve.ensures.speaks
+
+pub returns-clause-serves : goal.returns-clause-serves
+returns-clause-serves g c = λ s.
+    let consumers = c.args.self.now.consumers in
+    let all : c.loop-place.place ≡ length consumers =
+    omega (arith, c.loop-place-test.false, c.loop-place.auto.place-end, c.len-place-end.ensures, ap (λ (v : Client). length v.consumers) c.self.view_is) in
+    let whole : take c.loop-place.place consumers ≡ consumers = subst (λ n. take n consumers ≡ consumers) (sym all) (take-length consumers) in
+    rw whole at (c.loop-place.invariant.serves s)
