@@ -1,11 +1,9 @@
 -- Lines of a script as what happens to a machine, and the node's verdicts as outcomes of a line.
 use Rattle.disk.specs.declared.crash_shelf.CrashForm.{CrashForm}
 use Rattle.disk.specs.declared.crash_shelf.CrashForm.TheVariants as form
-use Rattle.disk.specs.declared.crash_shelf.Fuse.{Fuse}
 use Rattle.disk.specs.declared.crash_shelf.Fuse.TheVariants as fuse
 use Rattle.gated_log.specs.declared.refusal.Refusal.{Refusal}
 use Rattle.gated_log.specs.declared.refusal.Refusal.TheVariants as refusal
-use Rattle.node.specs.declared.event.Event.{Event}
 use Rattle.node.specs.declared.event.Event.TheVariants as event
 use Rattle.session.specs.declared.fault.Fault.{Fault}
 use Rattle.session.specs.declared.fault.Fault.TheVariants as fault

@@ -3,7 +3,6 @@ use Rattle.std.proofs.KnownBytes.{Keeps-refl}
 use Rattle.std.proofs.lemmas.Result.{err_from_is_err_and}
 use Rattle.node.specs.declared.status.TopicStatus.{TopicStatus}
 use Rattle.node.specs.Driving as node
-use Rattle.pulsar_node.specs.declared.fault.ProgramFault.TheVariants.{NoMemory}
 use Rattle.pulsar_node.specs.Replay.{Tells}
 use Rattle.pulsar_node.proofs.Worked.{task_fails, task_forgets, tells, tells_nothing, lines_of}
 use Rattle.pulsar_node.proofs.Written.{Appends-kept_all}

@@ -1,4 +1,4 @@
-use Rattle.std.proofs.Common.{Err, ◌≡◌, ◌∷◌, ◌+◌, ℕ, [], length, sym, ap, subst, refl, ◌∙◌, List, arith, length-append}
+use Rattle.std.proofs.Common.{Err, ◌≡◌, ◌∷◌, ◌+◌, ℕ, [], length, sym, ap, subst, ◌∙◌, List, arith, length-append}
 use Rattle.std.specs.Vec.Iter.{into_iter_items}
 use Rattle.std.proofs.KnownBytes.{Appends-trans}
 use Rattle.std.proofs.lemmas.Result.{err_from_is_err_and}
