@@ -2,11 +2,13 @@
 use Rattle.std.specs.Prelude.{◌≡◌, ◌⊎◌, ℕ, ◌≤◌, true, Some, Result, IsErr, OnOk, OnErr, List, length, slice_get}
 use Rattle.disk.specs.declared.file_id.FileId.{FileId}
 use Rattle.disk.specs.declared.shelf.DeviceError.{DeviceError}
+use Rattle.disk.specs.declared.crash_shelf.CrashForm.{CrashForm}
 use Rattle.disk.specs.Disk.{Disk, Image}
+use Rattle.disk.specs.Laid.{Laid}
 use Rattle.disk_mem.specs.declared.shelf.MemShelf.{MemShelf}
-use Rattle.disk_mem.specs.FileState.{FileState, MayLeave}
+use Rattle.disk_mem.specs.FileState.{FileState, MayLeave, CrashesTo}
 use Rattle.disk_mem.specs.Files.{Files, state_at, FileChanges, NoneChanges}
-use Rattle.disk_mem.specs.Laid.{Laid, laid_by, fires, after_call}
+use Rattle.disk_mem.specs.Laid.{laid_by, fires, after_call}
 
 -- what each file is
 abbrev pub states : MemShelf → FileId → FileState
@@ -15,6 +17,10 @@ states shelf = state_at shelf.files
 -- the fuses that were laid
 abbrev pub laid : MemShelf → Laid
 laid shelf = laid_by shelf.fuses
+
+-- each file is left as the form says, and then rests
+abbrev pub LeftAs : CrashForm → MemShelf → MemShelf → Type 0
+LeftAs form old new = (f : FileId) → CrashesTo form (states old f) (states new f)
 
 -- what a crash may leave of these files
 abbrev pub leaves : Files → Image → Type 0

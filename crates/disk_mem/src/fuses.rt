@@ -1,6 +1,7 @@
 // Failures to come.
 ghost use Rattle.std.specs.Prelude.{◌≡◌, ◌==◌, ◌-◌, ◌++◌, ◌∷◌, [], map, OnOk, OnErr};
-ghost use Rattle.disk_mem.specs.Laid.{nothing_laid, laid_by, fires, fires_at_read, after_call, after_read, after_crash, after_arm, sooner as sooner_of};
+ghost use Rattle.disk.specs.Laid.{after_crash, after_arm, sooner as sooner_of};
+ghost use Rattle.disk_mem.specs.Laid.{nothing_laid, laid_by, fires, fires_at_read, after_call, after_read};
 ghost use Rattle.std.specs.List.{list_any};
 
 use disk::{CrashForm, Fuse};
