@@ -1,7 +1,10 @@
 -- A machine that is driven through events and crashes.
-use Rattle.std.specs.Prelude.{◌≡◌, ℕ, suc, Bool, true, false, Option, Some, None, Result, IfOk, List, ◌∷◌, ◌++◌, length, take}
+use Rattle.std.specs.Prelude.{◌≡◌, ◌≢◌, ℕ, suc, Bool, true, false, Option, Some, None, Result, IfOk, List, ◌∷◌, ◌++◌, length, take}
 use Rattle.std.specs.declared.alloc.AllocError.{AllocError}
-use Rattle.disk.specs.Disk.{Disk, Image}
+use Rattle.disk.specs.declared.crash_shelf.CrashForm.{CrashForm}
+use Rattle.disk.specs.Disk.{Disk, Image, Same}
+use Rattle.disk.specs.Laid.{Laid, after_crash}
+use Rattle.gated_log.specs.declared.refusal.Refusal.TheVariants as refusal
 use Rattle.topic_stores.specs.declared.store.TopicStore.{Ghosts as StoreMembers}
 use Rattle.subscriptions.specs.Statuses.{AreStatuses}
 use Rattle.topic_core.specs.State.{Topic}
@@ -17,6 +20,8 @@ use Rattle.node.specs.Laws.{IsAtStart, Accounts}
 use Rattle.node.specs.declared.event.Happening.{Happening}
 use Rattle.node.specs.declared.event.Happening.TheVariants as happening
 use Rattle.node.specs.declared.event.Output.{Output}
+use Rattle.node.specs.declared.event.Verdict.{Verdict}
+use Rattle.node.specs.declared.event.Verdict.TheVariants as verdict
 use Rattle.node.specs.declared.status.TopicStatus.{TopicStatus}
 use Rattle.node.specs.declared.power.Machine.{Machine}
 use Rattle.node.specs.declared.power.Machine.TheVariants as machine
@@ -52,6 +57,14 @@ StandsAmidst files_stand first happenings files =
 abbrev pub shelf_in : {T S : Type 0} {store : StoreMembers T} → Machine T S store → S
 shelf_in (machine.Up node) = node.topics.shelf
 shelf_in (machine.Down shelf) = shelf
+
+-- The power was cut, in the form that was ordered last, and the node was opened, which writes nothing: reads give what the crash
+-- left, but where the device failed in the opening.
+pub record Cut {S : Type 0} (disk : S → Disk) (laid : S → Laid) (left_as : CrashForm → S → S → Type 0) (old : S) (told : Verdict) (new : S) : Type 0 where
+  pub between : S
+  pub left : left_as (laid old).form old between
+  pub burnt : laid between ≡ after_crash (laid old)
+  pub seen : (disk between).honest → told ≢ verdict.Refused refusal.Device → Same (disk between).seen (disk new).seen
 
 module _ {T S : Type 0} {store : StoreMembers T} (disk : S → Disk) where
   -- The machine holds this life: a node that works, or the device alone, which stands for what a crash leaves of the state.

@@ -1,12 +1,16 @@
 // A node that is driven through events and crashes.
-ghost use Rattle.std.specs.Prelude.{◌≡◌, ◌<◌, ◌≤◌, ◌++◌, ◌∷◌, List, ℕ, IfOk, OnOk, false, length, take};
+ghost use Rattle.std.specs.Prelude.{◌≡◌, ◌≢◌, ◌<◌, ◌≤◌, ◌++◌, ◌∷◌, List, ℕ, IfOk, OnOk, OnErr, false, length, take};
+ghost use Rattle.disk.specs.declared.crash_shelf.CrashForm.{CrashForm};
+ghost use Rattle.disk.specs.Disk.{Same, Advances, Kept, Stays, Leaves};
+ghost use Rattle.disk.specs.Laid.{after_arm, after_crash};
+ghost use Rattle.gated_log.specs.declared.refusal.Refusal.TheVariants as refusal;
 ghost use Rattle.node.specs.State.{State};
-ghost use Rattle.disk.specs.Disk.{Leaves};
 ghost use Rattle.node.specs.Standing.{AtRest, StandsForBroker};
 ghost use Rattle.node.specs.Cuts.{amid_event, amid};
-ghost use Rattle.node.specs.Driving.{Holds, IsServed, StatusOf, SegmentsTold, shelf_in, disk_in, StandsAmidst, Drove};
+ghost use Rattle.node.specs.Driving.{Cut, Holds, IsServed, StatusOf, SegmentsTold, shelf_in, disk_in, StandsAmidst, Drove};
 ghost use Rattle.node.specs.Runs.{Life, OpeningStep, HappeningStep};
 ghost use Rattle.node.specs.declared.event.Happening.TheVariants as happening;
+ghost use Rattle.node.specs.declared.event.Verdict.TheVariants as verdict;
 
 use crate::event::{Event, Happening, Output, Verdict};
 use crate::node::{Node, only};
@@ -23,9 +27,11 @@ pub enum Machine<T: TopicStore, S> {
 }
 
 impl<T: TopicStore, S: CrashShelf + Drop> Machine<T, S> {
-    /// The power comes, and the node is opened. The output has no bytes.
+    /// The power comes, and the node is opened, which writes nothing. The output has no bytes.
     pub fn start(alloc: Global, per_ledger: u32, shelf: S) -> (Machine<T, S>, Output)
         requires numbered { 1 ≤ per_ledger }
+        ensures seen { (S.disk shelf).honest → result.1.result ≢ verdict.Refused refusal.Device →
+            Same (S.disk shelf).seen (disk_in S.disk result.0).seen }
         ensures step { (old : State) → AtRest T.stands old (S.disk shelf) → IsServed per_ledger old →
             (life : Life) × OpeningStep old result.1 life × Holds S.disk per_ledger result.0 life }
         ensures any_moment { (old : State) → AtRest T.stands old (S.disk shelf) →
@@ -48,16 +54,16 @@ impl<T: TopicStore, S: CrashShelf + Drop> Machine<T, S> {
         }
     }
 
-    /// The power is cut, and comes again.
+    /// The power is cut, in the form that was ordered last, and comes again.
     pub fn crash(self, alloc: Global, per_ledger: u32) -> (Machine<T, S>, Output)
         requires numbered { 1 ≤ per_ledger }
+        ensures cut { Cut S.disk S.laid S.left_as (shelf_in self) result.1.result (shelf_in result.0) }
         ensures step { (old : Life) → Holds S.disk per_ledger self old →
             (new : Life) × HappeningStep old (happening.Crash) result.1 new × Holds S.disk per_ledger result.0 new }
         ensures any_moment { (old : Life) → Holds S.disk per_ledger self old →
             Leaves (StandsForBroker T.stands old.state.broker) (disk_in S.disk self) (disk_in S.disk result.0) }
     {
-        let mut shelf = self.into_shelf();
-        shelf.crash();
+        let shelf = cut_power(self.into_shelf());
         Machine::start(alloc, per_ledger, shelf)
     }
 
@@ -76,7 +82,11 @@ impl<T: TopicStore, S: CrashShelf + Drop> Machine<T, S> {
 
     /// Lays a fuse for a failure of the device beside those laid before. Where there is no memory for it, no fuse is laid.
     pub fn arm(&mut self, fuse: Fuse) -> Result<(), AllocError>
-        ensures { (per_ledger : ℕ) (life : Life) → Holds S.disk per_ledger self.old life → Holds S.disk per_ledger self.new life }
+        ensures armed { OnOk result (S.laid (shelf_in self.new) ≡ after_arm fuse (S.laid (shelf_in self.old))) }
+        ensures refused { OnErr result (S.laid (shelf_in self.new) ≡ S.laid (shelf_in self.old)) }
+        ensures same { (form : CrashForm) (after : S) → S.left_as form (shelf_in self.new) after → S.left_as form (shelf_in self.old) after }
+        ensures stays { Stays (disk_in S.disk self.old) (disk_in S.disk self.new) }
+        ensures holds { (per_ledger : ℕ) (life : Life) → Holds S.disk per_ledger self.old life → Holds S.disk per_ledger self.new life }
     {
         match self {
             Machine::Up(node) => node.topics.shelf.arm(fuse),
@@ -116,6 +126,17 @@ impl<T: TopicStore, S: CrashShelf + Drop> Machine<T, S> {
             Happening::Crash => self.crash(alloc, per_ledger),
         }
     }
+}
+
+// The device behind a cut of its power, in the form that was ordered last.
+fn cut_power<S: CrashShelf>(mut shelf: S) -> S
+    ensures form { S.left_as (S.laid shelf).form shelf result }
+    ensures burnt { S.laid result ≡ after_crash (S.laid shelf) }
+    ensures time { (S.disk shelf).honest → Advances Same (S.disk shelf) (S.disk result) }
+    ensures kept { Kept (S.disk shelf) (S.disk result) }
+{
+    shelf.crash();
+    shelf
 }
 
 /// Opens the node that the device holds, and works through events and crashes, one output each after that of the opening. A crash

@@ -1,10 +1,16 @@
 -- Lines that were worked, and one more.
-use Rattle.std.proofs.Common.{◌≡◌, ℕ, suc, ◌+◌, Bool, true, false, List, [], ◌∷◌, ◌++◌, length, take, Option, Some, None, Err, refl, sym, ap, ◌∙◌, subst, append_assoc, append-nil, inl, inr, ⊎_elim, arith}
+use Rattle.std.proofs.Common.{◌≡◌, ℕ, suc, ◌+◌, Bool, true, false, List, [], ◌∷◌, ◌++◌, length, take, Option, Some, None, Result, Ok, Err, refl, sym, ap, ◌∙◌, subst, append_assoc, append-nil, inl, inr, ⊎_elim, arith}
 use Rattle.std.specs.Io.KnownBytes.{Appends, Keeps}
 use Rattle.std.proofs.KnownBytes.{Appends-trans, Appends-kept, Keeps-refl}
 use Rattle.std.proofs.Math.Seq.{take-append_seam}
+use Rattle.std.proofs.lemmas.Bool.{true≢false}
 use Rattle.std.proofs.lemmas.List.{take_all}
-use Rattle.node.specs.Runs.{Life}
+use Rattle.std.specs.Prelude.{is_err, IfOk, OnOk, OnErr}
+use Rattle.disk.specs.declared.crash_shelf.CrashForm.{CrashForm}
+use Rattle.disk.specs.declared.crash_shelf.Fuse.{Fuse}
+use Rattle.disk.specs.Laid.{after_arm}
+use Rattle.disk_mem.specs.declared.shelf.MemShelf.{MemShelf}
+use Rattle.disk_mem.specs.Device.{laid, LeftAs}
 use Rattle.node.specs.State.{State}
 use Rattle.node.specs.Driving as node
 use Rattle.node.specs.declared.status.TopicStatus.{TopicStatus}
@@ -14,13 +20,13 @@ use Rattle.script.specs.Script.{IsScript}
 use Rattle.pulsar_node.specs.declared.event.Task.{Task}
 use Rattle.pulsar_node.specs.declared.fault.ProgramFault.{ProgramFault}
 use Rattle.pulsar_node.specs.declared.fault.ProgramFault.TheVariants.{Device, NoMemory, ScriptLine}
-use Rattle.pulsar_node.specs.Replay.{status_lines, IfRemembered, TaskStep, WorksTask, Begun, StatusOf, Tells, LineStep, Prints, Begins, Plays, IsFront, Writes, WorksFront, WorksLines, Replays, ReplaysAll, ReplaysFront, IsAllOf, IsOutage}
+use Rattle.pulsar_node.specs.Replay.{status_lines, Moment, Armed, IfRemembered, TaskStep, WorksTask, Begun, StatusOf, Tells, LineStep, Prints, Begins, Plays, IsFront, Writes, WorksFront, WorksLines, Replays, ReplaysAll, ReplaysFront, IsAllOf, IsOutage}
 
 -- one line more
-pub Prints-more : (number : ℕ) (old : Life) (lines : List Line) (text : List ℕ) (mid : Life) (line : Line) (more : List ℕ) (new : Life)
+pub Prints-more : (number : ℕ) (old : Moment) (lines : List Line) (text : List ℕ) (mid : Moment) (line : Line) (more : List ℕ) (new : Moment)
     → Prints number old lines text mid → LineStep (number + length lines) mid line more new → Prints number old (lines ++ line ∷ []) (text ++ more) new
 Prints-more number old [] text mid line more new h step =
-    let at : LineStep number old line more new = subst (λ (s : Life). LineStep number s line more new) h.1 (subst (λ (k : ℕ). LineStep k mid line more new) (let e : number + 0 ≡ number = omega arith in e) step) in
+    let at : LineStep number old line more new = subst (λ (s : Moment). LineStep number s line more new) h.1 (subst (λ (k : ℕ). LineStep k mid line more new) (let e : number + 0 ≡ number = omega arith in e) step) in
     (more, [], new, at, (refl, refl), ap (λ (t : List ℕ). t ++ more) h.0 ∙ sym (append-nil more))
 Prints-more number old (l ∷ lines) text mid line more new h step =
     let place : number + suc (length lines) ≡ number + 1 + length lines = omega arith in
@@ -34,7 +40,7 @@ front_more a b c before text p q =
     (before ++ q.0, (q.1.0, ap (λ (x : List ℕ). before ++ x) q.1.1 ∙ sym (append_assoc before q.0 q.1.0)), Appends-trans a b c before q.0 p q.2)
 
 -- one more line was worked, and a front of its line was written, or memory was refused for it
-pub one_more_fails : (number : ℕ) (old mid new : Life) (yielded rest lines : List Line) (line : Line) (text more : List ℕ) (a b c : Option (List ℕ)) (fault : ProgramFault)
+pub one_more_fails : (number : ℕ) (old mid new : Moment) (yielded rest lines : List Line) (line : Line) (text more : List ℕ) (a b c : Option (List ℕ)) (fault : ProgramFault)
     → Prints number old yielded text mid → IfRemembered {X = Unit {0}} (Err fault) (LineStep (number + length yielded) mid line more new) → Appends a b text → Writes {X = Unit {0}} more b c (Err fault)
     → (yielded ++ line ∷ []) ++ rest ≡ lines → WorksLines {X = Unit {0}} number old lines a c (Err fault)
 one_more_fails number old mid new yielded rest lines line text more a b c Device prints step so_far written whole =
@@ -77,20 +83,51 @@ remembered_fault X Y P NoMemory p = p
 remembered_fault X Y P (ScriptLine k) p = p
 
 -- a task was worked, and what it prints couldn't be written
-pub task_fails : {R : Type 0} (lives : R → Life → Type 0) (number : ℕ) (old : Life) (task : Task) (text : List ℕ) (new : Life) (a b : Option (List ℕ)) (fault : ProgramFault)
+pub task_fails : {R : Type 0} (lives : R → Moment → Type 0) (number : ℕ) (old : Moment) (task : Task) (text : List ℕ) (new : Moment) (a b : Option (List ℕ)) (fault : ProgramFault)
     → TaskStep number old task text new → Writes {X = Unit {0}} text a b (Err fault) → WorksTask lives number old task a b (Err fault)
 task_fails {R} lives number old task text new a b fault step writes = record { text = text; new = new; step = remembered R fault step; writes = writes_fault (Unit {0}) R text a b fault writes; goes_on = tt }
 
 -- memory was refused
-pub task_forgets : {R : Type 0} (lives : R → Life → Type 0) (number : ℕ) (old : Life) (task : Task) (a : Option (List ℕ)) → WorksTask lives number old task a a (Err NoMemory)
+pub task_forgets : {R : Type 0} (lives : R → Moment → Type 0) (number : ℕ) (old : Moment) (task : Task) (a : Option (List ℕ)) → WorksTask lives number old task a a (Err NoMemory)
 task_forgets lives number old task a = record { text = []; new = old; step = tt; writes = Keeps-refl a; goes_on = tt }
 
 -- the first line was worked, and couldn't be written
-pub begin_fails : {R : Type 0} (lives : R → Life → Type 0) (per_ledger : ℕ) (text : List ℕ) (life : Life) (a b : Option (List ℕ)) (fault : ProgramFault)
+pub begin_fails : {R : Type 0} (lives : R → Moment → Type 0) (per_ledger : ℕ) (text : List ℕ) (life : Moment) (a b : Option (List ℕ)) (fault : ProgramFault)
     → Begins per_ledger text life → Writes {X = Unit {0}} text a b (Err fault) → Begun lives per_ledger a b (Err fault)
 begin_fails lives per_ledger text life a b Device begins w = inr (text, life, begins, w.0, w.1, w.2)
 begin_fails lives per_ledger text life a b NoMemory begins w = w
 begin_fails lives per_ledger text life a b (ScriptLine k) begins w = absurd w
+
+-- its line was written or wasn't, and where it was the replay lives on
+pub task_told : {R : Type 0} (lives : R → Moment → Type 0) (number : ℕ) (old : Moment) (task : Task) (text : List ℕ) (new : Moment) (a b : Option (List ℕ)) (replay : R) (result : Result R ProgramFault)
+    → Writes text a b result → IfOk result (λ r. r ≡ replay) → TaskStep number old task text new → lives replay new → WorksTask lives number old task a b result
+task_told {R} lives number old task text new a b replay (Ok r) writes same step goes =
+    record { text = text; new = new; step = step; writes = writes; goes_on = subst (λ (r : R). lives r new) (sym same) goes }
+task_told {R} lives number old task text new a b replay (Err fault) writes same step goes = record { text = text; new = new; step = remembered R fault step; writes = writes; goes_on = tt }
+
+pub is_ok_so : {A E P : Type 0} (r : Result A E) → is_err r ≡ false → OnOk r P → P
+is_ok_so (Ok a) is h = h
+is_ok_so (Err e) is h = absurd (true≢false is)
+
+pub is_err_so : {A E P : Type 0} (r : Result A E) → is_err r ≡ true → OnErr r P → P
+is_err_so (Ok a) is h = absurd (true≢false (sym is))
+is_err_so (Err e) is h = h
+
+-- ---- fuses
+
+module _ (old : Moment) (before device : MemShelf) (is : old.device ≡ before) (files : (form : CrashForm) (after : MemShelf) → LeftAs form device after → LeftAs form before after) where
+  -- the moment with this device
+  abbrev pub with_device : Moment
+  with_device = record { life = old.life; device = device }
+
+  files_before : (form : CrashForm) (after : MemShelf) → LeftAs form device after → LeftAs form old.device after
+  files_before form after left = subst (λ (d : MemShelf). LeftAs form d after) (sym is) (files form after left)
+
+  pub lays : (fuse : Fuse) → laid device ≡ after_arm fuse (laid before) → Armed (after_arm fuse (laid old.device)) old with_device
+  lays fuse now = record { life = refl; files = files_before; laid = now ∙ ap (λ (d : MemShelf). after_arm fuse (laid d)) (sym is) }
+
+  pub lays_none : laid device ≡ laid before → Armed (laid old.device) old with_device
+  lays_none now = record { life = refl; files = files_before; laid = now ∙ ap (λ (d : MemShelf). laid d) (sym is) }
 
 -- what a status tells of a machine, as lines
 abbrev pub lines_of : TopicStatus → List ℕ
@@ -105,16 +142,16 @@ told_lines true state status h = (
 )
 told_lines false state status h = absurd (let no : ⊥ = cc in no)
 
-pub tells : (old : Life) (status : TopicStatus) → node.StatusOf old.up old.state (Some status) → Tells old (lines_of status) old
-tells old status h = record { same = refl; printed = told_lines old.up old.state status h }
+pub tells : (old : Moment) (status : TopicStatus) → node.StatusOf old.life.up old.life.state (Some status) → Tells old (lines_of status) old
+tells old status h = record { same = refl; printed = told_lines old.life.up old.life.state status h }
 
 no_lines : (up : Bool) (state : State) → node.StatusOf up state None → StatusOf up state []
 no_lines true state h = absurd h
 no_lines false state h = refl
 
-pub tells_nothing : (old : Life) (told : Option TopicStatus) → told ≡ None → node.StatusOf old.up old.state told → Tells old [] old
+pub tells_nothing : (old : Moment) (told : Option TopicStatus) → told ≡ None → node.StatusOf old.life.up old.life.state told → Tells old [] old
 tells_nothing old told none h =
-    record { same = refl; printed = no_lines old.up old.state (subst (λ (o : Option TopicStatus). node.StatusOf old.up old.state o) none h) }
+    record { same = refl; printed = no_lines old.life.up old.life.state (subst (λ (o : Option TopicStatus). node.StatusOf old.life.up old.life.state o) none h) }
 
 -- the lines that were worked, the next one and the others are the whole
 pub next_of_whole : (yielded rest after lines : List Line) (line : Line) → yielded ++ rest ≡ lines → rest ≡ line ∷ after → (yielded ++ line ∷ []) ++ after ≡ lines
@@ -132,29 +169,29 @@ worked_all yielded rest lines whole none = sym (append-nil yielded) ∙ ap (λ (
 
 module _ (bytes : List ℕ) (script : Script) (is : IsScript bytes script) (a : Option (List ℕ)) where
   -- only the first line was worked
-  begun_alone : (text : List ℕ) (life : Life) → Begins script.per_ledger text life → Plays script.per_ledger (take 0 script.lines) text
+  begun_alone : (text : List ℕ) (life : Moment) → Begins script.per_ledger text life → Plays script.per_ledger (take 0 script.lines) text
   begun_alone text life begins = record { begun = life; first = text; begins = begins; rest = []; last = life; prints = (refl, refl); printed = sym (append-nil text) }
 
   -- the first line failed
-  pub begun_fails : {R : Type 0} (lives : R → Life → Type 0) (c : Option (List ℕ)) (fault : ProgramFault) → Begun lives script.per_ledger a c (Err fault) → Replays {X = Unit {0}} bytes a c (Err fault)
+  pub begun_fails : {R : Type 0} (lives : R → Moment → Type 0) (c : Option (List ℕ)) (fault : ProgramFault) → Begun lives script.per_ledger a c (Err fault) → Replays {X = Unit {0}} bytes a c (Err fault)
   begun_fails lives c Device h = ⊎_elim (λ (k : Keeps a c). let r : Replays {X = Unit {0}} bytes a c (Err Device) = inl k in r)
-      (λ (f : (text : List ℕ) × (life : Life) × Begins script.per_ledger text life × (front : List ℕ) × IsFront front text × Appends a c front). inr (script, is, 0, f.0, begun_alone f.0 f.1 f.2, f.3, f.4, f.5)) h
+      (λ (f : (text : List ℕ) × (life : Moment) × Begins script.per_ledger text life × (front : List ℕ) × IsFront front text × Appends a c front). inr (script, is, 0, f.0, begun_alone f.0 f.1 f.2, f.3, f.4, f.5)) h
   begun_fails lives c NoMemory h = inl h
   begun_fails lives c (ScriptLine k) h = absurd h
 
-  works_front_from : (b c : Option (List ℕ)) (text : List ℕ) (life : Life) → Begins script.per_ledger text life → Appends a b text → WorksFront 2 life script.lines b c → ReplaysFront bytes a c
+  works_front_from : (b c : Option (List ℕ)) (text : List ℕ) (life : Moment) → Begins script.per_ledger text life → Appends a b text → WorksFront 2 life script.lines b c → ReplaysFront bytes a c
   works_front_from b c text life begins p h =
       let plays : Plays script.per_ledger (take h.0 script.lines) (text ++ h.1) = record { begun = life; first = text; begins = begins; rest = h.1; last = h.2; prints = h.3; printed = refl } in
       (script, is, h.0, text ++ h.1, plays, text ++ h.4, (h.5.0, ap (λ (x : List ℕ). text ++ x) h.5.1 ∙ sym (append_assoc text h.4 h.5.0)), Appends-trans a b c text h.4 p h.6)
 
   -- a further line failed
-  pub run_fails : (b c : Option (List ℕ)) (text : List ℕ) (life : Life) (fault : ProgramFault) → Begins script.per_ledger text life → Appends a b text
+  pub run_fails : (b c : Option (List ℕ)) (text : List ℕ) (life : Moment) (fault : ProgramFault) → Begins script.per_ledger text life → Appends a b text
       → WorksLines {X = Unit {0}} 2 life script.lines b c (Err fault) → Replays {X = Unit {0}} bytes a c (Err fault)
   run_fails b c text life Device begins p h = inr (works_front_from b c text life begins p h)
   run_fails b c text life NoMemory begins p h = inr (works_front_from b c text life begins p h)
   run_fails b c text life (ScriptLine k) begins p h = absurd h
 
-  module _ (b c d : Option (List ℕ)) (text rest : List ℕ) (life last : Life) (begins : Begins script.per_ledger text life) (p : Appends a b text)
+  module _ (b c d : Option (List ℕ)) (text rest : List ℕ) (life last : Moment) (begins : Begins script.per_ledger text life) (p : Appends a b text)
       (prints : Prints 2 life script.lines rest last) (q : Appends b c rest) (kept : Keeps c d) where
     -- all went well
     pub run_ends : ReplaysAll bytes a d

@@ -2,13 +2,20 @@
 use Rattle.std.specs.Prelude.{◌≡◌, ℕ, ◌+◌, Bool, true, false, List, [], ◌∷◌, ◌++◌, length, take, codes, ◌⊎◌, Option, Some, None, Result, Ok, Err, IfOk}
 use Rattle.std.specs.List.{flat_map}
 use Rattle.std.specs.Io.KnownBytes.{Appends, Keeps}
+use Rattle.disk.specs.declared.crash_shelf.CrashForm.{CrashForm}
+use Rattle.disk.specs.declared.crash_shelf.Fuse.{Fuse}
+use Rattle.disk.specs.declared.crash_shelf.Fuse.TheVariants as fuse
+use Rattle.disk.specs.Laid.{Laid, after_arm}
+use Rattle.disk_mem.specs.declared.shelf.MemShelf.{MemShelf}
+use Rattle.disk_mem.specs.Device.{disk_of, laid, LeftAs}
 use Rattle.subscriptions.specs.Statuses.{AreStatuses}
 use Rattle.subscriptions.specs.declared.status.SubscriptionStatus.{SubscriptionStatus}
 use Rattle.session.specs.Broker.{topic_at}
 use Rattle.node.specs.State.{State, fresh_broker}
 use Rattle.node.specs.Runs.{Life, OpeningStep, HappeningStep}
+use Rattle.node.specs.Driving.{Cut}
 use Rattle.node.specs.declared.event.Output.{Output}
-use Rattle.node.specs.declared.event.Happening.{Happening}
+use Rattle.node.specs.declared.event.Event.{Event}
 use Rattle.node.specs.declared.event.Happening.TheVariants as happening
 use Rattle.script.specs.declared.line.Line.{Line}
 use Rattle.script.specs.declared.script.Script.{Script}
@@ -26,22 +33,41 @@ use Rattle.pulsar_node.specs.declared.fault.ProgramFault.TheVariants.{Device, No
 abbrev pub printed_output : ℕ → Output → List ℕ
 printed_output number output = output_line number output.bytes (outcome_of output.result)
 
--- something happens to the machine, and its output is printed
-pub record Happens (number : ℕ) (old : Life) (happening : Happening) (text : List ℕ) (new : Life) : Type 0 where
+-- the machine of a replay at one moment: what it lived through to, and its device
+pub record Moment : Type 0 where
+  pub life : Life
+  pub device : MemShelf
+
+-- an event of the node, and its output is printed
+pub record Happens (number : ℕ) (old : Moment) (event : Event) (text : List ℕ) (new : Moment) : Type 0 where
   pub output : Output
-  pub step : HappeningStep old happening output new
+  pub step : HappeningStep old.life (happening.Event event) output new.life
   pub printed : text ≡ printed_output number output
 
--- a failure is ordered, or memory is refused for that; neither changes the life of the machine
-pub record Arms (number : ℕ) (old : Life) (text : List ℕ) (new : Life) : Type 0 where
-  pub same : new ≡ old
-  pub printed : (text ≡ output_line number [] Done) ⊎ (text ≡ output_line number [] (Refused refusal.NoMemory))
+-- these fuses are laid now, and nothing else has changed: not the life, and not what a crash makes of the files
+pub record Armed (fuses : Laid) (old new : Moment) : Type 0 where
+  pub life : new.life ≡ old.life
+  pub files : (form : CrashForm) (after : MemShelf) → LeftAs form new.device after → LeftAs form old.device after
+  pub laid : laid new.device ≡ fuses
 
--- the power is cut and comes back, or memory was refused for the order that says how, and the machine goes on
-abbrev pub Cuts : ℕ → Life → List ℕ → Life → Type 0
-Cuts number old text new =
-    Happens number old (happening.Crash) text new
-    ⊎ ((new ≡ old) × (text ≡ output_line number [] (Refused refusal.NoMemory)))
+-- a fuse is laid beside the others, or memory is refused for it, and none is
+abbrev pub Arms : ℕ → Moment → Fuse → List ℕ → Moment → Type 0
+Arms number old fuse text new =
+    (Armed (after_arm fuse (laid old.device)) old new × (text ≡ output_line number [] Done))
+    ⊎ (Armed (laid old.device) old new × (text ≡ output_line number [] (Refused refusal.NoMemory)))
+
+-- the power is cut, in the form that was ordered last, and comes back, and the output of the opening is printed
+pub record Restarts (number : ℕ) (old : Moment) (text : List ℕ) (new : Moment) : Type 0 where
+  pub output : Output
+  pub step : HappeningStep old.life (happening.Crash) output new.life
+  pub cut : Cut disk_of laid LeftAs old.device output.result new.device
+  pub printed : text ≡ printed_output number output
+
+-- the form is ordered, and the power is cut; or memory is refused for the order, and the machine goes on
+abbrev pub Cuts : ℕ → Moment → CrashForm → List ℕ → Moment → Type 0
+Cuts number old form text new =
+    ((ordered : Moment) × Armed (after_arm (fuse.CrashAs form) (laid old.device)) old ordered × Restarts number ordered text new)
+    ⊎ (Armed (laid old.device) old new × (text ≡ output_line number [] (Refused refusal.NoMemory)))
 
 -- the status line of a topic, and behind it those of its subscriptions
 abbrev pub status_lines : ℕ → ℕ → ℕ → List SubscriptionStatus → List ℕ
@@ -56,41 +82,41 @@ StatusOf true state text =
     × (text ≡ status_lines 0 (length (topic_at state.broker 0).ledger) segments statuses)
 StatusOf false state text = text ≡ []
 
-pub record Tells (old : Life) (text : List ℕ) (new : Life) : Type 0 where
+pub record Tells (old : Moment) (text : List ℕ) (new : Moment) : Type 0 where
   pub same : new ≡ old
-  pub printed : StatusOf old.up old.state text
+  pub printed : StatusOf old.life.up old.life.state text
 
-abbrev pub TaskStep : ℕ → Life → Task → List ℕ → Life → Type 0
-TaskStep number old (task.Event event) text new = Happens number old (happening.Event event) text new
-TaskStep number old (task.Arm fuse) text new = Arms number old text new
-TaskStep number old (task.Crash form) text new = Cuts number old text new
+abbrev pub TaskStep : ℕ → Moment → Task → List ℕ → Moment → Type 0
+TaskStep number old (task.Event event) text new = Happens number old event text new
+TaskStep number old (task.Arm fuse) text new = Arms number old fuse text new
+TaskStep number old (task.Crash form) text new = Cuts number old form text new
 TaskStep number old task.Status text new = Tells old text new
 
 -- one line of a script is worked, and prints this
-abbrev pub LineStep : ℕ → Life → Line → List ℕ → Life → Type 0
+abbrev pub LineStep : ℕ → Moment → Line → List ℕ → Moment → Type 0
 LineStep number old line text new = TaskStep number old (task_of line) text new
 
 -- lines are worked, one after another, of which the first has this number, and print this
-abbrev pub Prints : ℕ → Life → List Line → List ℕ → Life → Type 0
+abbrev pub Prints : ℕ → Moment → List Line → List ℕ → Moment → Type 0
 Prints number old [] text new = (text ≡ []) × (new ≡ old)
 Prints number old (line ∷ lines) text new =
-    (first : List ℕ) × (rest : List ℕ) × (between : Life) × LineStep number old line first between × Prints (number + 1) between lines rest new × (text ≡ first ++ rest)
+    (first : List ℕ) × (rest : List ℕ) × (between : Moment) × LineStep number old line first between × Prints (number + 1) between lines rest new × (text ≡ first ++ rest)
 
 -- A script is begun: the files of a new topic are made, and a node is opened over them.
-pub record Begins (per_ledger : ℕ) (text : List ℕ) (new : Life) : Type 0 where
+pub record Begins (per_ledger : ℕ) (text : List ℕ) (new : Moment) : Type 0 where
   pub made : State
   pub broker : made.broker ≡ fresh_broker per_ledger
   pub output : Output
-  pub opening : OpeningStep made output new
+  pub opening : OpeningStep made output new.life
   pub printed : text ≡ printed_output 1 output
 
 -- the lines of a script are worked: its first one, and then the others
 pub record Plays (per_ledger : ℕ) (lines : List Line) (text : List ℕ) : Type 0 where
-  pub begun : Life
+  pub begun : Moment
   pub first : List ℕ
   pub begins : Begins per_ledger first begun
   pub rest : List ℕ
-  pub last : Life
+  pub last : Moment
   pub prints : Prints 2 begun lines rest last
   pub printed : text ≡ first ++ rest
 
@@ -111,13 +137,13 @@ Writes text old new (Err NoMemory) = Keeps old new
 Writes text old new (Err (ScriptLine k)) = ⊥
 
 -- lines were worked in order, or the first of them, and a front of what they print was written
-abbrev pub WorksFront : ℕ → Life → List Line → Option (List ℕ) → Option (List ℕ) → Type 0
+abbrev pub WorksFront : ℕ → Moment → List Line → Option (List ℕ) → Option (List ℕ) → Type 0
 WorksFront number old lines before after =
-    (worked : ℕ) × (text : List ℕ) × (new : Life) × Prints number old (take worked lines) text new
+    (worked : ℕ) × (text : List ℕ) × (new : Moment) × Prints number old (take worked lines) text new
     × (front : List ℕ) × IsFront front text × Appends before after front
 
-abbrev pub WorksLines : {X : Type 0} → ℕ → Life → List Line → Option (List ℕ) → Option (List ℕ) → Result X ProgramFault → Type 0
-WorksLines number old lines before after (Ok _) = (text : List ℕ) × (new : Life) × Prints number old lines text new × Appends before after text
+abbrev pub WorksLines : {X : Type 0} → ℕ → Moment → List Line → Option (List ℕ) → Option (List ℕ) → Result X ProgramFault → Type 0
+WorksLines number old lines before after (Ok _) = (text : List ℕ) × (new : Moment) × Prints number old lines text new × Appends before after text
 WorksLines number old lines before after (Err Device) = WorksFront number old lines before after
 WorksLines number old lines before after (Err NoMemory) = WorksFront number old lines before after
 WorksLines number old lines before after (Err (ScriptLine k)) = ⊥
@@ -131,17 +157,17 @@ IfRemembered (Err (ScriptLine k)) P = P
 
 -- The task of a line was worked, and what it prints written; where that went well the replay lives on. Where memory was refused
 -- nothing was written.
-pub record WorksTask {R : Type 0} (lives : R → Life → Type 0) (number : ℕ) (old : Life) (task : Task) (before after : Option (List ℕ)) (result : Result R ProgramFault) : Type 0 where
+pub record WorksTask {R : Type 0} (lives : R → Moment → Type 0) (number : ℕ) (old : Moment) (task : Task) (before after : Option (List ℕ)) (result : Result R ProgramFault) : Type 0 where
   pub text : List ℕ
-  pub new : Life
+  pub new : Moment
   pub step : IfRemembered result (TaskStep number old task text new)
   pub writes : Writes text before after result
   pub goes_on : IfOk result (λ replay. lives replay new)
 
 -- the first line was worked and written, or a front of it; or it couldn't be worked
-abbrev pub Begun : {R : Type 0} → (R → Life → Type 0) → ℕ → Option (List ℕ) → Option (List ℕ) → Result R ProgramFault → Type 0
-Begun lives per_ledger before after (Ok replay) = (text : List ℕ) × (life : Life) × Begins per_ledger text life × lives replay life × Appends before after text
-Begun lives per_ledger before after (Err Device) = Keeps before after ⊎ ((text : List ℕ) × (life : Life) × Begins per_ledger text life × (front : List ℕ) × IsFront front text × Appends before after front)
+abbrev pub Begun : {R : Type 0} → (R → Moment → Type 0) → ℕ → Option (List ℕ) → Option (List ℕ) → Result R ProgramFault → Type 0
+Begun lives per_ledger before after (Ok replay) = (text : List ℕ) × (begun : Moment) × Begins per_ledger text begun × lives replay begun × Appends before after text
+Begun lives per_ledger before after (Err Device) = Keeps before after ⊎ ((text : List ℕ) × (begun : Moment) × Begins per_ledger text begun × (front : List ℕ) × IsFront front text × Appends before after front)
 Begun lives per_ledger before after (Err NoMemory) = Keeps before after
 Begun lives per_ledger before after (Err (ScriptLine k)) = ⊥
 

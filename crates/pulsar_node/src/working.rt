@@ -1,11 +1,10 @@
 // A replay under way: the machine that it works the lines of a script on.
-ghost use Rattle.std.specs.Prelude.{◌≡◌, ◌+◌, ◌<◌, ◌≤◌, ◌^◌, IfOk, string_bytes};
-ghost use Rattle.node.specs.Driving.{Holds};
-ghost use Rattle.node.specs.Runs.{Life};
+ghost use Rattle.std.specs.Prelude.{◌≡◌, ◌+◌, ◌<◌, ◌≤◌, ◌^◌, [], IfOk, string_bytes};
+ghost use Rattle.node.specs.Driving.{shelf_in, Holds};
 ghost use Rattle.script.specs.Output.{output_line as line_of_output};
 ghost use Rattle.pulsar_node.specs.declared.event.Task.TheVariants as task;
 ghost use Rattle.pulsar_node.specs.Event.{task_of};
-ghost use Rattle.pulsar_node.specs.Replay.{printed_output, status_lines as lines_of_status, Begun, WorksTask, WorksLines, Writes};
+ghost use Rattle.pulsar_node.specs.Replay.{printed_output, status_lines as lines_of_status, Moment, Begun, WorksTask, WorksLines, Writes};
 
 use crate::event::{Task, outcome_of, task_of};
 use crate::fault::ProgramFault;
@@ -32,13 +31,13 @@ pub(crate) struct Replay {
     line: u64,
 }
 
-/// What a replay's machine lives through.
+/// What a replay's machine lives through, and with which device.
 trait Living {
-    ghost lives: { Self → Life → Type 0 };
+    ghost lives: { Self → Moment → Type 0 };
 }
 
 impl Living for Replay {
-    ghost lives = { λ replay life. Holds (⟦<MemShelf as Shelf>⟧.disk) replay.per_ledger replay.machine life };
+    ghost lives = { λ replay moment. (moment.device ≡ shelf_in replay.machine) × Holds (⟦<MemShelf as Shelf>⟧.disk) replay.per_ledger replay.machine moment.life };
 }
 
 impl Replay {
@@ -73,7 +72,7 @@ impl Replay {
     ) -> Result<(), ProgramFault>
         requires line { self.line ≡ 1 }
         requires numbered { 1 ≤ self.per_ledger }
-        ensures { (old : Life) → ⟦<Replay as Living>⟧.lives self old → WorksLines 2 old lines.items (W.contents writer.old) (W.contents writer.new) result }
+        ensures { (old : Moment) → ⟦<Replay as Living>⟧.lives self old → WorksLines 2 old lines.items (W.contents writer.old) (W.contents writer.new) result }
     {
         for line in lines {
             self = self.work_line(line, writer)?;
@@ -85,7 +84,7 @@ impl Replay {
     fn work_line<W: Write>(mut self, line: Line, writer: &mut W) -> Result<Replay, ProgramFault>
         requires line { self.line + 1 < 2 ^ 64 }
         requires numbered { 1 ≤ self.per_ledger }
-        ensures works { (old : Life) → ⟦<Replay as Living>⟧.lives self old → WorksTask (⟦<Replay as Living>⟧.lives) (self.line + 1) old (task_of line) (W.contents writer.old) (W.contents writer.new) result }
+        ensures works { (old : Moment) → ⟦<Replay as Living>⟧.lives self old → WorksTask (⟦<Replay as Living>⟧.lives) (self.line + 1) old (task_of line) (W.contents writer.old) (W.contents writer.new) result }
         ensures line { IfOk result (λ replay. replay.line ≡ self.line + 1) }
         ensures per_ledger { IfOk result (λ replay. replay.per_ledger ≡ self.per_ledger) }
     {
@@ -99,47 +98,41 @@ impl Replay {
     }
 
     fn event<W: Write>(mut self, event: Event, writer: &mut W) -> Result<Replay, ProgramFault>
-        ensures works { (old : Life) → ⟦<Replay as Living>⟧.lives self old → WorksTask (⟦<Replay as Living>⟧.lives) self.line old (task.Event event) (W.contents writer.old) (W.contents writer.new) result }
+        ensures works { (old : Moment) → ⟦<Replay as Living>⟧.lives self old → WorksTask (⟦<Replay as Living>⟧.lives) self.line old (task.Event event) (W.contents writer.old) (W.contents writer.new) result }
         ensures line { IfOk result (λ replay. replay.line ≡ self.line) }
         ensures per_ledger { IfOk result (λ replay. replay.per_ledger ≡ self.per_ledger) }
     {
         let output = self.machine.event(self.alloc, event);
-        write_output(self.alloc, self.line, &output, writer)?;
-        Ok(self)
+        self.print(&output, writer)
     }
 
     fn arm<W: Write>(mut self, fuse: Fuse, writer: &mut W) -> Result<Replay, ProgramFault>
-        ensures works { (old : Life) → ⟦<Replay as Living>⟧.lives self old → WorksTask (⟦<Replay as Living>⟧.lives) self.line old (task.Arm fuse) (W.contents writer.old) (W.contents writer.new) result }
+        ensures works { (old : Moment) → ⟦<Replay as Living>⟧.lives self old → WorksTask (⟦<Replay as Living>⟧.lives) self.line old (task.Arm fuse) (W.contents writer.old) (W.contents writer.new) result }
         ensures line { IfOk result (λ replay. replay.line ≡ self.line) }
         ensures per_ledger { IfOk result (λ replay. replay.per_ledger ≡ self.per_ledger) }
     {
-        let outcome = match self.machine.arm(fuse) {
-            Ok(()) => Outcome::Done,
-            Err(_) => Outcome::Refused(StorageRefusal::NoMemory),
-        };
-        write_line(self.alloc, self.line, &[], outcome, writer)?;
-        Ok(self)
+        if self.machine.arm(fuse).is_err() {
+            return self.tell(Outcome::Refused(StorageRefusal::NoMemory), writer);
+        }
+        self.tell(Outcome::Done, writer)
     }
 
     fn crash<W: Write>(mut self, form: CrashForm, writer: &mut W) -> Result<Replay, ProgramFault>
         requires numbered { 1 ≤ self.per_ledger }
-        ensures works { (old : Life) → ⟦<Replay as Living>⟧.lives self old → WorksTask (⟦<Replay as Living>⟧.lives) self.line old (task.Crash form) (W.contents writer.old) (W.contents writer.new) result }
+        ensures works { (old : Moment) → ⟦<Replay as Living>⟧.lives self old → WorksTask (⟦<Replay as Living>⟧.lives) self.line old (task.Crash form) (W.contents writer.old) (W.contents writer.new) result }
         ensures line { IfOk result (λ replay. replay.line ≡ self.line) }
         ensures per_ledger { IfOk result (λ replay. replay.per_ledger ≡ self.per_ledger) }
     {
         if self.machine.arm(Fuse::CrashAs(form)).is_err() {
-            let outcome = Outcome::Refused(StorageRefusal::NoMemory);
-            write_line(self.alloc, self.line, &[], outcome, writer)?;
-            return Ok(self);
+            return self.tell(Outcome::Refused(StorageRefusal::NoMemory), writer);
         }
         let (machine, output) = self.machine.crash(self.alloc, self.per_ledger);
         self.machine = machine;
-        write_output(self.alloc, self.line, &output, writer)?;
-        Ok(self)
+        self.print(&output, writer)
     }
 
     fn status<W: Write>(self, writer: &mut W) -> Result<Replay, ProgramFault>
-        ensures works { (old : Life) → ⟦<Replay as Living>⟧.lives self old → WorksTask (⟦<Replay as Living>⟧.lives) self.line old task.Status (W.contents writer.old) (W.contents writer.new) result }
+        ensures works { (old : Moment) → ⟦<Replay as Living>⟧.lives self old → WorksTask (⟦<Replay as Living>⟧.lives) self.line old task.Status (W.contents writer.old) (W.contents writer.new) result }
         ensures line { IfOk result (λ replay. replay.line ≡ self.line) }
         ensures per_ledger { IfOk result (λ replay. replay.per_ledger ≡ self.per_ledger) }
     {
@@ -148,6 +141,24 @@ impl Replay {
         };
         let text = status_text(self.alloc, &status)?;
         write_whole(text.as_bytes(), writer)?;
+        Ok(self)
+    }
+
+    // Writes the line of an output, and goes on.
+    fn print<W: Write>(self, output: &Output, writer: &mut W) -> Result<Replay, ProgramFault>
+        ensures writes { Writes (printed_output self.line output.now) (W.contents writer.old) (W.contents writer.new) result }
+        ensures same { IfOk result (λ replay. replay ≡ self) }
+    {
+        write_output(self.alloc, self.line, output, writer)?;
+        Ok(self)
+    }
+
+    // Writes a line without bytes, and goes on.
+    fn tell<W: Write>(self, outcome: Outcome, writer: &mut W) -> Result<Replay, ProgramFault>
+        ensures writes { Writes (line_of_output self.line [] outcome) (W.contents writer.old) (W.contents writer.new) result }
+        ensures same { IfOk result (λ replay. replay ≡ self) }
+    {
+        write_line(self.alloc, self.line, &[], outcome, writer)?;
         Ok(self)
     }
 }

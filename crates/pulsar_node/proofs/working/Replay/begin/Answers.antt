@@ -1,5 +1,6 @@
 use Rattle.std.proofs.Common.{refl}
 use Rattle.std.proofs.lemmas.Result.{err_from_is_err_and}
+use Rattle.node.specs.Driving.{shelf_in}
 use Rattle.session.specs.Broker.{fresh}
 use Rattle.pulsar_node.specs.declared.working.Replay.{Replay}
 use Rattle.pulsar_node.specs.contracts.working.ReplayLiving.TheImpl.{lives-value}
@@ -11,11 +12,11 @@ returns-in_err-write_output-clause-begun g c =
     let made = c.in_ok-init.ensures.made tt in
     let s = c.start-machine.ensures.step made.0 made.2 (record { topic = fresh c.args.per_ledger; broker = made.1; numbered = refl }) in
     let p = err_from_is_err_and c.from_residual-in_err-write_output.result c.from_residual-in_err-write_output.ensures.1 in
-    rw (p.1, p.2) (begin_fails {R = Replay} lives-value.it c.args.per_ledger _ s.0 _ _ c.in_err-write_output.field-0.0
+    rw (p.1, p.2) (begin_fails {R = Replay} lives-value.it c.args.per_ledger _ (record { life = s.0; device = shelf_in c.start-machine.result.0 }) _ _ c.in_err-write_output.field-0.0
     (record { made = made.0; broker = made.1; output = c.start-machine.result.1; opening = s.1; printed = refl }) c.in_err-write_output.ensures)
 
 pub returns-clause-begun : goal.returns-clause-begun
 returns-clause-begun g c =
     let made = c.in_ok-init.ensures.made tt in
     let s = c.start-machine.ensures.step made.0 made.2 (record { topic = fresh c.args.per_ledger; broker = made.1; numbered = refl }) in
-    (_, s.0, record { made = made.0; broker = made.1; output = c.start-machine.result.1; opening = s.1; printed = refl }, s.2, c.in_ok-write_output.ensures)
+    (_, record { life = s.0; device = shelf_in c.start-machine.result.0 }, record { made = made.0; broker = made.1; output = c.start-machine.result.1; opening = s.1; printed = refl }, (refl, s.2), c.in_ok-write_output.ensures)

@@ -1,15 +1,29 @@
-use Rattle.std.proofs.Common.{refl, inl, inr}
-use Rattle.std.proofs.lemmas.Result.{err_from_is_err_and}
-use Rattle.pulsar_node.proofs.Worked.{task_fails}
+use Rattle.std.proofs.Common.{refl, sym, ◌∙◌, inl, inr}
+use Rattle.disk.specs.declared.crash_shelf.Fuse.TheVariants as fuse
+use Rattle.node.specs.Driving.{shelf_in}
+use Rattle.pulsar_node.specs.contracts.working.ReplayLiving.TheImpl.{lives-value}
+use Rattle.pulsar_node.specs.declared.event.Task.TheVariants as task
+use Rattle.pulsar_node.specs.declared.working.Replay.{Replay}
+use Rattle.pulsar_node.specs.Replay.{Moment}
+use Rattle.pulsar_node.proofs.Worked.{task_told, lays, lays_none, is_ok_so, is_err_so}
 use Rattle.pulsar_node.proofs.working.Replay.crash.Goals as goal
 
-pub returns-in_err-write_line-clause-works : goal.returns-in_err-write_line-clause-works
-returns-in_err-write_line-clause-works g c = λ old lives.
-    let p = err_from_is_err_and c.from_residual.result c.from_residual.ensures.1 in
-    rw (p.1, p.2) (task_fails _ c.args.self.line old _ _ old _ _ c.in_err-write_line.field-0.0 (inr (refl, refl)) c.in_err-write_line.ensures)
+pub returns-then-is_err-clause-works : goal.returns-then-is_err-clause-works
+returns-then-is_err-clause-works g c = λ old lives.
+    let arm = c.arm.ensures in
+    let device = shelf_in c.arm.new.self in
+    let refused = is_err_so c.arm.result (sym c.is_err.ensures.value ∙ c.if-is_err.true) arm.refused in
+    let none = lays_none old (shelf_in c.args.self.machine) device lives.0 arm.same refused in
+    task_told {R = Replay} lives-value.it c.args.self.line old (task.Crash c.args.form) _ (record { life = old.life; device = device }) _ _ _ c.tell.result
+    c.tell.ensures.writes c.tell.ensures.same (inr (none, refl)) (refl, arm.holds c.args.self.per_ledger old.life lives.1)
 
-pub returns-in_err-write_output-clause-works : goal.returns-in_err-write_output-clause-works
-returns-in_err-write_output-clause-works g c = λ old lives.
-    let s = c.crash-machine.ensures.step old (c.arm.ensures c.args.self.per_ledger old lives) in
-    let p = err_from_is_err_and c.from_residual-in_err-write_output.result c.from_residual-in_err-write_output.ensures.1 in
-    rw (p.1, p.2) (task_fails _ c.args.self.line old _ _ s.0 _ _ c.in_err-write_output.field-0.0 (inl (record { output = c.crash-machine.result.1; step = s.1; printed = refl })) c.in_err-write_output.ensures)
+pub returns-clause-works : goal.returns-clause-works
+returns-clause-works g c = λ old lives.
+    let arm = c.arm.ensures in
+    let device = shelf_in c.arm.new.self in
+    let ordered : Moment = record { life = old.life; device = device } in
+    let armed = is_ok_so c.arm.result (sym c.is_err.ensures.value ∙ c.if-is_err.false) arm.armed in
+    let laid = lays old (shelf_in c.args.self.machine) device lives.0 arm.same (fuse.CrashAs c.args.form) armed in
+    let s = c.crash-machine.ensures.step old.life (arm.holds c.args.self.per_ledger old.life lives.1) in
+    task_told {R = Replay} lives-value.it c.args.self.line old (task.Crash c.args.form) _ (record { life = s.0; device = shelf_in c.crash-machine.result.0 }) _ _ _ c.print.result
+    c.print.ensures.writes c.print.ensures.same (inl (ordered, laid, record { output = c.crash-machine.result.1; step = s.1; cut = c.crash-machine.ensures.cut; printed = refl })) (refl, s.2)

@@ -1,10 +1,13 @@
 use Rattle.std.proofs.Common.{refl}
-use Rattle.std.proofs.lemmas.Result.{err_from_is_err_and}
-use Rattle.pulsar_node.proofs.Worked.{task_fails}
+use Rattle.node.specs.Driving.{shelf_in}
+use Rattle.pulsar_node.specs.contracts.working.ReplayLiving.TheImpl.{lives-value}
+use Rattle.pulsar_node.specs.declared.event.Task.TheVariants as task
+use Rattle.pulsar_node.specs.declared.working.Replay.{Replay}
+use Rattle.pulsar_node.proofs.Worked.{task_told}
 use Rattle.pulsar_node.proofs.working.Replay.event.Goals as goal
 
-pub returns-in_err-write_output-clause-works : goal.returns-in_err-write_output-clause-works
-returns-in_err-write_output-clause-works g c = λ old lives.
-    let s = c.event-output.ensures.step c.args.self.per_ledger old lives in
-    let p = err_from_is_err_and c.from_residual.result c.from_residual.ensures.1 in
-    rw (p.1, p.2) (task_fails _ c.args.self.line old _ _ s.0 _ _ c.in_err-write_output.field-0.0 (record { output = c.event-output.result; step = s.1; printed = refl }) c.in_err-write_output.ensures)
+pub returns-clause-works : goal.returns-clause-works
+returns-clause-works g c = λ old lives.
+    let s = c.event-output.ensures.step c.args.self.per_ledger old.life lives.1 in
+    task_told {R = Replay} lives-value.it c.args.self.line old (task.Event c.args.event) _ (record { life = s.0; device = shelf_in c.event-output.new.self }) _ _ _ c.print.result
+    c.print.ensures.writes c.print.ensures.same (record { output = c.event-output.result; step = s.1; printed = refl }) (refl, s.2)

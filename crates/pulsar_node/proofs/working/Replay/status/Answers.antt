@@ -22,7 +22,7 @@ pub returns-in_err-write_whole-clause-works : goal.returns-in_err-write_whole-cl
 returns-in_err-write_whole-clause-works g c = λ old lives.
     let p = err_from_is_err_and c.from_residual-in_err-write_whole.result c.from_residual-in_err-write_whole.ensures.1 in
     let status = c.in-Some.status in
-    let known : node.StatusOf old.up old.state (Some status) = subst (λ (o : Option TopicStatus). node.StatusOf old.up old.state o) c.in-Some.is (c.in_ok-status.ensures.status c.args.self.per_ledger old lives) in
+    let known : node.StatusOf old.life.up old.life.state (Some status) = subst (λ (o : Option TopicStatus). node.StatusOf old.life.up old.life.state o) c.in-Some.is (c.in_ok-status.ensures.status c.args.self.per_ledger old.life lives.1) in
     let same : c.as_bytes.result.now ≡ lines_of status = c.as_bytes.ensures.value ∙ c.in_ok-text.ensures in
     let told = subst (λ (t : List ℕ). Tells old t old) (sym same) (tells old status known) in
     rw (p.1, p.2) (task_fails _ c.args.self.line old _ c.as_bytes.result.now old _ _ c.in_err-write_whole.field-0.0 told c.in_err-write_whole.ensures)
@@ -31,7 +31,20 @@ pub returns-in_default-clause-works : goal.returns-in_default-clause-works
 returns-in_default-clause-works g c = λ old lives. record {
   text = [];
   new = old;
-  step = tells_nothing old c.in_ok-status.field-0 c.in_default.is (c.in_ok-status.ensures.status c.args.self.per_ledger old lives);
+  step = tells_nothing old c.in_ok-status.field-0 c.in_default.is (c.in_ok-status.ensures.status c.args.self.per_ledger old.life lives.1);
   writes = Appends-kept_all _ _ (Keeps-refl _);
   goes_on = lives;
 }
+
+pub returns-clause-works : goal.returns-clause-works
+returns-clause-works g c = λ old lives.
+    let status = c.in-Some.status in
+    let known : node.StatusOf old.life.up old.life.state (Some status) = subst (λ (o : Option TopicStatus). node.StatusOf old.life.up old.life.state o) c.in-Some.is (c.in_ok-status.ensures c.args.self.per_ledger old.life lives.1) in
+    let same : c.as_bytes.result.now ≡ lines_of status = c.as_bytes.ensures.value ∙ c.in_ok-text.ensures in
+    record {
+      text = c.as_bytes.result.now;
+      new = old;
+      step = subst (λ (t : List ℕ). Tells old t old) (sym same) (tells old status known);
+      writes = c.in_ok-write_whole.ensures;
+      goes_on = lives;
+    }

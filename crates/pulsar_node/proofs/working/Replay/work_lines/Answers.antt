@@ -1,11 +1,12 @@
-use Rattle.std.proofs.Common.{Err, ◌≡◌, ◌∷◌, ◌+◌, ℕ, [], length, sym, ap, subst, ◌∙◌, List, arith, length-append}
+use Rattle.std.proofs.Common.{rules, Err, ◌≡◌, ◌∷◌, ◌+◌, ℕ, [], length, sym, ap, subst, refl, ◌∙◌, List, arith, length-append}
 use Rattle.std.specs.Vec.Iter.{into_iter_items}
-use Rattle.std.proofs.KnownBytes.{Appends-trans}
+use Rattle.std.proofs.KnownBytes.{Appends-trans, Keeps-refl}
 use Rattle.std.proofs.lemmas.Result.{err_from_is_err_and}
 use Rattle.script.specs.declared.line.Line.{Line}
 use Rattle.pulsar_node.specs.declared.working.Replay.{Replay}
 use Rattle.pulsar_node.specs.Replay.{IfRemembered, LineStep, Prints}
 use Rattle.pulsar_node.proofs.Worked.{Prints-more, one_more_fails, writes_fault, remembered_fault, next_of_whole, worked_all}
+use Rattle.pulsar_node.proofs.Written.{Appends-kept_all}
 use Rattle.pulsar_node.proofs.working.Replay.work_lines.Goals as goal
 
 pub work_line-requires-clause-line : goal.work_line-requires-clause-line
@@ -24,6 +25,16 @@ work_line-requires-clause-line g c =
 
 pub work_line-requires-clause-numbered : goal.work_line-requires-clause-numbered
 work_line-requires-clause-numbered g c = c.loop-line.invariant.numbered
+
+pub loop-line-init : goal.loop-line-init
+loop-line-init g c = record {
+  starts = tt;
+  ends = tt;
+  all = search rules;
+  line = c.requires.line;
+  numbered = c.requires.numbered;
+  worked = λ old lives. ([], old, (refl, refl), lives, Appends-kept_all _ _ (Keeps-refl _));
+}
 
 pub loop-line-preserved : goal.loop-line-preserved
 loop-line-preserved g c =

@@ -2,9 +2,8 @@ use Rattle.std.proofs.Common.{◌≡◌, ◌+◌, ◌≤◌, ◌++◌, ℕ, List
 use Rattle.std.specs.Io.KnownBytes.{Appends}
 use Rattle.std.specs.Vec.Iter.{into_iter_items}
 use Rattle.disk_mem.specs.Device.{disk_of}
-use Rattle.node.specs.Runs.{Life}
-use Rattle.node.specs.Driving.{Holds}
-use Rattle.pulsar_node.specs.Replay.{Prints}
+use Rattle.node.specs.Driving.{shelf_in, Holds}
+use Rattle.pulsar_node.specs.Replay.{Moment, Prints}
 use Rattle.pulsar_node.proofs.working.Replay.work_lines.Given as goal
 
 -- the lines so far were worked, and what they print was written
@@ -16,10 +15,10 @@ invariant-loop-line g l = record {
   line : l.self.line ≡ length l.yielded + 1;
   numbered : 1 ≤ l.self.per_ledger;
   worked :
-      (old : Life) → Holds disk_of l.fn.self.per_ledger l.fn.self.machine old
+      (old : Moment) → (old.device ≡ shelf_in l.fn.self.machine) × Holds disk_of l.fn.self.per_ledger l.fn.self.machine old.life
       → (text : List ℕ)
-      × (mid : Life)
+      × (mid : Moment)
       × Prints 2 old l.yielded text mid
-      × Holds disk_of l.self.per_ledger l.self.machine mid
+      × ((mid.device ≡ shelf_in l.self.machine) × Holds disk_of l.self.per_ledger l.self.machine mid.life)
       × Appends (g.W.Write.contents l.fn.writer) (g.W.Write.contents l.writer) text;
 }
