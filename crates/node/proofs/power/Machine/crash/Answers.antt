@@ -8,32 +8,32 @@ use Rattle.node.proofs.power.Machine.crash.Goals as goal
 
 pub returns-clause-cut : goal.returns-clause-cut
 returns-clause-cut g c =
-    let cut = c.cut_power.ensures in
-    let same = c.into_shelf-shelf.ensures.device in
+    let cut = c.cut_power-shelf.ensures in
+    let same = c.into_shelf.ensures.device in
     let laid = g.S.CrashShelf.laid in
     let left_as = g.S.CrashShelf.left_as in record {
-      between = c.cut_power.result;
-      left = subst (λ s. left_as (laid s).form s c.cut_power.result) same cut.form;
+      between = c.cut_power-shelf.result;
+      left = subst (λ s. left_as (laid s).form s c.cut_power-shelf.result) same cut.form;
       burnt = cut.burnt ∙ ap (λ s. burnt_by (laid s)) same;
       seen = c.start.ensures.seen;
     }
 
 pub returns-clause-step : goal.returns-clause-step
 returns-clause-step g c = λ old h.
-    let r = c.into_shelf-shelf.ensures.at_rest c.args.per_ledger old h in
+    let r = c.into_shelf.ensures.at_rest c.args.per_ledger old h in
     c.start.ensures.step old.state
-    (after_crash g.T.TopicStore.stands old.state (g.S.Shelf.disk c.into_shelf-shelf.result) (g.S.Shelf.disk c.cut_power.result) r (c.cut_power.ensures.time r.honest) c.cut_power.ensures.kept)
+    (after_crash g.T.TopicStore.stands old.state (g.S.Shelf.disk c.into_shelf.result) (g.S.Shelf.disk c.cut_power-shelf.result) r (c.cut_power-shelf.ensures.time r.honest) c.cut_power-shelf.ensures.kept)
     (holds_served g.S.Shelf.disk c.args.per_ledger c.args.self old h)
 
 pub returns-clause-any_moment : goal.returns-clause-any_moment
 returns-clause-any_moment g c = λ old h.
     let stands = g.T.TopicStore.stands in
     let disk = g.S.Shelf.disk in
-    let d0 = disk c.into_shelf-shelf.result in
-    let d1 = disk c.cut_power.result in
+    let d0 = disk c.into_shelf.result in
+    let d1 = disk c.cut_power-shelf.result in
     let d2 = disk_in disk c.start.result.0 in
-    let r = c.into_shelf-shelf.ensures.at_rest c.args.per_ledger old h in
-    let time = c.cut_power.ensures.time r.honest in
-    let rest = after_crash stands old.state d0 d1 r time c.cut_power.ensures.kept in
-    subst (λ s. Leaves (StandsForBroker stands old.state.broker) (disk s) d2) c.into_shelf-shelf.ensures.device
+    let r = c.into_shelf.ensures.at_rest c.args.per_ledger old h in
+    let time = c.cut_power-shelf.ensures.time r.honest in
+    let rest = after_crash stands old.state d0 d1 r time c.cut_power-shelf.ensures.kept in
+    subst (λ s. Leaves (StandsForBroker stands old.state.broker) (disk s) d2) c.into_shelf.ensures.device
     (crash_leaves stands old.state d0 d1 d2 r time (c.start.ensures.any_moment old.state rest))
