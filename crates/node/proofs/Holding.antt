@@ -10,7 +10,7 @@ use Rattle.subscriptions.proofs.Kept.{after_parts}
 use Rattle.reply_queues.specs.Replies.{SessionReplies, is_for, due_to, queued, collected_from, hand_on, make_due, take_back, refuse_pending}
 use Rattle.topic_core.proofs.Receipts.{all-append}
 use Rattle.node.specs.Moves.{Handed}
-use Rattle.node.specs.Promising.{Promise, IsKept, Owed, Word, is_of, unless_of, released, with_owed, is_to, first_owed, without_first, is_acceptance, promised, promised_by, told, IsInTurn}
+use Rattle.node.specs.Promising.{Promise, IsKept, Owed, Word, Release, is_released, unless_released, released, with_owed, is_to, first_owed, without_first, is_acceptance, promised, promised_by, told, IsInTurn}
 use Rattle.node.proofs.Lasting.{Lasts, LastsBehind, lasts_front, lasts_behind, behind_last, behind_all}
 use Rattle.node.proofs.Queues.{Debt, Due, HandedOn, Pending, hands_on, makes_due, takes_back, refuses, debts_to, AreWithin, by_session, debts-queued, others-queued, debts-collected, others-collected, debts-left, others-left, debts-handed_on, debts-made_due, debts-taken_back, debts-refused, debts-due}
 use Rattle.node.proofs.Turns.{IsDue, IsPending, IsOwed, Matches, HasFirst, to_each, due_more, pending_more, now_due, now_refused, matches_more, matches_first, matches_to, matches_each, matches_turned, matches_due, owed_to, owed-map, owed-more, first-owed, first-gone, others-stay, left-none, left-others}
@@ -32,29 +32,29 @@ pub record Holds (n : ℕ) (changes : List Record) (kept : Kept) (queues : List 
 other_lists : (R : Owed → Debt → Type 0) (ds ds' : List Debt) (os os' : List Owed) → ds' ≡ ds → os' ≡ os → Matches R ds os → Matches R ds' os'
 other_lists R ds ds' os os' debts owed all = subst (λ (x : List Debt). Matches R x os') (sym debts) (subst (λ (x : List Owed). Matches R ds x) (sym owed) all)
 
--- a promise that stays where a subscription is removed
-abbrev pub Remains : Option (List ℕ) → Promise → Type 0
+-- a promise that isn't released
+abbrev pub Remains : Option Release → Promise → Type 0
 Remains None p = Unit {0}
-Remains (Some name) p = is_of name p ≡ false
+Remains (Some release) p = is_released release p ≡ false
 
-module _ (P P' : Promise → Type 0) (name : List ℕ) (f : (p : Promise) → is_of name p ≡ false → P p → P' p) where
-  each_remaining : (o : Option Promise) → AllByRecursion P (promised o) → AllByRecursion P' (promised (unless_of name o))
+module _ (P P' : Promise → Type 0) (release : Release) (f : (p : Promise) → is_released release p ≡ false → P p → P' p) where
+  each_remaining : (o : Option Promise) → AllByRecursion P (promised o) → AllByRecursion P' (promised (unless_released release o))
   each_remaining None all = tt
-  each_remaining (Some p) all = elim (is_of name p) as (λ b. is_of name p ≡ b → AllByRecursion P' (promised (cond b None (Some p)))) [
+  each_remaining (Some p) all = elim (is_released release p) as (λ b. is_released release p ≡ b → AllByRecursion P' (promised (cond b None (Some p)))) [
     | true ↦ λ _. tt
     | false ↦ λ other. (f p other all.0, tt)
   ] refl
 
-  given_remaining : (ps : List Promise) → AllByRecursion P ps → AllByRecursion P' (filter (λ p. not (is_of name p)) ps)
+  given_remaining : (ps : List Promise) → AllByRecursion P ps → AllByRecursion P' (filter (λ p. not (is_released release p)) ps)
   given_remaining [] all = tt
-  given_remaining (p ∷ ps) all = elim (is_of name p) as (λ b. is_of name p ≡ b → AllByRecursion P' (cond (not b) (p ∷ filter (λ x. not (is_of name x)) ps) (filter (λ x. not (is_of name x)) ps))) [
+  given_remaining (p ∷ ps) all = elim (is_released release p) as (λ b. is_released release p ≡ b → AllByRecursion P' (cond (not b) (p ∷ filter (λ x. not (is_released release x)) ps) (filter (λ x. not (is_released release x)) ps))) [
     | true ↦ λ _. given_remaining ps all.1
     | false ↦ λ other. (f p other all.0, given_remaining ps all.1)
   ] refl
 
   -- what is left of an owed answer
   abbrev unless : Owed → Owed
-  unless o = record o { promise = unless_of name o.promise }
+  unless o = record o { promise = unless_released release o.promise }
 
   due_remaining : (o : Owed) (r : Reply) → IsDue P o r → IsDue P' (unless o) r
   due_remaining o r is = record { reply = is.reply; answers = is.answers; same = is.same; kept = λ accepted. each_remaining o.promise (is.kept accepted) }
@@ -64,14 +64,14 @@ module _ (P P' : Promise → Type 0) (name : List ℕ) (f : (p : Promise) → is
 
 -- more is kept of what remains
 module _ (n n' : ℕ) (cs cs' : List Record) (kept kept' : Kept) where
-  abbrev More : Option (List ℕ) → (Promise → Type 0) → (Promise → Type 0) → Type 0
-  More removed P P' = (p : Promise) → Remains removed p → P p → P' p
+  abbrev More : Option Release → (Promise → Type 0) → (Promise → Type 0) → Type 0
+  More release P P' = (p : Promise) → Remains release p → P p → P' p
 
-  stands_remaining : (name : List ℕ) → More (Some name) (Lasts cs kept) (Lasts cs' kept') → More (Some name) (LastsBehind n cs kept) (LastsBehind n' cs' kept') → More (Some name) (Lands cs kept) (Lands cs' kept')
-      → (o : Owed) (d : Debt) → Stands n cs kept o d → Stands n' cs' kept' (record o { promise = unless_of name o.promise }) d
-  stands_remaining name f g h o (Due r) is = due_remaining (Lasts cs kept) (Lasts cs' kept') name f o r is
-  stands_remaining name f g h o (HandedOn r) is = pending_remaining (LastsBehind n cs kept) (LastsBehind n' cs' kept') name g o r is
-  stands_remaining name f g h o (Pending r) is = pending_remaining (Lands cs kept) (Lands cs' kept') name h o r is
+  stands_remaining : (release : Release) → More (Some release) (Lasts cs kept) (Lasts cs' kept') → More (Some release) (LastsBehind n cs kept) (LastsBehind n' cs' kept') → More (Some release) (Lands cs kept) (Lands cs' kept')
+      → (o : Owed) (d : Debt) → Stands n cs kept o d → Stands n' cs' kept' (record o { promise = unless_released release o.promise }) d
+  stands_remaining release f g h o (Due r) is = due_remaining (Lasts cs kept) (Lasts cs' kept') release f o r is
+  stands_remaining release f g h o (HandedOn r) is = pending_remaining (LastsBehind n cs kept) (LastsBehind n' cs' kept') release g o r is
+  stands_remaining release f g h o (Pending r) is = pending_remaining (Lands cs kept) (Lands cs' kept') release h o r is
 
   stands_more : More None (Lasts cs kept) (Lasts cs' kept') → More None (LastsBehind n cs kept) (LastsBehind n' cs' kept') → More None (Lands cs kept) (Lands cs' kept')
       → (o : Owed) (d : Debt) → Stands n cs kept o d → Stands n' cs' kept' o d
@@ -79,19 +79,19 @@ module _ (n n' : ℕ) (cs cs' : List Record) (kept kept' : Kept) where
   stands_more f g h o (HandedOn r) is = pending_more (LastsBehind n cs kept) (LastsBehind n' cs' kept') (λ p. g p tt) o r is
   stands_more f g h o (Pending r) is = pending_more (Lands cs kept) (Lands cs' kept') (λ p. h p tt) o r is
 
-  pub holds_released : (removed : Option (List ℕ)) (qs : List SessionReplies) (word : Word) → More removed (Lasts cs kept) (Lasts cs' kept') → More removed (LastsBehind n cs kept) (LastsBehind n' cs' kept')
-      → More removed (Lands cs kept) (Lands cs' kept') → Holds n cs kept qs word → Holds n' cs' kept' qs (released removed word)
+  pub holds_released : (release : Option Release) (qs : List SessionReplies) (word : Word) → More release (Lasts cs kept) (Lasts cs' kept') → More release (LastsBehind n cs kept) (LastsBehind n' cs' kept')
+      → More release (Lands cs kept) (Lands cs' kept') → Holds n cs kept qs word → Holds n' cs' kept' qs (released release word)
   holds_released None qs word f g h holds = record {
     turns = λ who. matches_to (Stands n cs kept) (Stands n' cs' kept') (stands_more f g h) (debts_to who qs) (owed_to who word.owed) (holds.turns who);
     given = to_each (Lasts cs kept) (Lasts cs' kept') (λ p is. f p tt is) word.given holds.given;
   }
-  holds_released (Some name) qs word f g h holds =
-      let change : Owed → Owed = λ o. record o { promise = unless_of name o.promise } in
+  holds_released (Some release) qs word f g h holds =
+      let change : Owed → Owed = λ o. record o { promise = unless_released release o.promise } in
       record {
         turns = λ who.
             other_lists (Stands n' cs' kept') (debts_to who qs) (debts_to who qs) _ _ refl (owed-map change (λ o. refl) who word.owed)
-            (matches_each (Stands n cs kept) (Stands n' cs' kept') change (stands_remaining name f g h) (debts_to who qs) (owed_to who word.owed) (holds.turns who));
-        given = given_remaining (Lasts cs kept) (Lasts cs' kept') name f word.given holds.given;
+            (matches_each (Stands n cs kept) (Stands n' cs' kept') change (stands_remaining release f g h) (debts_to who qs) (owed_to who word.owed) (holds.turns who));
+        given = given_remaining (Lasts cs kept) (Lasts cs' kept') release f word.given holds.given;
       }
 
 module _ (n : ℕ) (cs : List Record) (kept : Kept) (qs : List SessionReplies) (word : Word) (h : Holds n cs kept qs word) where

@@ -1,4 +1,4 @@
--- Durable subscriptions keep a promise through records of their form, until one removes its subscription.
+-- Durable subscriptions keep a promise through records of their form, until one removes its subscription, or makes the one that is gone.
 use Rattle.std.proofs.Common.{◌≡◌, ◌∙◌, ℕ, zero, suc, ◌+◌, ◌≤◌, Bool, true, false, cond, ◌||◌, Some, None, List, [], ◌∷◌, ◌++◌, length, take, drop, refl, sym, ap, subst, arith}
 use Rattle.std.proofs.lemmas.List.{take_all, drop_all, take-append-le, drop-append-le}
 use Rattle.std.specs.List.{AllByRecursion}
@@ -11,15 +11,20 @@ use Rattle.records.specs.declared.record.Record.TheVariants.{Made, Removed, Ackn
 use Rattle.records.specs.Maps.{Kept}
 use Rattle.records.specs.Records.{after, after_all, changed, changed_at, acknowledged, IsFormed, AreFormed}
 use Rattle.subscriptions.proofs.Kept.{same_name, get_insert, get_remove, after_append, after_parts}
-use Rattle.node.specs.Promising.{Promise, IsKept}
+use Rattle.node.specs.Promising.{Promise, There, Gone, HasAcked, IsKept}
 
--- a record that isn't the removal of this subscription
-abbrev pub Spares : List ℕ → Record → Type 0
-Spares name (Made made start) = Unit {0}
-Spares name (Removed removed) = bytes_eq name removed ≡ false
-Spares name (Acknowledged acked position) = Unit {0}
-Spares name (AcknowledgedThrough acked position) = Unit {0}
-Spares name (AcknowledgedRange acked first last) = Unit {0}
+-- a record that isn't the removal of a subscription that is there, nor makes one that is gone
+abbrev pub Spares : Promise → Record → Type 0
+Spares (There name positions) (Made made start) = Unit {0}
+Spares (There name positions) (Removed removed) = bytes_eq name removed ≡ false
+Spares (There name positions) (Acknowledged acked position) = Unit {0}
+Spares (There name positions) (AcknowledgedThrough acked position) = Unit {0}
+Spares (There name positions) (AcknowledgedRange acked first last) = Unit {0}
+Spares (Gone name) (Made made start) = bytes_eq name made ≡ false
+Spares (Gone name) (Removed removed) = Unit {0}
+Spares (Gone name) (Acknowledged acked position) = Unit {0}
+Spares (Gone name) (AcknowledgedThrough acked position) = Unit {0}
+Spares (Gone name) (AcknowledgedRange acked first last) = Unit {0}
 
 -- a promise is kept by what each front of some records makes of the durable subscriptions
 abbrev pub Lasts : List Record → Kept → Promise → Type 0
@@ -35,9 +40,8 @@ LastsBehind n rs kept p = Lasts (drop n rs) (after_all (take n rs) kept) p
 none_some : (s : Positions) → None ≡ Some s → ⊥
 none_some s is = cc
 
--- the look-up of another name
-kept_other : (kept kept' : Kept) (p : Promise) → map.get kept' p.name ≡ map.get kept p.name → IsKept kept p → IsKept kept' p
-kept_other kept kept' p same is = record { acked = is.acked; there = same ∙ is.there; each = is.each }
+some_same : (s s' : Positions) → Some s ≡ Some s' → s ≡ s'
+some_same s s' is = cc
 
 has_more : (a b : Bool) → a ≡ true → (a || b) ≡ true
 has_more true b h = refl
@@ -47,44 +51,79 @@ more_or : (a b : Bool) → b ≡ true → (a || b) ≡ true
 more_or true b h = refl
 more_or false b h = h
 
-kept_made : (kept : Kept) (n : List ℕ) (s : Positions) (p : Promise) → map.get kept n ≡ None → IsKept kept p → IsKept (map.insert kept n s) p
-kept_made kept n s p none is =
-    elim (bytes_eq p.name n) as (λ b. bytes_eq p.name n ≡ b → map.get (map.insert kept n s) p.name ≡ cond b (Some s) (map.get kept p.name) → IsKept (map.insert kept n s) p) [
-      | true ↦ λ same _. absurd (none_some is.acked (sym none ∙ ap (map.get kept) (sym (same_name p.name n same)) ∙ is.there))
-      | false ↦ λ _ found. kept_other kept (map.insert kept n s) p found is
-    ] refl (get_insert kept n s p.name)
+-- a set that only grows
+abbrev Grows : (Positions → Positions) → Type 0
+Grows f = (s : Positions) (i : ℕ) → Has s i → Has (f s) i
 
-kept_removed : (kept : Kept) (n : List ℕ) (p : Promise) → bytes_eq p.name n ≡ false → IsKept kept p → IsKept (map.remove kept n) p
-kept_removed kept n p other is = kept_other kept (map.remove kept n) p (get_remove kept n p.name ∙ ap (λ b. cond b None (map.get kept p.name)) other) is
+grows_by_one : (n : List ℕ) (position : ℕ) → Grows (acknowledged (Acknowledged n position))
+grows_by_one n position s i has = has_insert s position i ∙ more_or _ (set.contains s i) has
 
-some_same : (s s' : Positions) → Some s ≡ Some s' → s ≡ s'
-some_same s s' is = cc
+grows_through : (n : List ℕ) (position : ℕ) → Grows (acknowledged (AcknowledgedThrough n position))
+grows_through n position s i has = has_union s (below (position + 1)) i ∙ has_more (set.contains s i) _ has
 
-kept_changed : (kept : Kept) (n : List ℕ) (f : Positions → Positions) (p : Promise) → ((s : Positions) (i : ℕ) → Has s i → Has (f s) i) → IsKept kept p → IsKept (changed kept n f) p
-kept_changed kept n f p more is = elim (map.get kept n) as (λ o. map.get kept n ≡ o → IsKept (changed_at o kept n f) p) [
-  | None ↦ λ _. is
-  | Some s ↦ λ there.
-      elim (bytes_eq p.name n) as (λ b. bytes_eq p.name n ≡ b → map.get (map.insert kept n (f s)) p.name ≡ cond b (Some (f s)) (map.get kept p.name) → IsKept (map.insert kept n (f s)) p) [
-        | true ↦ λ same found.
-            let one : is.acked ≡ s = some_same is.acked s (sym is.there ∙ ap (map.get kept) (same_name p.name n same) ∙ there) in
-            record { acked = f s; there = found; each = λ i has. more s i (subst (λ (x : Positions). Has x i) one (is.each i has)) }
-        | false ↦ λ _ found. kept_other kept (map.insert kept n (f s)) p found is
-      ] refl (get_insert kept n (f s) p.name)
-] refl
+grows_by_range : (n : List ℕ) (first last : ℕ) → Grows (acknowledged (AcknowledgedRange n first last))
+grows_by_range n first last s i has = has_union s (between first (last + 1)) i ∙ has_more (set.contains s i) _ has
 
-kept_after : (e : ℕ) (kept : Kept) (r : Record) (p : Promise) → IsFormed e kept r → Spares p.name r → IsKept kept p → IsKept (after r kept) p
-kept_after e kept (Made n start) p formed spares is = kept_made kept n (below start) p formed.placed.0.not_there is
-kept_after e kept (Removed n) p formed spares is = kept_removed kept n p spares is
-kept_after e kept (Acknowledged n position) p formed spares is =
-    kept_changed kept n (acknowledged (Acknowledged n position)) p (λ s i has. has_insert s position i ∙ more_or _ (set.contains s i) has) is
-kept_after e kept (AcknowledgedThrough n position) p formed spares is =
-    kept_changed kept n (acknowledged (AcknowledgedThrough n position)) p (λ s i has. has_union s (below (position + 1)) i ∙ has_more (set.contains s i) _ has) is
-kept_after e kept (AcknowledgedRange n first last) p formed spares is =
-    kept_changed kept n (acknowledged (AcknowledgedRange n first last)) p (λ s i has. has_union s (between first (last + 1)) i ∙ has_more (set.contains s i) _ has) is
+-- of a subscription that is there
+module _ (kept : Kept) (name : List ℕ) (acked : Positions) (is : HasAcked kept name acked) where
+  -- the look-up of another name
+  there_other : (kept' : Kept) → map.get kept' name ≡ map.get kept name → HasAcked kept' name acked
+  there_other kept' same = record { acked = is.acked; there = same ∙ is.there; each = is.each }
+
+  there_made : (n : List ℕ) (s : Positions) → map.get kept n ≡ None → HasAcked (map.insert kept n s) name acked
+  there_made n s none =
+      elim (bytes_eq name n) as (λ b. bytes_eq name n ≡ b → map.get (map.insert kept n s) name ≡ cond b (Some s) (map.get kept name) → HasAcked (map.insert kept n s) name acked) [
+        | true ↦ λ same _. absurd (none_some is.acked (sym none ∙ ap (map.get kept) (sym (same_name name n same)) ∙ is.there))
+        | false ↦ λ _ found. there_other (map.insert kept n s) found
+      ] refl (get_insert kept n s name)
+
+  there_removed : (n : List ℕ) → bytes_eq name n ≡ false → HasAcked (map.remove kept n) name acked
+  there_removed n other = there_other (map.remove kept n) (get_remove kept n name ∙ ap (λ b. cond b None (map.get kept name)) other)
+
+  there_changed : (n : List ℕ) (f : Positions → Positions) → Grows f → HasAcked (changed kept n f) name acked
+  there_changed n f more = elim (map.get kept n) as (λ o. map.get kept n ≡ o → HasAcked (changed_at o kept n f) name acked) [
+    | None ↦ λ _. is
+    | Some s ↦ λ there.
+        elim (bytes_eq name n) as (λ b. bytes_eq name n ≡ b → map.get (map.insert kept n (f s)) name ≡ cond b (Some (f s)) (map.get kept name) → HasAcked (map.insert kept n (f s)) name acked) [
+          | true ↦ λ same found.
+              let one : is.acked ≡ s = some_same is.acked s (sym is.there ∙ ap (map.get kept) (same_name name n same) ∙ there) in
+              record { acked = f s; there = found; each = λ i has. more s i (subst (λ (x : Positions). Has x i) one (is.each i has)) }
+          | false ↦ λ _ found. there_other (map.insert kept n (f s)) found
+        ] refl (get_insert kept n (f s) name)
+  ] refl
+
+-- of one that is gone
+module _ (kept : Kept) (name : List ℕ) (gone : map.get kept name ≡ None) where
+  gone_inserted : (n : List ℕ) (s : Positions) → bytes_eq name n ≡ false → map.get (map.insert kept n s) name ≡ None
+  gone_inserted n s other = get_insert kept n s name ∙ ap (λ b. cond b (Some s) (map.get kept name)) other ∙ gone
+
+  gone_removed : (n : List ℕ) → map.get (map.remove kept n) name ≡ None
+  gone_removed n = get_remove kept n name ∙ elim (bytes_eq name n) as (λ b. cond b None (map.get kept name) ≡ None) [ true ↦ refl | false ↦ gone ]
+
+  gone_changed : (n : List ℕ) (f : Positions → Positions) → map.get (changed kept n f) name ≡ None
+  gone_changed n f = elim (map.get kept n) as (λ o. map.get kept n ≡ o → map.get (changed_at o kept n f) name ≡ None) [
+    | None ↦ λ _. gone
+    | Some s ↦ λ there. elim (bytes_eq name n) as (λ b. bytes_eq name n ≡ b → map.get (map.insert kept n (f s)) name ≡ None) [
+      | true ↦ λ same. absurd (none_some s (sym gone ∙ ap (map.get kept) (same_name name n same) ∙ there))
+      | false ↦ λ other. gone_inserted n (f s) other
+    ] refl
+  ] refl
+
+kept_after : (e : ℕ) (kept : Kept) (r : Record) (p : Promise) → IsFormed e kept r → Spares p r → IsKept kept p → IsKept (after r kept) p
+kept_after e kept (Made n start) (There name acked) formed spares is = there_made kept name acked is n (below start) formed.placed.0.not_there
+kept_after e kept (Removed n) (There name acked) formed spares is = there_removed kept name acked is n spares
+kept_after e kept (Acknowledged n position) (There name acked) formed spares is = there_changed kept name acked is n (acknowledged (Acknowledged n position)) (grows_by_one n position)
+kept_after e kept (AcknowledgedThrough n position) (There name acked) formed spares is = there_changed kept name acked is n (acknowledged (AcknowledgedThrough n position)) (grows_through n position)
+kept_after e kept (AcknowledgedRange n first last) (There name acked) formed spares is = there_changed kept name acked is n (acknowledged (AcknowledgedRange n first last)) (grows_by_range n first last)
+kept_after e kept (Made n start) (Gone name) formed spares is = gone_inserted kept name is n (below start) spares
+kept_after e kept (Removed n) (Gone name) formed spares is = gone_removed kept name is n
+kept_after e kept (Acknowledged n position) (Gone name) formed spares is = gone_changed kept name is n (acknowledged (Acknowledged n position))
+kept_after e kept (AcknowledgedThrough n position) (Gone name) formed spares is = gone_changed kept name is n (acknowledged (AcknowledgedThrough n position))
+kept_after e kept (AcknowledgedRange n first last) (Gone name) formed spares is = gone_changed kept name is n (acknowledged (AcknowledgedRange n first last))
 
 -- ---- records
 
-pub lasts : (e : ℕ) (rs : List Record) (kept : Kept) (p : Promise) → AreFormed e kept rs → AllByRecursion (Spares p.name) rs → IsKept kept p → Lasts rs kept p
+pub lasts : (e : ℕ) (rs : List Record) (kept : Kept) (p : Promise) → AreFormed e kept rs → AllByRecursion (Spares p) rs → IsKept kept p → Lasts rs kept p
 lasts e [] kept p formed spares is = is
 lasts e (r ∷ rs) kept p formed spares is = (is, lasts e rs (after r kept) p formed.1 spares.1 (kept_after e kept r p formed.0 spares.0 is))
 
@@ -123,8 +162,8 @@ formed_rest : (e : ℕ) (rs more : List Record) (kept : Kept) → AreFormed e ke
 formed_rest e [] more kept formed = formed
 formed_rest e (r ∷ rs) more kept formed = formed_rest e rs more (after r kept) formed.1
 
--- more records that spare the subscription
-module _ (e : ℕ) (rs more : List Record) (kept : Kept) (p : Promise) (formed : AreFormed e kept (rs ++ more)) (spares : AllByRecursion (Spares p.name) more) where
+-- more records that spare the promise
+module _ (e : ℕ) (rs more : List Record) (kept : Kept) (p : Promise) (formed : AreFormed e kept (rs ++ more)) (spares : AllByRecursion (Spares p) more) where
   pub lasts_more : Lasts rs kept p → Lasts (rs ++ more) kept p
   lasts_more is = lasts_both rs more kept p is (lasts e more (after_all rs kept) p (formed_rest e rs more kept formed) spares (lasts_last rs kept p is))
 

@@ -30,7 +30,7 @@ use Rattle.topic_core.specs.Steps.{Outcome, TopicStep, Meets, GrantStep, key_of,
 use Rattle.topic_core.proofs.Keeps.{step-keeps, grant-keeps}
 use Rattle.node.specs.Moves.{Move, Command, Tell, Lose, Grant, Deliver, Miss, Leave, Flush, Take, Finish, Reopen, Crash, Cut, MoveStep, Moves}
 use Rattle.node.specs.Finding.{IsQuiet}
-use Rattle.node.specs.Promising.{Promise, IsKept, Word, nothing_yet, promise_of, positions_of, removed_by, ack_reply, released, with_owed, without_first, promised, told, answered, word_after, word_by, InTurn, AreInTurn}
+use Rattle.node.specs.Promising.{Promise, IsKept, Word, Release, OfGone, nothing_yet, promise_of, positions_of, released_by, ack_reply, released, with_owed, without_first, promised, told, answered, word_after, word_by, InTurn, AreInTurn}
 use Rattle.node.specs.Laws.{WordIsKept}
 use Rattle.node.proofs.Commands.{producer_topic, refused_topic, silent_topic, accepted_topic}
 use Rattle.node.proofs.Endings.{RespectedByFlushes, taking, finishing, flushing, reopen_cases, Reopened, cutting}
@@ -38,7 +38,7 @@ use Rattle.node.proofs.Sound.{move_sound}
 use Rattle.node.proofs.Lasting.{Lasts, lasts_first, lasts_more, behind_more, kept_more}
 use Rattle.node.proofs.Turns.{to_each}
 use Rattle.node.proofs.Holding.{Lands, Holds, holds_released, holds_queued, in_turn, holds_lost, holds_told, holds_left, holds_handed_on, holds_finished, holds_taken_back, holds_failed, holds_reopened, holds_crashed}
-use Rattle.node.proofs.Accepting.{Adds, adds_nothing, adds_attached, lands_attached, adds_acked, lands_acked, adds_removal}
+use Rattle.node.proofs.Accepting.{Adds, adds_nothing, adds_attached, lands_attached, adds_acked, lands_acked, adds_removal, lands_removal}
 
 abbrev HoldsIn : Topic → Kept → Word → Type 0
 HoldsIn t kept word = Holds (changes_of t.doubt) t.subs.changes kept t.queues word
@@ -66,25 +66,25 @@ module _ (t : Topic) (kept : Kept) (word : Word) (sound : IsSound t) (h : HoldsI
   same u is = subst (λ (x : Topic). HoldsIn x kept word) (sym is) h
 
   -- more changes, which spare what remains
-  grows : (e : ℕ) (changes : List Record) (removed : Option (List ℕ)) → AreFormed e kept changes → Adds t.subs.changes removed changes
-      → Holds (changes_of t.doubt) changes kept t.queues (released removed word)
-  grows e changes removed formed adds =
+  grows : (e : ℕ) (changes : List Record) (release : Option Release) → AreFormed e kept changes → Adds t.subs.changes release changes
+      → Holds (changes_of t.doubt) changes kept t.queues (released release word)
+  grows e changes release formed adds =
       let n : ℕ = changes_of t.doubt in
       let old : List Record = t.subs.changes in
       let formed' = subst (λ (l : List Record). AreFormed e kept l) adds.behind formed in
-      subst (λ (l : List Record). Holds n l kept t.queues (released removed word)) (sym adds.behind)
-      (holds_released n n old (old ++ adds.added) kept kept removed t.queues word
+      subst (λ (l : List Record). Holds n l kept t.queues (released release word)) (sym adds.behind)
+      (holds_released n n old (old ++ adds.added) kept kept release t.queues word
       (λ p remains is. lasts_more e old adds.added kept p formed' (adds.spares p remains) is)
       (λ p remains is. behind_more e old adds.added kept p formed' (adds.spares p remains) n sound.changes is)
       (λ p remains is. kept_more e old adds.added kept p formed' (adds.spares p remains) is)
       h)
 
   -- and an answer that awaits a flush
-  owes : (e : ℕ) (changes : List Record) (removed : Option (List ℕ)) (who : ℕ) (r : Reply) (promise : Option Promise) → AreFormed e kept changes → Adds t.subs.changes removed changes
+  owes : (e : ℕ) (changes : List Record) (release : Option Release) (who : ℕ) (r : Reply) (promise : Option Promise) → AreFormed e kept changes → Adds t.subs.changes release changes
       → AllByRecursion (Lands changes kept) (promised promise)
-      → Holds (changes_of t.doubt) changes kept (queued who r t.queues) (with_owed (record { session = who; reply = Some r; promise = promise }) (released removed word))
-  owes e changes removed who r promise formed adds lands =
-      holds_queued (changes_of t.doubt) changes kept t.queues (released removed word) (grows e changes removed formed adds) who r promise sound.within lands
+      → Holds (changes_of t.doubt) changes kept (queued who r t.queues) (with_owed (record { session = who; reply = Some r; promise = promise }) (released release word))
+  owes e changes release who r promise formed adds lands =
+      holds_queued (changes_of t.doubt) changes kept t.queues (released release word) (grows e changes release formed adds) who r promise sound.within lands
 
   -- the subscriptions of a topic are kept
   abbrev AreKeptIn : Topic → Type 0
@@ -108,7 +108,7 @@ module _ (t : Topic) (kept : Kept) (word : Word) (sound : IsSound t) (h : HoldsI
       let start = subscriptions.start_of (start_of subscribe.initial) t.committed in
       let are' = at_topic u c is are in
       back u c (answered t who (asked.Subscribe subscribe) Later word) is
-      (owes t.committed c.subs.changes None who (Success subscribe.request_id) (promise_of t who (asked.Subscribe subscribe)) are'.formed
+      (owes t.committed c.subs.changes (Some (OfGone subscribe.subscription)) who (Success subscribe.request_id) (promise_of t who (asked.Subscribe subscribe)) are'.formed
       (adds_attached t.subs subscribe.subscription subscribe.mode seat start)
       (lands_attached t.committed kept t.subs subscribe.subscription subscribe.mode seat start are', tt))
 
@@ -141,8 +141,9 @@ module _ (t : Topic) (kept : Kept) (word : Word) (sound : IsSound t) (h : HoldsI
       let c = unsubscribed t who unsubscribe in
       let are' = at_topic u c is are in
       back u c (answered t who (asked.Unsubscribe unsubscribe) Later word) is
-      (owes t.committed c.subs.changes (removed_by t who (asked.Unsubscribe unsubscribe)) who (Success unsubscribe.request_id) None are'.formed
-      (adds_removal t.subs.changes (find (subscriptions.is_on (key_of who unsubscribe.consumer_id)) t.subs.subs)) tt)
+      (owes t.committed c.subs.changes (released_by t who (asked.Unsubscribe unsubscribe)) who (Success unsubscribe.request_id) (promise_of t who (asked.Unsubscribe unsubscribe)) are'.formed
+      (adds_removal t.subs.changes (find (subscriptions.is_on (key_of who unsubscribe.consumer_id)) t.subs.subs))
+      (lands_removal t.subs.changes kept (find (subscriptions.is_on (key_of who unsubscribe.consumer_id)) t.subs.subs)))
 
   -- a command whose refusals are told at once, and whose effect awaits a flush
   module _ (who : ℕ) (c : TopicCommand) (f : ServerError → Reply) (effect : Topic) (takes : (u : Topic) → u ≡ effect → AreKeptIn u → HoldsIn u kept (answered t who c Later word)) where

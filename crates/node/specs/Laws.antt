@@ -56,7 +56,8 @@ ReceiptsAreFound = (old : Topic) (moves : List Move) (new : Topic) (steps : Move
 
 -- What sessions take from a topic that was quiet and sound are the answers to their accepted commands, in turn, or refusals
 -- after a failure; and what was told of subscriptions stands in the durable ones: each one that was subscribed to is there, with
--- the positions that were acknowledged, while no UNSUBSCRIBE of its name was accepted since that command.
+-- the positions that were acknowledged, while no UNSUBSCRIBE of its name was accepted since that command; and each one that was
+-- unsubscribed is gone, while no SUBSCRIBE of its name was accepted since that command.
 pub record WordIsKept (old : Topic) (moves : List Move) (new : Topic) (steps : Moves old moves new) : Type 0 where
   pub in_turn : AreInTurn old moves new steps nothing_yet
   pub kept : AllByRecursion (IsKept new.kept) (word_by old moves new steps nothing_yet).given

@@ -24,16 +24,20 @@ use Rattle.topic_core.specs.State.{Topic}
 use Rattle.topic_core.specs.Steps.{key_of, position_at, receipt}
 use Rattle.node.specs.Moves.{Handed, Move, Command, Tell, Lose, Grant, Deliver, Miss, Leave, Flush, Take, Finish, Reopen, Crash, Cut, Moves}
 
+pub data Promise : Type 0 where
+  There : List ℕ → Positions → Promise  -- the subscription of this name is there, and these positions are acknowledged on it
+  Gone : List ℕ → Promise  -- no subscription of this name is there
+
 -- the subscription of this name is there, and these positions are acknowledged on it
-pub record Promise : Type 0 where
-  pub name : List ℕ
+pub record HasAcked (kept : Kept) (name : List ℕ) (positions : Positions) : Type 0 where
   pub acked : Positions
+  pub there : kept_map.get kept name ≡ Some acked
+  pub each : (i : ℕ) → Has positions i → Has acked i
 
 -- durable subscriptions keep a promise
-pub record IsKept (kept : Kept) (promise : Promise) : Type 0 where
-  pub acked : Positions
-  pub there : kept_map.get kept promise.name ≡ Some acked
-  pub each : (i : ℕ) → Has promise.acked i → Has acked i
+abbrev pub IsKept : Kept → Promise → Type 0
+IsKept kept (There name positions) = HasAcked kept name positions
+IsKept kept (Gone name) = kept_map.get kept name ≡ None
 
 -- the positions that an ACK acknowledges; a cumulative one is of all up to the one that it names
 abbrev pub acked_by : AckType → List ℕ → Positions
@@ -45,29 +49,36 @@ abbrev pub positions_of : ℕ → Ack → List ℕ
 positions_of per_ledger ack = map (λ id. position_at per_ledger id) ack.ids
 
 -- What an accepted command's answer promises: of a SUBSCRIBE that the subscription is there, of an ACK that its positions
--- are acknowledged on the consumer's subscription, and of other commands nothing.
+-- are acknowledged on the consumer's subscription, of an UNSUBSCRIBE that the consumer's subscription is gone, and of other
+-- commands nothing.
 abbrev pub promise_of : Topic → ℕ → TopicCommand → Option Promise
 promise_of t who (asked.Producer id request name) = None
 promise_of t who (asked.Send send) = None
-promise_of t who (asked.Subscribe subscribe) = Some (record { name = subscribe.subscription; acked = set.empty })
+promise_of t who (asked.Subscribe subscribe) = Some (There subscribe.subscription set.empty)
 promise_of t who (asked.Ack ack) =
-    option_map (λ (s : Subscription). record { name = s.name; acked = acked_by ack.ack_type (positions_of t.per_ledger ack) })
+    option_map (λ (s : Subscription). There s.name (acked_by ack.ack_type (positions_of t.per_ledger ack)))
     (find (is_on (key_of who ack.consumer_id)) t.subs.subs)
 promise_of t who (asked.CloseProducer close) = None
-promise_of t who (asked.Unsubscribe unsubscribe) = None
+promise_of t who (asked.Unsubscribe unsubscribe) = option_map (λ (s : Subscription). Gone s.name) (find (is_on (key_of who unsubscribe.consumer_id)) t.subs.subs)
 promise_of t who (asked.CloseConsumer close) = None
 promise_of t who (asked.Redeliver redeliver) = None
 
--- the subscription that an accepted command removes
-abbrev pub removed_by : Topic → ℕ → TopicCommand → Option (List ℕ)
-removed_by t who (asked.Producer id request name) = None
-removed_by t who (asked.Send send) = None
-removed_by t who (asked.Subscribe subscribe) = None
-removed_by t who (asked.Ack ack) = None
-removed_by t who (asked.CloseProducer close) = None
-removed_by t who (asked.Unsubscribe unsubscribe) = option_map (λ (s : Subscription). s.name) (find (is_on (key_of who unsubscribe.consumer_id)) t.subs.subs)
-removed_by t who (asked.CloseConsumer close) = None
-removed_by t who (asked.Redeliver redeliver) = None
+-- promises that count no more
+pub data Release : Type 0 where
+  OfGone : List ℕ → Release  -- those that no subscription of this name is there
+  OfThere : List ℕ → Release  -- those that the subscription of this name is there
+
+-- What an accepted command releases: a SUBSCRIBE the promises that its subscription is gone, an UNSUBSCRIBE those that the one
+-- that it removes is there, and other commands none.
+abbrev pub released_by : Topic → ℕ → TopicCommand → Option Release
+released_by t who (asked.Producer id request name) = None
+released_by t who (asked.Send send) = None
+released_by t who (asked.Subscribe subscribe) = Some (OfGone subscribe.subscription)
+released_by t who (asked.Ack ack) = None
+released_by t who (asked.CloseProducer close) = None
+released_by t who (asked.Unsubscribe unsubscribe) = option_map (λ (s : Subscription). OfThere s.name) (find (is_on (key_of who unsubscribe.consumer_id)) t.subs.subs)
+released_by t who (asked.CloseConsumer close) = None
+released_by t who (asked.Redeliver redeliver) = None
 
 -- the reply to a command whose answer awaits a flush, where it has one
 abbrev pub ack_reply : ℕ → Option ℕ → Option Reply
@@ -98,19 +109,21 @@ pub record Word : Type 0 where
 abbrev pub nothing_yet : Word
 nothing_yet = record { owed = []; given = [] }
 
--- a promise of a subscription that is removed counts no more
-abbrev pub is_of : List ℕ → Promise → Bool
-is_of name promise = bytes_eq promise.name name
+abbrev pub is_released : Release → Promise → Bool
+is_released (OfGone name) (There promised positions) = false
+is_released (OfGone name) (Gone promised) = bytes_eq promised name
+is_released (OfThere name) (There promised positions) = bytes_eq promised name
+is_released (OfThere name) (Gone promised) = false
 
-abbrev pub unless_of : List ℕ → Option Promise → Option Promise
-unless_of name None = None
-unless_of name (Some promise) = cond (is_of name promise) None (Some promise)
+abbrev pub unless_released : Release → Option Promise → Option Promise
+unless_released release None = None
+unless_released release (Some promise) = cond (is_released release promise) None (Some promise)
 
-abbrev pub released : Option (List ℕ) → Word → Word
+abbrev pub released : Option Release → Word → Word
 released None word = word
-released (Some name) word = record {
-  owed = map (λ (o : Owed). record o { promise = unless_of name o.promise }) word.owed;
-  given = filter (λ promise. not (is_of name promise)) word.given;
+released (Some release) word = record {
+  owed = map (λ (o : Owed). record o { promise = unless_released release o.promise }) word.owed;
+  given = filter (λ promise. not (is_released release promise)) word.given;
 }
 
 abbrev pub with_owed : Owed → Word → Word
@@ -158,7 +171,7 @@ told handed word = record {
 -- what a command's answer adds
 abbrev pub answered : Topic → ℕ → TopicCommand → Answer → Word → Word
 answered t who command (Now reply) word = word
-answered t who command Later word = with_owed (record { session = who; reply = reply_to t command; promise = promise_of t who command }) (released (removed_by t who command) word)
+answered t who command Later word = with_owed (record { session = who; reply = reply_to t command; promise = promise_of t who command }) (released (released_by t who command) word)
 answered t who command Nothing word = word
 answered t who command NoMemory word = word
 

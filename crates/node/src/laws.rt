@@ -43,7 +43,8 @@ pub fn receipts_are_found()
 
 /// What sessions take from a topic are the answers to their accepted commands, in turn, or refusals after a failure. What was told
 /// of subscriptions stands ever after, through failures, openings and crashes: an answered SUBSCRIBE's is there, and the positions
-/// of an answered ACK are acknowledged on it, while no UNSUBSCRIBE of its name was accepted since that command.
+/// of an answered ACK are acknowledged on it, while no UNSUBSCRIBE of its name was accepted since that command; an answered
+/// UNSUBSCRIBE's isn't there, while no SUBSCRIBE of its name was accepted since that command.
 pub fn words_are_kept()
     ensures { WordsAreKept }
 {}
