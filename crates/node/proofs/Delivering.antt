@@ -78,7 +78,7 @@ commanded t who (asked.Send send) (Now r) u s none = same_topic t u (refused_top
 commanded t who (asked.Send send) Later u s none =
     subst OwesNoMessage (sym (accepted_topic t who send u s).1) (queued_none who (receipt t send.producer_id send.sequence_id) t.queues refl none)
 commanded t who (asked.Send send) Nothing u s none = same_topic t u (silent_topic t who send u s) none
-commanded t who (asked.Send send) NoMemory u s none = same_topic t u s none
+commanded t who (asked.Send send) NoMemory u s none = same_topic t u s.0 none
 commanded t who (asked.Subscribe subscribe) a u s none = awaits who t u (subscribe_topic a t who subscribe u s) none
 commanded t who (asked.Ack ack) a u s none = awaits who t u (ack_topic a t who ack u s) none
 commanded t who (asked.CloseProducer close) a u s none = awaits who t u (close_topic a t who close u s) none

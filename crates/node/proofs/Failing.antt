@@ -56,7 +56,7 @@ commanded t who (asked.Producer id request name) a u s = ⊎_elim (λ is. alike 
 commanded t who (asked.Send send) (Now r) u s = alike t u (refused_topic t who send r u s)
 commanded t who (asked.Send send) Later u s = let is = (accepted_topic t who send u s).1 in record { failed = ap (λ (x : Topic). x.failed) is; doubt = ap (λ (x : Topic). x.doubt) is }
 commanded t who (asked.Send send) Nothing u s = alike t u (silent_topic t who send u s)
-commanded t who (asked.Send send) NoRoom u s = alike t u s
+commanded t who (asked.Send send) NoRoom u s = alike t u s.0
 commanded t who (asked.Subscribe subscribe) a u s = awaiting who t u (subscribe_topic a t who subscribe u s)
 commanded t who (asked.Ack ack) a u s = awaiting who t u (ack_topic a t who ack u s)
 commanded t who (asked.CloseProducer close) a u s = awaiting who t u (close_topic a t who close u s)

@@ -247,7 +247,7 @@ module _ (base : ℕ) (before : List Sent) where
   commanded t who (asked.Send send) (Now r) u s o = none_sent t u (same_topic t u (refused_topic t who send r u s) o)
   commanded t who (asked.Send send) Later u s o = sends t who send u (accepted_topic t who send u s) o
   commanded t who (asked.Send send) Nothing u s o = none_sent t u (same_topic t u (silent_topic t who send u s) o)
-  commanded t who (asked.Send send) NoMemory u s o = none_sent t u (same_topic t u s o)
+  commanded t who (asked.Send send) NoMemory u s o = none_sent t u (same_topic t u s.0 o)
   commanded t who (asked.Subscribe subscribe) a u s o = none_sent t u (awaits t u who (subscribe_topic a t who subscribe u s) o)
   commanded t who (asked.Ack ack) a u s o = none_sent t u (awaits t u who (ack_topic a t who ack u s) o)
   commanded t who (asked.CloseProducer close) a u s o = none_sent t u (awaits t u who (close_topic a t who close u s) o)

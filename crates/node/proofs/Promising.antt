@@ -26,7 +26,7 @@ use Rattle.topic_core.specs.declared.command.TopicCommand.TheVariants as asked
 use Rattle.topic_core.specs.State.{Topic, changes_of}
 use Rattle.topic_core.specs.Soundness.{IsSound, IsSoundTopic}
 use Rattle.topic_core.specs.Crashes.{IsLeft, TopicCrash}
-use Rattle.topic_core.specs.Steps.{Outcome, TopicStep, Meets, GrantStep, key_of, seat_of, refused_or, first_standing, producer_refusals, subscribe_refusal, subscribed, start_of, ack_refusals, ack_refused, ack_accepted, close_refusals, closing, unsubscribe_refusal, unsubscribed, detach_refusals, detach_outcome, detached, redeliver_outcome, redelivered, asked_back, with_producer, accepted, receipt, bytes_of}
+use Rattle.topic_core.specs.Steps.{Outcome, TopicStep, outcome_of, GrantStep, key_of, seat_of, refused_or, first_standing, producer_refusals, subscribe_refusal, subscribed, start_of, ack_refusals, ack_refused, ack_accepted, close_refusals, closing, unsubscribe_refusal, unsubscribed, detach_refusals, detached, redelivered, asked_back, with_producer, accepted, receipt, bytes_of}
 use Rattle.topic_core.proofs.Keeps.{step-keeps, grant-keeps}
 use Rattle.node.specs.Moves.{Move, Command, Tell, Lose, Grant, Deliver, Miss, Leave, Flush, Take, Finish, Reopen, Crash, Cut, MoveStep, Moves}
 use Rattle.node.specs.Finding.{IsQuiet}
@@ -163,7 +163,7 @@ module _ (t : Topic) (kept : Kept) (word : Word) (sound : IsSound t) (h : HoldsI
   no_producer (Some e) f r effect is = let no : Later ≡ Now (f e) = is in cc
 
   acks : (who : ℕ) (ack : Ack) (a : Answer) (u : Topic) → TopicStep t who (asked.Ack ack) a u → AreKeptIn u → HoldsIn u kept (answered t who (asked.Ack ack) a word)
-  acks who ack NoMemory u step are = same u step
+  acks who ack NoMemory u step are = same u step.0
   acks who ack (Now r) u step are = ⊎_elim
       (λ refused. same u refused.2)
       (λ effected. absurd (not_now t who ack ack.request_id r effected.0))
@@ -200,41 +200,42 @@ module _ (t : Topic) (kept : Kept) (word : Word) (sound : IsSound t) (h : HoldsI
       (permits t.failed (subscriptions.redelivered t.subs (key_of who redeliver.consumer_id) (asked_back t.per_ledger t.committed redeliver.ids)) refl))
 
   -- an outcome that was met
-  meets : (o : Outcome) (w : Answer → Word) → ((a : Answer) (u : Topic) → a ≡ o.answer → u ≡ o.topic → AreKeptIn u → HoldsIn u kept (w a)) → w NoMemory ≡ word → (a : Answer) (u : Topic) → Meets o t a u → AreKeptIn u → HoldsIn u kept (w a)
-  meets o w by none NoMemory u step are = subst (λ (x : Word). HoldsIn u kept x) (sym none) (same u step)
-  meets o w by none Nothing u step are = by Nothing u step.0 step.1 are
-  meets o w by none (Now r) u step are = by (Now r) u step.0 step.1 are
-  meets o w by none Later u step are = by Later u step.0 step.1 are
+  meets : (who : ℕ) (c : TopicCommand) (w : Answer → Word) → ((a : Answer) (u : Topic) → a ≡ (outcome_of t who c).answer → u ≡ (outcome_of t who c).topic → AreKeptIn u → HoldsIn u kept (w a)) → w NoMemory ≡ word
+      → (a : Answer) (u : Topic) → TopicStep t who c a u → AreKeptIn u → HoldsIn u kept (w a)
+  meets who c w by none NoMemory u step are = subst (λ (x : Word). HoldsIn u kept x) (sym none) (same u step.0)
+  meets who c w by none Nothing u step are = by Nothing u step.0 step.1 are
+  meets who c w by none (Now r) u step are = by (Now r) u step.0 step.1 are
+  meets who c w by none Later u step are = by Later u step.0 step.1 are
 
   commanded : (who : ℕ) (c : TopicCommand) (a : Answer) (u : Topic) → TopicStep t who c a u → AreKeptIn t → AreKeptIn u → HoldsIn u kept (answered t who c a word)
-  commanded who (asked.Producer id request name) NoMemory u step are are' = same u step
+  commanded who (asked.Producer id request name) NoMemory u step are are' = same u step.0
   commanded who (asked.Producer id request name) (Now r) u step are are' = produces who id request name u (producer_topic (Now r) t who id request name u step)
   commanded who (asked.Producer id request name) Nothing u step are are' = produces who id request name u (producer_topic Nothing t who id request name u step)
   commanded who (asked.Producer id request name) Later u step are are' =
       absurd (no_producer (first_standing (producer_refusals t name)) (λ error. Error request error) (ProducerSuccess request name) (with_producer t who id name) step.0)
-  commanded who (asked.Send send) NoMemory u step are are' = same u step
+  commanded who (asked.Send send) NoMemory u step are are' = same u step.0
   commanded who (asked.Send send) (Now r) u step are are' = same u (refused_topic t who send r u step)
   commanded who (asked.Send send) Nothing u step are are' = same u (silent_topic t who send u step)
   commanded who (asked.Send send) Later u step are are' = sent who send u (accepted_topic t who send u step).1 are
   commanded who (asked.Subscribe subscribe) a u step are are' =
-      meets _ (λ b. answered t who (asked.Subscribe subscribe) b word)
+      meets who (asked.Subscribe subscribe) (λ b. answered t who (asked.Subscribe subscribe) b word)
       (awaited who (asked.Subscribe subscribe) (λ error. Error subscribe.request_id error) (subscribed t who subscribe) (λ x is kept_x. subscribes who subscribe x is kept_x) (subscribe_refusal t subscribe))
       refl a u step are'
   commanded who (asked.Ack ack) a u step are are' = acks who ack a u step are'
   commanded who (asked.CloseProducer close) a u step are are' =
-      meets _ (λ b. answered t who (asked.CloseProducer close) b word)
+      meets who (asked.CloseProducer close) (λ b. answered t who (asked.CloseProducer close) b word)
       (awaited who (asked.CloseProducer close) (λ error. Error close.request_id error) (closing t who close) (λ x is _. closes who close x is are) (first_standing (close_refusals t who close)))
       refl a u step are'
   commanded who (asked.Unsubscribe unsubscribe) a u step are are' =
-      meets _ (λ b. answered t who (asked.Unsubscribe unsubscribe) b word)
+      meets who (asked.Unsubscribe unsubscribe) (λ b. answered t who (asked.Unsubscribe unsubscribe) b word)
       (awaited who (asked.Unsubscribe unsubscribe) (λ error. Error unsubscribe.request_id error) (unsubscribed t who unsubscribe) (λ x is kept_x. unsubscribes who unsubscribe x is kept_x) (unsubscribe_refusal t who unsubscribe))
       refl a u step are'
   commanded who (asked.CloseConsumer close) a u step are are' =
-      meets (detach_outcome t who close) (λ b. answered t who (asked.CloseConsumer close) b word)
+      meets who (asked.CloseConsumer close) (λ b. answered t who (asked.CloseConsumer close) b word)
       (detaches who close (first_standing (detach_refusals t who close)))
       refl a u step are'
   commanded who (asked.Redeliver redeliver) a u step are are' =
-      meets (redeliver_outcome t who redeliver) (λ b. answered t who (asked.Redeliver redeliver) b word)
+      meets who (asked.Redeliver redeliver) (λ b. answered t who (asked.Redeliver redeliver) b word)
       (redelivers who redeliver)
       refl a u step are'
 

@@ -12,4 +12,5 @@ pub mod Refusals
 pub mod Rising
 pub mod Serving
 pub mod Speaking
+pub mod Wanting
 pub mod WholeFrames

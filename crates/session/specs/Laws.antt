@@ -1,16 +1,23 @@
 -- What holds of every step of a session.
-use Rattle.std.specs.Prelude.{◌≡◌, ◌<◌, ℕ, ◌+◌, false, None, List, [], ◌∷◌, Result, Ok, Err}
+use Rattle.std.specs.Prelude.{◌≡◌, ◌<◌, ℕ, ◌+◌, Bool, true, false, None, Some, List, [], ◌∷◌, Result, Ok, Err}
 use Rattle.std.specs.List.{AllByRecursion}
+use Rattle.commands.specs.declared.command.Command.{Command}
+use Rattle.commands.specs.declared.command.Command.TheVariants as command
+use Rattle.commands.specs.declared.giving_back.CloseConsumer.{CloseConsumer}
+use Rattle.commands.specs.declared.giving_back.Redeliver.{Redeliver}
 use Rattle.commands.specs.declared.reply.Reply.{Reply}
+use Rattle.frames.specs.declared.frame.Frame.{Frame}
 use Rattle.reply_queues.specs.Replies.{is_receipt, pending_to}
 use Rattle.topic_core.specs.State.{Topic}
 use Rattle.topic_core.specs.Steps.{has_producer, has_consumer, receipts_of}
 use Rattle.session.specs.Broker.{Broker, topic_at, with_topic, due_at, collected_at, left_all}
-use Rattle.session.specs.Client.{Play, new_client, Writes}
-use Rattle.session.specs.Working.{FeedStep}
+use Rattle.session.specs.Client.{Play, new_client, plain, Says, Writes}
+use Rattle.session.specs.GivingBack.{CloseConsumerStep, RedeliverStep}
+use Rattle.session.specs.Working.{FrameStep, FeedStep}
 use Rattle.session.specs.Pumping.{HasNothingDue, AdmitsNothing, PumpStep}
 use Rattle.session.specs.declared.consumer_entry.ConsumerEntry.{ConsumerEntry}
 use Rattle.session.specs.declared.fault.Fault.{Fault}
+use Rattle.session.specs.declared.fault.Fault.TheVariants.{NoMemory}
 use Rattle.session.specs.declared.pumping.More.{More}
 use Rattle.session.specs.declared.pumping.More.TheVariants.{No}
 use Rattle.session.specs.declared.pumping.PumpFault.{PumpFault}
@@ -70,3 +77,26 @@ pub record LostRepliesAreAbsorbed : Type 0 where
   pub counts : (b : Broker) (number who : ℕ) (reply : Reply)
       → left_all (collected_at b number who reply) who ≡ with_topic (left_all b who) number (counted (topic_at (left_all b who) number) reply)
   pub others : (b : Broker) (number who : ℕ) (reply : Reply) → is_receipt reply ≡ false → left_all (collected_at b number who reply) who ≡ left_all b who
+
+-- whether the command may end its session for want of memory: where a topic takes memory for it, or a reply goes out at once
+abbrev pub may_lack_memory : Command → Bool
+may_lack_memory (command.Connect c) = true
+may_lack_memory (command.Producer c) = true
+may_lack_memory (command.Send c) = true
+may_lack_memory (command.Subscribe c) = true
+may_lack_memory (command.Flow c) = false
+may_lack_memory (command.Ack c) = true
+may_lack_memory (command.Unsubscribe c) = true
+may_lack_memory (command.CloseProducer c) = true
+may_lack_memory (command.CloseConsumer c) = true
+may_lack_memory command.Ping = true
+may_lack_memory command.Pong = false
+may_lack_memory (command.RedeliverUnacknowledgedMessages c) = false
+may_lack_memory (command.Other k) = false
+
+-- A frame ends its session for want of memory only where its command may. A REDELIVER leaves its session and the bytes out as they
+-- are, and of a CLOSE_CONSUMER the reply alone may find no memory: no topic answers either by want of memory.
+pub record WantOfMemoryIsNamed : Type 0 where
+  pub ends : (old : Play) (frame : Frame) (new : Play) → old.client.fault ≡ None → FrameStep old frame new → new.client.fault ≡ Some NoMemory → may_lack_memory frame.command ≡ true
+  pub redeliver : (old : Play) (asked : Redeliver) (new : Play) → RedeliverStep old asked new → (new.client ≡ old.client) × (new.out ≡ old.out)
+  pub close_consumer : (old : Play) (asked : CloseConsumer) (new : Play) → CloseConsumerStep old asked new → (reply : Reply) × Says old.client old.out (plain reply) new.client new.out

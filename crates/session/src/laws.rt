@@ -1,4 +1,4 @@
-ghost use Rattle.session.specs.Laws.{FeedsWriteFrames, PumpsWriteFrames, PumpsFinish, PumpsServe, ConsumersRise, EndedFeedsLeave, EndedPumpsLeave, LostRepliesAreAbsorbed};
+ghost use Rattle.session.specs.Laws.{FeedsWriteFrames, PumpsWriteFrames, PumpsFinish, PumpsServe, ConsumersRise, EndedFeedsLeave, EndedPumpsLeave, LostRepliesAreAbsorbed, WantOfMemoryIsNamed};
 
 /// What a session appends to its bytes out are frames, each whole.
 pub fn writes_whole_frames()
@@ -31,4 +31,10 @@ pub fn ended_sessions_leave()
 /// alone tells of it.
 pub fn lost_replies_are_absorbed()
     ensures { LostRepliesAreAbsorbed }
+{}
+
+/// A frame ends its session for want of memory only where its command may: never a REDELIVER, and a CLOSE_CONSUMER only where its
+/// reply finds none.
+pub fn want_of_memory_is_named()
+    ensures { WantOfMemoryIsNamed }
 {}

@@ -22,7 +22,7 @@ pub use consumer_entry::ConsumerEntry;
 pub use fault::Fault;
 pub use laws::{
     consumers_rise, ended_sessions_leave, lost_replies_are_absorbed, pumps_finish, pumps_serve,
-    writes_whole_frames,
+    want_of_memory_is_named, writes_whole_frames,
 };
 pub use port::{Found, Port};
 pub use producer_entry::ProducerEntry;

@@ -188,7 +188,7 @@ to : (old a b : Topic) → a ≡ b → Keeps old b → Keeps old a
 to old a b e h = let P : Topic → Type 0 = λ x. Keeps old x in subst P (sym e) h
 
 pub step-keeps : (t : Topic) (who : ℕ) (c : TopicCommand) (a : Answer) (new : Topic) → TopicStep t who c a new → Keeps t new
-step-keeps t who c NoMemory new h = to t new t h (still t)
+step-keeps t who c NoMemory new h = to t new t h.0 (still t)
 step-keeps t who c (Now r) new h = to t new _ h.1 (outcome-keeps t who c)
 step-keeps t who c Later new h = to t new _ h.1 (outcome-keeps t who c)
 step-keeps t who c Nothing new h = to t new _ h.1 (outcome-keeps t who c)

@@ -181,8 +181,8 @@ impl TopicCore {
         request_id: u64,
         producer_name: ReplyText,
     ) -> Result<Answer, AllocError>
-        ensures ok { IfOk result (λ answer. Meets (producer_outcome self.old who producer_id request_id producer_name) self.old answer self.new) }
-        ensures err { OnErr result (self.new ≡ self.old) }
+        ensures ok { IfOk result (λ answer. Meets (producer_outcome self.old who producer_id request_id producer_name) answer self.new) }
+        ensures err { OnErr result ((self.new ≡ self.old) × (first_standing (producer_refusals self.old producer_name) ≡ None)) }
     {
         if let Some(error) = self.producer_refusal(producer_name.as_str()) {
             return Ok(Answer::Now(Reply::Error { request_id, error }));
@@ -201,8 +201,8 @@ impl TopicCore {
     }
 
     fn send(&mut self, who: u64, send: Send) -> Result<Answer, AllocError>
-        ensures ok { IfOk result (λ answer. Meets (send_outcome self.old who send) self.old answer self.new) }
-        ensures err { OnErr result (self.new ≡ self.old) }
+        ensures ok { IfOk result (λ answer. Meets (send_outcome self.old who send) answer self.new) }
+        ensures err { OnErr result ((self.new ≡ self.old) × (first_standing (send_refusals self.old who send) ≡ None)) }
     {
         if let Some(error) = self.send_refusal(who, &send) {
             return Ok(Answer::Now(Reply::SendError {
