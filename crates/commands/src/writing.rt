@@ -1,6 +1,7 @@
 ghost use Rattle.std.specs.Prelude.{◌≡◌, ◌+◌, ◌<◌, ◌≤◌, ◌^◌, ◌++◌, take, length, vec_len, OnOk, OnErr};
 ghost use Rattle.proto_fields.specs.Fields.{IsFieldNumber};
 ghost use Rattle.proto_fields.specs.Spelling.{number_field, bytes_field};
+ghost use Rattle.commands.specs.Laws.{IsBuilt};
 ghost use Rattle.commands.specs.Replies.{error_code, error_name, id_fields, count_fields, refusal_fields, message_spelling, reply_fields, spelling};
 
 use crate::reply::Reply;
@@ -27,6 +28,7 @@ fn put_message_id(
 ) -> Result<(), AllocError>
     requires { IsFieldNumber number }
     ensures ok { OnOk result (out.new.items ≡ out.old.items ++ bytes_field number (message_spelling (id_fields id))) }
+    ensures in_range { OnOk result ((id.ledger_id < 2 ^ 64) × (id.entry_id < 2 ^ 64)) }
     ensures growth { OnOk result (vec_len out.new ≤ vec_len out.old + 60) }
 {
     let mut bytes = Vec::new(alloc);
@@ -59,6 +61,7 @@ fn put_refusal(error: Option<ServerError>, out: &mut Vec<u8>) -> Result<(), Allo
 fn put_fields(alloc: Global, reply: &Reply, out: &mut Vec<u8>) -> Result<(), AllocError>
     ensures ok { OnOk result (out.new.items ≡ out.old.items ++ reply_fields reply.now) }
     ensures growth { OnOk result (vec_len out.new ≤ vec_len out.old + 65600) }
+    ensures built { OnOk result (IsBuilt reply.now) }
 {
     match reply {
         Reply::Connected => {
@@ -133,6 +136,7 @@ fn put_whole(kind: u32, fields: &[u8], out: &mut Vec<u8>) -> Result<(), AllocErr
 pub fn write_reply(alloc: Global, reply: &Reply, out: &mut Vec<u8>) -> Result<(), AllocError>
     ensures ok { OnOk result (out.new.items ≡ out.old.items ++ spelling reply.now) }
     ensures small { OnOk result (length (spelling reply.now) < 2 ^ 17) }
+    ensures built { OnOk result (IsBuilt reply.now) }
     ensures err { OnErr result (out.new.items ≡ out.old.items) }
 {
     let start = out.len();

@@ -2,6 +2,7 @@ ghost use Rattle.std.specs.Prelude.{◌≡◌, ◌<◌, ◌≤◌, ◌+◌, ◌^
 ghost use Rattle.std.specs.Option.{option_copied};
 ghost use Rattle.commands.specs.Replies.{spelling};
 ghost use Rattle.frames.specs.Frames.{frame_bytes};
+ghost use Rattle.frames.specs.Laws.{IsTold};
 
 use commands::{Reply, write_reply};
 use std::alloc::{AllocError, Global};
@@ -17,6 +18,7 @@ pub fn write_frame(
     requires { length (unwrap_or (option_copied entry) []) ≤ 2 ^ 31 }
     ensures ok { OnOk result (out.new.items ≡ out.old.items
         ++ frame_bytes (spelling reply.now) (unwrap_or (option_copied entry.entry) [])) }
+    ensures told { OnOk result (IsTold (reply.now, unwrap_or (option_copied entry.entry) [])) }
     ensures err { OnErr result (out.new.items ≡ out.old.items) }
 {
     let mut command = Vec::new(alloc);
