@@ -8,6 +8,7 @@ pub mod Leaving
 pub mod Names
 pub mod Places
 pub mod Plays
+pub mod Reading
 pub mod Refusals
 pub mod Rising
 pub mod Serving

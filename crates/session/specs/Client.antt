@@ -1,9 +1,10 @@
 -- A session, and how it writes.
 use Rattle.std.specs.Prelude.{◌≡◌, ◌⊎◌, ℕ, Bool, false, Option, Some, None, List, [], ◌++◌}
-use Rattle.std.specs.List.{flat_map}
+use Rattle.std.specs.List.{flat_map, AllByRecursion}
 use Rattle.commands.specs.declared.reply.Reply.{Reply}
 use Rattle.commands.specs.Replies.{spelling}
 use Rattle.frames.specs.Frames.{frame_bytes}
+use Rattle.frames.specs.Laws.{IsTold}
 use Rattle.frames.specs.Streams.{Progress, at_start}
 use Rattle.topic_core.specs.declared.command.Answer.{Answer}
 use Rattle.topic_core.specs.declared.command.Answer.TheVariants.{Now, Later, Nothing, NoMemory}
@@ -61,9 +62,17 @@ frame_of outgoing = frame_bytes (spelling outgoing.reply) outgoing.entry
 abbrev pub frames_of : List Outgoing → List ℕ
 frames_of outgoing = flat_map (λ one. frame_of one) outgoing
 
+-- the reply's numbers and text have their bounds, and the entry can be written behind it
+abbrev pub IsBounded : Outgoing → Type 0
+IsBounded outgoing = IsTold (outgoing.reply, outgoing.entry)
+
+abbrev pub AreBounded : List Outgoing → Type 0
+AreBounded outgoing = AllByRecursion IsBounded outgoing
+
 -- some frames are appended, each whole
 pub record Writes (old new : List ℕ) : Type 0 where
   pub outgoing : List Outgoing
+  pub bounded : AreBounded outgoing
   pub are : new ≡ old ++ frames_of outgoing
 
 -- what holds of every call, whoever else uses the broker: the session's number stays, and it writes whole frames
@@ -73,7 +82,7 @@ pub record Speaks (old : Client) (out : List ℕ) (new : Client) (out' : List �
 
 -- something goes out; or it finds no memory, which ends the session
 abbrev pub Says : Client → List ℕ → Outgoing → Client → List ℕ → Type 0
-Says old out outgoing new out' = ((new ≡ old) × (out' ≡ out ++ frame_of outgoing)) ⊎ ((new ≡ ended old fault.NoMemory) × (out' ≡ out))
+Says old out outgoing new out' = ((new ≡ old) × (out' ≡ out ++ frame_of outgoing) × IsBounded outgoing) ⊎ ((new ≡ ended old fault.NoMemory) × (out' ≡ out))
 
 -- the session says this by itself
 abbrev pub SaysAlone : Play → Reply → Play → Type 0

@@ -9,9 +9,10 @@ use Rattle.commands.specs.declared.reply.Reply.{Reply}
 use Rattle.frames.specs.declared.frame.Frame.{Frame}
 use Rattle.reply_queues.specs.Replies.{is_receipt, pending_to}
 use Rattle.topic_core.specs.State.{Topic}
+use Rattle.topic_core.specs.declared.dispatch.Outgoing.{Outgoing}
 use Rattle.topic_core.specs.Steps.{has_producer, has_consumer, receipts_of}
 use Rattle.session.specs.Broker.{Broker, topic_at, with_topic, due_at, collected_at, left_all}
-use Rattle.session.specs.Client.{Play, new_client, plain, Says, Writes}
+use Rattle.session.specs.Client.{Play, new_client, plain, Says, frames_of, AreBounded, Writes}
 use Rattle.session.specs.GivingBack.{CloseConsumerStep, RedeliverStep}
 use Rattle.session.specs.Working.{FrameStep, FeedStep}
 use Rattle.session.specs.Pumping.{HasNothingDue, AdmitsNothing, PumpStep}
@@ -33,6 +34,10 @@ FeedsWriteFrames = (old : Play) (bytes : List ℕ) (result : Result (Unit {0}) F
 
 abbrev pub PumpsWriteFrames : Type 0
 PumpsWriteFrames = (old : Play) (result : Result More PumpFault) (new : Play) → AnyPump old result new → Writes old.out new.out
+
+-- and no other ones, of replies within their bounds, have these bytes
+abbrev pub FramesTell : Type 0
+FramesTell = (written others : List Outgoing) → AreBounded written → AreBounded others → frames_of written ≡ frames_of others → written ≡ others
 
 -- a pump that stopped by itself left nothing due
 abbrev pub PumpsFinish : Type 0

@@ -1,9 +1,11 @@
-ghost use Rattle.session.specs.Laws.{FeedsWriteFrames, PumpsWriteFrames, PumpsFinish, PumpsServe, ConsumersRise, EndedFeedsLeave, EndedPumpsLeave, LostRepliesAreAbsorbed, WantOfMemoryIsNamed};
+ghost use Rattle.session.specs.Laws.{FeedsWriteFrames, PumpsWriteFrames, FramesTell, PumpsFinish, PumpsServe, ConsumersRise, EndedFeedsLeave, EndedPumpsLeave, LostRepliesAreAbsorbed, WantOfMemoryIsNamed};
 
-/// What a session appends to its bytes out are frames, each whole.
+/// What a session appends to its bytes out are frames, each whole, of replies within their bounds; and no other such frames
+/// have these bytes.
 pub fn writes_whole_frames()
     ensures feeds { FeedsWriteFrames }
     ensures pumps { PumpsWriteFrames }
+    ensures tells { FramesTell }
 {}
 
 /// A pump that stopped by itself left nothing due to the session.
