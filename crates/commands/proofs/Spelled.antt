@@ -1,5 +1,5 @@
 -- What is written is spelled by its fields.
-use Rattle.std.proofs.Common.{◌≡◌, ◌<◌, ◌≤◌, ◌+◌, ◌*◌, ◌^◌, ℕ, zero, suc, List, [], ◌∷◌, length, map, All, Some, None, true, false, cond, nat_eq, refl, sym, arith}
+use Rattle.std.proofs.Common.{◌≡◌, ◌<◌, ◌≤◌, ◌+◌, ◌*◌, ◌^◌, ℕ, zero, suc, List, [], ◌∷◌, length, map, All, Some, None, Ok, Err, true, false, cond, nat_eq, refl, sym, arith}
 use Rattle.std.specs.List.Sorted.{IsStrictlyIncreasing}
 use Rattle.std.proofs.lemmas.List.Elements.{All-head, All-tail, All-cons}
 use Rattle.std.specs.Int.{w32, w64, to_le_bytes}
@@ -11,7 +11,7 @@ use Rattle.proto_fields.specs.Fields.{IsFieldNumber, IsField, FieldsOf}
 use Rattle.proto_fields.specs.Spelling.{varint}
 use Rattle.proto_fields.proofs.Shortest.{varint-is, number-is_field, content-is_field}
 use Rattle.commands.specs.declared.reply.Reply.{Reply}
-use Rattle.commands.specs.declared.reply.Reply.TheVariants.{Connected, SendReceipt, SendError, Message, Success, Error, ProducerSuccess, Pong, AckResponse}
+use Rattle.commands.specs.declared.reply.Reply.TheVariants.{Connected, SendReceipt, SendError, Message, Success, Error, ProducerSuccess, Pong, PartitionedMetadataResponse, LookupResponse, AckResponse}
 use Rattle.commands.specs.Replies.{number, content, value_spelling, field_spelling, message_spelling, id_fields, reply_type, fields_in, reply_fields, frame_fields, spelling}
 use Rattle.commands.specs.Laws.{FitsKind, IsWritable, IsSpelled, SpellsFields}
 
@@ -72,6 +72,10 @@ rising (Success request_id) = rising-one 1
 rising (Error request_id error) = rising-cons 1 2 (3 ∷ []) (omega arith) (rising-cons 2 3 [] (omega arith) (rising-one 3))
 rising (ProducerSuccess request_id producer_name) = rising-cons 1 2 [] (omega arith) (rising-one 2)
 rising Pong = λ k h. absurd (omega arith)
+rising (PartitionedMetadataResponse request_id None) = rising-cons 1 2 (3 ∷ []) (omega arith) (rising-cons 2 3 [] (omega arith) (rising-one 3))
+rising (PartitionedMetadataResponse request_id (Some error)) = rising-cons 2 3 (4 ∷ 5 ∷ []) (omega arith) (rising-cons 3 4 (5 ∷ []) (omega arith) (rising-cons 4 5 [] (omega arith) (rising-one 5)))
+rising (LookupResponse request_id (Ok service_url)) = rising-cons 1 3 (4 ∷ 5 ∷ []) (omega arith) (rising-cons 3 4 (5 ∷ []) (omega arith) (rising-cons 4 5 [] (omega arith) (rising-one 5)))
+rising (LookupResponse request_id (Err error)) = rising-cons 3 4 (6 ∷ 7 ∷ []) (omega arith) (rising-cons 4 6 (7 ∷ []) (omega arith) (rising-cons 6 7 [] (omega arith) (rising-one 7)))
 rising (AckResponse consumer_id None request_id) = rising-cons 1 6 [] (omega arith) (rising-one 6)
 rising (AckResponse consumer_id (Some error) request_id) = rising-cons 1 4 (5 ∷ 6 ∷ []) (omega arith) (rising-cons 4 5 (6 ∷ []) (omega arith) (rising-cons 5 6 [] (omega arith) (rising-one 6)))
 
@@ -85,6 +89,8 @@ type-is (Success request_id) = (omega arith, omega arith)
 type-is (Error request_id error) = (omega arith, omega arith)
 type-is (ProducerSuccess request_id producer_name) = (omega arith, omega arith)
 type-is Pong = (omega arith, omega arith)
+type-is (PartitionedMetadataResponse request_id error) = (omega arith, omega arith)
+type-is (LookupResponse request_id service_url) = (omega arith, omega arith)
 type-is (AckResponse consumer_id error request_id) = (omega arith, omega arith)
 
 pub replies : (reply : Reply) → All IsWritable (fields_in reply) → length (reply_fields reply) < 2 ^ 64 → IsSpelled reply

@@ -13,7 +13,7 @@ use Rattle.proto_fields.specs.Spelling.{varint}
 use Rattle.proto_fields.proofs.FieldList.{reads_whole, has_one_reading}
 use Rattle.proto_fields.proofs.Shortest.{varint-is}
 use Rattle.commands.specs.declared.reply.Reply.{Reply}
-use Rattle.commands.specs.declared.reply.Reply.TheVariants.{Connected, SendReceipt, SendError, Message, Success, Error, ProducerSuccess, Pong, AckResponse}
+use Rattle.commands.specs.declared.reply.Reply.TheVariants.{Connected, SendReceipt, SendError, Message, Success, Error, ProducerSuccess, Pong, PartitionedMetadataResponse, LookupResponse, AckResponse}
 use Rattle.ids.specs.declared.message_id.MessageId.{MessageId}
 use Rattle.commands.specs.declared.server_error.ServerError.{ServerError}
 use Rattle.commands.specs.declared.server_error.ServerError.TheVariants.{PersistenceError, ConsumerBusy, ChecksumError, ConsumerNotFound, TooManyRequests, ProducerBusy, InvalidTopicName, ConsumerAssignError, NotAllowedError}
@@ -146,6 +146,25 @@ writable (ProducerSuccess request_id producer_name) h =
     let short : length producer_name ≤ 65535 = h.1 in
     two _ _ (a_number 1 request_id (omega arith) (omega arith) h.0) (a_content 2 producer_name (omega arith) (omega arith) (omega arith))
 writable Pong h = none
+writable (PartitionedMetadataResponse request_id None) h =
+    three _ _ _ (a_number 1 0 (omega arith) (omega arith) (omega arith)) (a_number 2 request_id (omega arith) (omega arith) h) (a_number 3 0 (omega arith) (omega arith) (omega arith))
+writable (PartitionedMetadataResponse request_id (Some error)) h =
+    let small = code-small error in
+    let short = name-short error in
+    All-cons IsWritable (number 2 request_id) (number 3 1 ∷ number 4 (error_code error) ∷ content 5 (error_name error) ∷ []) (a_number 2 request_id (omega arith) (omega arith) h)
+    (three _ _ _ (a_number 3 1 (omega arith) (omega arith) (omega arith)) (a_number 4 (error_code error) (omega arith) (omega arith) (omega arith))
+    (a_content 5 (error_name error) (omega arith) (omega arith) (omega arith)))
+writable (LookupResponse request_id (Ok service_url)) h =
+    let short : length service_url ≤ 65535 = h.1 in
+    All-cons IsWritable (content 1 service_url) (number 3 1 ∷ number 4 request_id ∷ number 5 1 ∷ []) (a_content 1 service_url (omega arith) (omega arith) (omega arith))
+    (three _ _ _ (a_number 3 1 (omega arith) (omega arith) (omega arith)) (a_number 4 request_id (omega arith) (omega arith) h.0)
+    (a_number 5 1 (omega arith) (omega arith) (omega arith)))
+writable (LookupResponse request_id (Err error)) h =
+    let small = code-small error in
+    let short = name-short error in
+    All-cons IsWritable (number 3 2) (number 4 request_id ∷ number 6 (error_code error) ∷ content 7 (error_name error) ∷ []) (a_number 3 2 (omega arith) (omega arith) (omega arith))
+    (three _ _ _ (a_number 4 request_id (omega arith) (omega arith) h.0) (a_number 6 (error_code error) (omega arith) (omega arith) (omega arith))
+    (a_content 7 (error_name error) (omega arith) (omega arith) (omega arith)))
 writable (AckResponse consumer_id None request_id) h =
     two _ _ (a_number 1 consumer_id (omega arith) (omega arith) h.0) (a_number 6 request_id (omega arith) (omega arith) h.1)
 writable (AckResponse consumer_id (Some error) request_id) h =
@@ -155,14 +174,14 @@ writable (AckResponse consumer_id (Some error) request_id) h =
     (three _ _ _ (a_number 4 (error_code error) (omega arith) (omega arith) (omega arith)) (a_content 5 (error_name error) (omega arith) (omega arith) (omega arith))
     (a_number 6 request_id (omega arith) (omega arith) h.1))
 
-bounded : (reply : Reply) → IsBuilt reply → size_bound (fields_in reply) ≤ 65600
+bounded : (reply : Reply) → IsBuilt reply → size_bound (fields_in reply) ≤ 65700
 unfolding fields_in
 bounded Connected h = omega arith
 bounded (SendReceipt producer_id sequence_id id) h = let short = id-short id h.2 h.3 in omega arith
 bounded (SendError producer_id sequence_id error) h = let short = name-short error in omega arith
 bounded (Message consumer_id id redelivery_count) h =
     let short = id-short id h.1 h.2 in
-    elim (nat_eq redelivery_count 0) as (λ b. size_bound (number 1 consumer_id ∷ content 2 (message_spelling (id_fields id)) ∷ cond b [] (number 3 redelivery_count ∷ [])) ≤ 65600) [
+    elim (nat_eq redelivery_count 0) as (λ b. size_bound (number 1 consumer_id ∷ content 2 (message_spelling (id_fields id)) ∷ cond b [] (number 3 redelivery_count ∷ [])) ≤ 65700) [
       | true ↦ omega arith
       | false ↦ omega arith
     ]
@@ -170,10 +189,14 @@ bounded (Success request_id) h = omega arith
 bounded (Error request_id error) h = let short = name-short error in omega arith
 bounded (ProducerSuccess request_id producer_name) h = let short : length producer_name ≤ 65535 = h.1 in omega arith
 bounded Pong h = omega arith
+bounded (PartitionedMetadataResponse request_id None) h = omega arith
+bounded (PartitionedMetadataResponse request_id (Some error)) h = let short = name-short error in omega arith
+bounded (LookupResponse request_id (Ok service_url)) h = let short : length service_url ≤ 65535 = h.1 in omega arith
+bounded (LookupResponse request_id (Err error)) h = let short = name-short error in omega arith
 bounded (AckResponse consumer_id None request_id) h = omega arith
 bounded (AckResponse consumer_id (Some error) request_id) h = let short = name-short error in omega arith
 
-pub short-fields : (reply : Reply) → IsBuilt reply → length (reply_fields reply) ≤ 65600
+pub short-fields : (reply : Reply) → IsBuilt reply → length (reply_fields reply) ≤ 65700
 short-fields reply h =
     let short = short-message (fields_in reply) (writable reply h) in
     let small = bounded reply h in
@@ -240,6 +263,18 @@ answer_in fields =
     if first_number (behind fields) == 4 then AckResponse (number_in (first fields)) (Some (error_in (number_in (first (behind fields))))) (number_in (first (behind (behind (behind fields)))))
     else AckResponse (number_in (first fields)) None (number_in (first (behind fields)))
 
+-- the answer to a question for partitions: refused where field 2 comes first
+abbrev partitions_in : List Field → Reply
+partitions_in fields =
+    if first_number fields == 2 then PartitionedMetadataResponse (number_in (first fields)) (Some (error_in (number_in (first (behind (behind fields))))))
+    else PartitionedMetadataResponse (number_in (first (behind fields))) None
+
+-- the answer to a lookup: refused where field 3 comes first
+abbrev lookup_in : List Field → Reply
+lookup_in fields =
+    if first_number fields == 3 then LookupResponse (number_in (first (behind fields))) (Err (error_in (number_in (first (behind (behind fields))))))
+    else LookupResponse (number_in (first (behind (behind fields)))) (Ok (bytes_in (first fields)))
+
 -- the reply of a type and its fields
 abbrev reply_in : ℕ → List Field → Reply
 reply_in k fields =
@@ -250,6 +285,8 @@ reply_in k fields =
     else if k == 13 then Success (number_in (first fields))
     else if k == 14 then Error (number_in (first fields)) (error_in (number_in (first (behind fields))))
     else if k == 17 then ProducerSuccess (number_in (first fields)) (bytes_in (first (behind fields)))
+    else if k == 22 then partitions_in fields
+    else if k == 24 then lookup_in fields
     else if k == 38 then answer_in fields
     else Pong
 
@@ -288,6 +325,10 @@ reply-is (Success request_id) h = refl
 reply-is (Error request_id error) h = ap (λ e. Error request_id e) (error-is error)
 reply-is (ProducerSuccess request_id producer_name) h = refl
 reply-is Pong h = refl
+reply-is (PartitionedMetadataResponse request_id None) h = refl
+reply-is (PartitionedMetadataResponse request_id (Some error)) h = ap (λ e. PartitionedMetadataResponse request_id (Some e)) (error-is error)
+reply-is (LookupResponse request_id (Ok service_url)) h = refl
+reply-is (LookupResponse request_id (Err error)) h = ap (λ e. LookupResponse request_id (Err e)) (error-is error)
 reply-is (AckResponse consumer_id None request_id) h = refl
 reply-is (AckResponse consumer_id (Some error) request_id) h = ap (λ e. AckResponse consumer_id (Some e) request_id) (error-is error)
 

@@ -5,13 +5,14 @@ use Rattle.commands.specs.declared.fault.CommandFault.{CommandFault}
 use Rattle.commands.specs.declared.command.Command.{Command}
 use Rattle.commands.specs.declared.command.Command.TheVariants as command
 use Rattle.commands.specs.declared.command.CommandType.{CommandType}
-use Rattle.commands.specs.declared.command.CommandType.TheVariants.{Connect, Subscribe, Producer, Send, Ack, Flow, Unsubscribe, CloseProducer, CloseConsumer, Ping, Pong, RedeliverUnacknowledgedMessages}
+use Rattle.commands.specs.declared.command.CommandType.TheVariants.{Connect, Subscribe, Producer, Send, Ack, Flow, Unsubscribe, CloseProducer, CloseConsumer, Ping, Pong, RedeliverUnacknowledgedMessages, PartitionedMetadata, Lookup}
 use Rattle.commands.specs.Reading.{◌>>=◌, required, present}
 use Rattle.commands.specs.Message.{message_fields, u64_field, message_field}
 use Rattle.commands.specs.Connection.{connect_of, empty_of}
 use Rattle.commands.specs.Producing.{producer_of, send_of, close_producer_of}
 use Rattle.commands.specs.Consuming.{subscribe_of, ack_of, flow_of, unsubscribe_of}
 use Rattle.commands.specs.GivingBack.{close_consumer_of, redeliver_of}
+use Rattle.commands.specs.Lookup.{partitioned_topic_metadata_of, lookup_topic_of}
 pub use Rattle.commands.specs.Metadata.{size_at, entry_of}
 
 -- the client commands by their numbers
@@ -29,6 +30,8 @@ command_type k =
     else if k == 18 then Some Ping
     else if k == 19 then Some Pong
     else if k == 20 then Some RedeliverUnacknowledgedMessages
+    else if k == 21 then Some PartitionedMetadata
+    else if k == 23 then Some Lookup
     else None
 
 -- the command of this type, by its field's bytes
@@ -45,6 +48,8 @@ command_in CloseConsumer body = close_consumer_of body >>= λ c. Ok (command.Clo
 command_in Ping body = empty_of body >>= λ c. Ok command.Ping
 command_in Pong body = empty_of body >>= λ c. Ok command.Pong
 command_in RedeliverUnacknowledgedMessages body = redeliver_of body >>= λ c. Ok (command.RedeliverUnacknowledgedMessages c)
+command_in PartitionedMetadata body = partitioned_topic_metadata_of body >>= λ c. Ok (command.PartitionedMetadata c)
+command_in Lookup body = lookup_topic_of body >>= λ c. Ok (command.Lookup c)
 
 -- the value of field k where the last type k is a client command's; else the number k alone
 abbrev pub command_by : ℕ → List Field → Option CommandType → Result Command CommandFault

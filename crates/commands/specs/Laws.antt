@@ -1,5 +1,5 @@
 -- What holds of commands and replies, in the words of the standard.
-use Rattle.std.specs.Prelude.{◌≡◌, ◌≢◌, ◌<◌, ◌≤◌, ◌^◌, ◌↔◌, ◌==◌, ℕ, List, [], ◌∷◌, ◌++◌, length, map, filter, Some, None, MatchOption, IsSome, Result, Ok, Err, IsOk, All, false, ⊤}
+use Rattle.std.specs.Prelude.{◌≡◌, ◌≢◌, ◌<◌, ◌≤◌, ◌^◌, ◌↔◌, ◌==◌, ℕ, List, [], ◌∷◌, ◌++◌, length, map, filter, Some, None, MatchOption, IsSome, Result, Ok, Err, IsOk, IfOk, All, false, ⊤}
 use Rattle.std.specs.Int.{w32, from_be_bytes}
 use Rattle.std.specs.List.Sorted.{IsStrictlyIncreasing}
 use Rattle.std.specs.Result.{result_unwrap_or}
@@ -14,7 +14,7 @@ use Rattle.commands.specs.declared.command.Command.{Command}
 use Rattle.commands.specs.declared.command.Command.TheVariants.{Other}
 use Rattle.commands.specs.declared.metadata.MessageMeta.{MessageMeta}
 use Rattle.commands.specs.declared.reply.Reply.{Reply}
-use Rattle.commands.specs.declared.reply.Reply.TheVariants.{Connected, SendReceipt, SendError, Message, Success, Error, ProducerSuccess, Pong, AckResponse}
+use Rattle.commands.specs.declared.reply.Reply.TheVariants.{Connected, SendReceipt, SendError, Message, Success, Error, ProducerSuccess, Pong, PartitionedMetadataResponse, LookupResponse, AckResponse}
 use Rattle.commands.specs.Message.{varint_of, content_of, u64_field, bytes_field, message_field, repeated_field, has_field}
 use Rattle.commands.specs.MessageIds.{message_id_of}
 use Rattle.commands.specs.KeyShared.{int_range_of}
@@ -55,6 +55,8 @@ IsBuilt (Success request_id) = request_id < 2 ^ 64
 IsBuilt (Error request_id error) = request_id < 2 ^ 64
 IsBuilt (ProducerSuccess request_id producer_name) = (request_id < 2 ^ 64) × (length producer_name ≤ 65535)
 IsBuilt Pong = ⊤
+IsBuilt (PartitionedMetadataResponse request_id error) = request_id < 2 ^ 64
+IsBuilt (LookupResponse request_id service_url) = (request_id < 2 ^ 64) × IfOk service_url (λ url. length url ≤ 65535)
 IsBuilt (AckResponse consumer_id error request_id) = (consumer_id < 2 ^ 64) × (request_id < 2 ^ 64)
 
 -- the bytes of a reply tell which reply it is

@@ -7,6 +7,7 @@ pub mod MessageIds
 pub mod KeyShared
 pub mod Consuming
 pub mod GivingBack
+pub mod Lookup
 pub mod Metadata
 pub mod Commands
 pub mod Replies

@@ -1,5 +1,5 @@
 -- The one spelling of each reply: its fields by rising number.
-use Rattle.std.specs.Prelude.{ℕ, ◌+◌, ◌*◌, List, [], ◌∷◌, ◌++◌, Option, Some, None, codes, ◌==◌, if◌then◌else◌}
+use Rattle.std.specs.Prelude.{ℕ, ◌+◌, ◌*◌, List, [], ◌∷◌, ◌++◌, Option, Some, None, Result, Ok, Err, codes, ◌==◌, if◌then◌else◌}
 use Rattle.std.specs.List.{flat_map}
 use Rattle.std.specs.Int.{w32, w64, to_le_bytes}
 use Rattle.proto_fields.specs.declared.value.Field.{Field}
@@ -7,7 +7,7 @@ use Rattle.proto_fields.specs.declared.value.Value.{Value}
 use Rattle.proto_fields.specs.declared.value.Value.TheVariants.{Varint, Fixed64, Bytes, Fixed32}
 use Rattle.proto_fields.specs.Spelling.{varint, number_field, bytes_field}
 use Rattle.commands.specs.declared.reply.Reply.{Reply}
-use Rattle.commands.specs.declared.reply.Reply.TheVariants.{Connected, SendReceipt, SendError, Message, Success, Error, ProducerSuccess, Pong, AckResponse}
+use Rattle.commands.specs.declared.reply.Reply.TheVariants.{Connected, SendReceipt, SendError, Message, Success, Error, ProducerSuccess, Pong, PartitionedMetadataResponse, LookupResponse, AckResponse}
 use Rattle.ids.specs.declared.message_id.MessageId.{MessageId}
 use Rattle.commands.specs.declared.server_error.ServerError.{ServerError}
 use Rattle.commands.specs.declared.server_error.ServerError.TheVariants.{PersistenceError, ConsumerBusy, ChecksumError, ConsumerNotFound, TooManyRequests, ProducerBusy, InvalidTopicName, ConsumerAssignError, NotAllowedError}
@@ -72,6 +72,8 @@ reply_type (Success request_id) = 13
 reply_type (Error request_id error) = 14
 reply_type (ProducerSuccess request_id producer_name) = 17
 reply_type Pong = 19
+reply_type (PartitionedMetadataResponse request_id error) = 22
+reply_type (LookupResponse request_id service_url) = 24
 reply_type (AckResponse consumer_id error request_id) = 38
 
 -- how often a message was sent before, unless it is the first time
@@ -83,6 +85,16 @@ abbrev pub refusal_fields : Option ServerError → List Field
 refusal_fields None = []
 refusal_fields (Some error) = number 4 (error_code error) ∷ content 5 (error_name error) ∷ []
 
+-- a topic has 0 partitions and the response is Success, 0; or the response is Failed, 1, with the error
+abbrev pub partition_fields : ℕ → Option ServerError → List Field
+partition_fields request_id None = number 1 0 ∷ number 2 request_id ∷ number 3 0 ∷ []
+partition_fields request_id (Some error) = number 2 request_id ∷ number 3 1 ∷ number 4 (error_code error) ∷ content 5 (error_name error) ∷ []
+
+-- the broker's URL, the response is Connect, 1, and the broker is the topic's own; or the response is Failed, 2, with the error
+abbrev pub lookup_fields : ℕ → Result (List ℕ) ServerError → List Field
+lookup_fields request_id (Ok service_url) = content 1 service_url ∷ number 3 1 ∷ number 4 request_id ∷ number 5 1 ∷ []
+lookup_fields request_id (Err error) = number 3 2 ∷ number 4 request_id ∷ number 6 (error_code error) ∷ content 7 (error_name error) ∷ []
+
 -- the fields of a reply
 unfoldable pub fields_in : Reply → List Field
 fields_in Connected = content 1 (codes "node-1") ∷ number 2 5 ∷ number 3 1048576 ∷ []
@@ -93,6 +105,8 @@ fields_in (Success request_id) = number 1 request_id ∷ []
 fields_in (Error request_id error) = number 1 request_id ∷ number 2 (error_code error) ∷ content 3 (error_name error) ∷ []
 fields_in (ProducerSuccess request_id producer_name) = number 1 request_id ∷ content 2 producer_name ∷ []
 fields_in Pong = []
+fields_in (PartitionedMetadataResponse request_id error) = partition_fields request_id error
+fields_in (LookupResponse request_id service_url) = lookup_fields request_id service_url
 fields_in (AckResponse consumer_id error request_id) = number 1 consumer_id ∷ (refusal_fields error ++ number 6 request_id ∷ [])
 
 -- the bytes of a reply's fields

@@ -9,6 +9,9 @@ use crate::consuming::{
 use crate::fault::CommandFault;
 use crate::giving_back::{CloseConsumer, Redeliver, read_close_consumer, read_redeliver};
 use crate::kinds::required;
+use crate::lookup::{
+    LookupTopic, PartitionedTopicMetadata, read_lookup_topic, read_partitioned_topic_metadata,
+};
 use crate::message::Message;
 use crate::producing::{
     CloseProducer, Producer, Send, read_close_producer, read_producer, read_send,
@@ -30,6 +33,8 @@ pub enum Command {
     Ping,
     Pong,
     RedeliverUnacknowledgedMessages(Redeliver),
+    PartitionedMetadata(PartitionedTopicMetadata),
+    Lookup(LookupTopic),
     /// A command of another type, of which nothing but the type is read.
     Other(u64),
 }
@@ -49,6 +54,8 @@ enum CommandType {
     Ping,
     Pong,
     RedeliverUnacknowledgedMessages,
+    PartitionedMetadata,
+    Lookup,
 }
 
 fn command_type(number: u64) -> Option<CommandType>
@@ -67,6 +74,8 @@ fn command_type(number: u64) -> Option<CommandType>
         18 => Some(CommandType::Ping),
         19 => Some(CommandType::Pong),
         20 => Some(CommandType::RedeliverUnacknowledgedMessages),
+        21 => Some(CommandType::PartitionedMetadata),
+        23 => Some(CommandType::Lookup),
         _ => None,
     }
 }
@@ -96,6 +105,10 @@ fn read_body(alloc: Global, kind: CommandType, body: &[u8]) -> Result<Command, C
         CommandType::RedeliverUnacknowledgedMessages => {
             Ok(Command::RedeliverUnacknowledgedMessages(read_redeliver(alloc, body)?))
         }
+        CommandType::PartitionedMetadata => {
+            Ok(Command::PartitionedMetadata(read_partitioned_topic_metadata(alloc, body)?))
+        }
+        CommandType::Lookup => Ok(Command::Lookup(read_lookup_topic(alloc, body)?)),
     }
 }
 

@@ -38,6 +38,16 @@ pub enum Reply {
         producer_name: ReplyText,
     },
     Pong,
+    /// A topic has no partitions, or is refused.
+    PartitionedMetadataResponse {
+        request_id: u64,
+        error: Option<ServerError>,
+    },
+    /// The URL of the broker that serves a topic, which a client then connects to; or the topic is refused.
+    LookupResponse {
+        request_id: u64,
+        service_url: Result<ReplyText, ServerError>,
+    },
     AckResponse {
         consumer_id: u64,
         error: Option<ServerError>,
@@ -60,6 +70,8 @@ impl Reply {
             Reply::Error { .. } => 14,
             Reply::ProducerSuccess { .. } => 17,
             Reply::Pong => 19,
+            Reply::PartitionedMetadataResponse { .. } => 22,
+            Reply::LookupResponse { .. } => 24,
             Reply::AckResponse { .. } => 38,
         }
     }

@@ -1,10 +1,11 @@
-ghost use Rattle.std.specs.Prelude.{◌≡◌, ◌+◌, ◌<◌, ◌≤◌, ◌^◌, ◌++◌, take, length, vec_len, OnOk, OnErr};
+ghost use Rattle.std.specs.Prelude.{◌≡◌, ◌+◌, ◌<◌, ◌≤◌, ◌^◌, ◌++◌, take, length, vec_len, IfOk, OnOk, OnErr};
 ghost use Rattle.proto_fields.specs.Fields.{IsFieldNumber};
 ghost use Rattle.proto_fields.specs.Spelling.{number_field, bytes_field};
 ghost use Rattle.commands.specs.Laws.{IsBuilt};
-ghost use Rattle.commands.specs.Replies.{error_code, error_name, id_fields, count_fields, refusal_fields, message_spelling, reply_fields, spelling};
+ghost use Rattle.commands.specs.Replies.{error_code, error_name, id_fields, count_fields, refusal_fields, partition_fields, lookup_fields, message_spelling, reply_fields, spelling};
 
 use crate::reply::Reply;
+use crate::reply_text::ReplyText;
 use crate::server_error::ServerError;
 use ids::MessageId;
 use proto_fields::{put_bytes, put_number};
@@ -57,10 +58,56 @@ fn put_refusal(error: Option<ServerError>, out: &mut Vec<u8>) -> Result<(), Allo
     }
 }
 
+fn put_partitions(
+    request_id: u64,
+    error: Option<ServerError>,
+    out: &mut Vec<u8>,
+) -> Result<(), AllocError>
+    ensures ok { OnOk result (out.new.items ≡ out.old.items ++ message_spelling (partition_fields request_id error)) }
+    ensures growth { OnOk result (vec_len out.new ≤ vec_len out.old + 100) }
+{
+    match error {
+        None => {
+            put_number(1, 0, out)?;
+            put_number(2, request_id, out)?;
+            put_number(3, 0, out)
+        }
+        Some(error) => {
+            put_number(2, request_id, out)?;
+            put_number(3, 1, out)?;
+            put_error(4, error, out)
+        }
+    }
+}
+
+fn put_lookup(
+    request_id: u64,
+    service_url: &Result<ReplyText, ServerError>,
+    out: &mut Vec<u8>,
+) -> Result<(), AllocError>
+    ensures ok { OnOk result (out.new.items ≡ out.old.items ++ message_spelling (lookup_fields request_id service_url.now)) }
+    ensures growth { OnOk result (vec_len out.new ≤ vec_len out.old + 65630) }
+    ensures short { IfOk service_url.now (λ url. length url ≤ 65535) }
+{
+    match service_url {
+        Ok(url) => {
+            put_bytes(1, url.as_str().as_bytes(), out)?;
+            put_number(3, 1, out)?;
+            put_number(4, request_id, out)?;
+            put_number(5, 1, out)
+        }
+        Err(error) => {
+            put_number(3, 2, out)?;
+            put_number(4, request_id, out)?;
+            put_error(6, *error, out)
+        }
+    }
+}
+
 #[tactic(auto, unfolding(crate::specs::Replies::fields_in))]
 fn put_fields(alloc: Global, reply: &Reply, out: &mut Vec<u8>) -> Result<(), AllocError>
     ensures ok { OnOk result (out.new.items ≡ out.old.items ++ reply_fields reply.now) }
-    ensures growth { OnOk result (vec_len out.new ≤ vec_len out.old + 65600) }
+    ensures growth { OnOk result (vec_len out.new ≤ vec_len out.old + 65700) }
     ensures built { OnOk result (IsBuilt reply.now) }
 {
     match reply {
@@ -109,6 +156,13 @@ fn put_fields(alloc: Global, reply: &Reply, out: &mut Vec<u8>) -> Result<(), All
             put_bytes(2, producer_name.as_str().as_bytes(), out)
         }
         Reply::Pong => Ok(()),
+        Reply::PartitionedMetadataResponse { request_id, error } => {
+            put_partitions(*request_id, *error, out)
+        }
+        Reply::LookupResponse {
+            request_id,
+            service_url,
+        } => put_lookup(*request_id, service_url, out),
         Reply::AckResponse {
             consumer_id,
             error,

@@ -4,7 +4,7 @@ use Rattle.std.proofs.lemmas.Bool.{cases_Bool, ltb-false, and_parts, eqb-true, f
 use Rattle.std.proofs.lemmas.List.{take-append-drop, length-take-le}
 use Rattle.std.proofs.Math.Seq.{take-append_seam, drop-append_seam}
 use Rattle.commands.specs.declared.command.Command.{Command}
-use Rattle.commands.specs.declared.command.Command.TheVariants.{Connect, Subscribe, Producer, Send, Ack, Flow, Unsubscribe, CloseProducer, CloseConsumer, Ping, Pong, RedeliverUnacknowledgedMessages, Other}
+use Rattle.commands.specs.declared.command.Command.TheVariants.{Connect, Subscribe, Producer, Send, Ack, Flow, Unsubscribe, CloseProducer, CloseConsumer, Ping, Pong, RedeliverUnacknowledgedMessages, PartitionedMetadata, Lookup, Other}
 use Rattle.commands.specs.declared.metadata.MessageMeta.{MessageMeta}
 use Rattle.commands.specs.declared.fault.CommandFault.{CommandFault}
 use Rattle.commands.specs.Metadata.{size_at, entry_of}
@@ -172,6 +172,8 @@ entry-from (CloseConsumer c) bytes entry h = nothing-from bytes entry h
 entry-from Ping bytes entry h = nothing-from bytes entry h
 entry-from Pong bytes entry h = nothing-from bytes entry h
 entry-from (RedeliverUnacknowledgedMessages c) bytes entry h = nothing-from bytes entry h
+entry-from (PartitionedMetadata c) bytes entry h = nothing-from bytes entry h
+entry-from (Lookup c) bytes entry h = nothing-from bytes entry h
 
 -- and what stands there is read
 pub entry-to : (command : Command) (bytes : List ℕ) (entry : FrameEntry) → IsEntry command bytes entry → entry_behind command bytes ≡ Ok entry
@@ -189,6 +191,8 @@ entry-to (CloseConsumer c) bytes entry h = nothing-to bytes entry h
 entry-to Ping bytes entry h = nothing-to bytes entry h
 entry-to Pong bytes entry h = nothing-to bytes entry h
 entry-to (RedeliverUnacknowledgedMessages c) bytes entry h = nothing-to bytes entry h
+entry-to (PartitionedMetadata c) bytes entry h = nothing-to bytes entry h
+entry-to (Lookup c) bytes entry h = nothing-to bytes entry h
 
 -- one fault alone can show there
 pub entry-fault : (command : Command) (bytes : List ℕ) (fault : Fault) → entry_behind command bytes ≡ Err fault → fault ≡ BadPayload
@@ -206,3 +210,5 @@ entry-fault (CloseConsumer c) bytes fault h = nothing-fault bytes fault h
 entry-fault Ping bytes fault h = nothing-fault bytes fault h
 entry-fault Pong bytes fault h = nothing-fault bytes fault h
 entry-fault (RedeliverUnacknowledgedMessages c) bytes fault h = nothing-fault bytes fault h
+entry-fault (PartitionedMetadata c) bytes fault h = nothing-fault bytes fault h
+entry-fault (Lookup c) bytes fault h = nothing-fault bytes fault h

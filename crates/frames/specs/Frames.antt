@@ -2,7 +2,7 @@
 use Rattle.std.specs.Prelude.{◌≡◌, ◌≤◌, ℕ, ◌+◌, List, [], ◌∷◌, ◌++◌, length, take, Ok}
 use Rattle.std.specs.Int.{w32, from_be_bytes, to_be_bytes}
 use Rattle.commands.specs.declared.command.Command.{Command}
-use Rattle.commands.specs.declared.command.Command.TheVariants.{Connect, Subscribe, Producer, Send, Ack, Flow, Unsubscribe, CloseProducer, CloseConsumer, Ping, Pong, RedeliverUnacknowledgedMessages, Other}
+use Rattle.commands.specs.declared.command.Command.TheVariants.{Connect, Subscribe, Producer, Send, Ack, Flow, Unsubscribe, CloseProducer, CloseConsumer, Ping, Pong, RedeliverUnacknowledgedMessages, PartitionedMetadata, Lookup, Other}
 use Rattle.commands.specs.declared.metadata.MessageMeta.{MessageMeta}
 use Rattle.commands.specs.Commands.{command_of}
 use Rattle.commands.specs.Metadata.{meta_of}
@@ -64,6 +64,8 @@ IsEntry (CloseConsumer c) behind entry = IsNothing behind entry
 IsEntry Ping behind entry = IsNothing behind entry
 IsEntry Pong behind entry = IsNothing behind entry
 IsEntry (RedeliverUnacknowledgedMessages c) behind entry = IsNothing behind entry
+IsEntry (PartitionedMetadata c) behind entry = IsNothing behind entry
+IsEntry (Lookup c) behind entry = IsNothing behind entry
 
 -- the bytes are this frame, all of them
 pub record IsFrame (bytes : List ℕ) (frame : Frame) : Type 0 where

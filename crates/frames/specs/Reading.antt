@@ -3,7 +3,7 @@ use Rattle.std.specs.Prelude.{◌≡◌, ◌≢◌, ◌≤◌, ℕ, ◌+◌, Lis
 use Rattle.std.specs.Bool.{MatchBool}
 use Rattle.std.proofs.Common.{refl}
 use Rattle.commands.specs.declared.command.Command.{Command}
-use Rattle.commands.specs.declared.command.Command.TheVariants.{Connect, Subscribe, Producer, Send, Ack, Flow, Unsubscribe, CloseProducer, CloseConsumer, Ping, Pong, RedeliverUnacknowledgedMessages, Other}
+use Rattle.commands.specs.declared.command.Command.TheVariants.{Connect, Subscribe, Producer, Send, Ack, Flow, Unsubscribe, CloseProducer, CloseConsumer, Ping, Pong, RedeliverUnacknowledgedMessages, PartitionedMetadata, Lookup, Other}
 use Rattle.commands.specs.declared.fault.CommandFault.{CommandFault}
 use Rattle.commands.specs.declared.metadata.MessageMeta.{MessageMeta}
 use Rattle.commands.specs.declared.fault.CommandFault.TheVariants as command
@@ -81,6 +81,8 @@ entry_behind (CloseConsumer c) behind = nothing_of behind
 entry_behind Ping behind = nothing_of behind
 entry_behind Pong behind = nothing_of behind
 entry_behind (RedeliverUnacknowledgedMessages c) behind = nothing_of behind
+entry_behind (PartitionedMetadata c) behind = nothing_of behind
+entry_behind (Lookup c) behind = nothing_of behind
 
 -- a frame whose sizes agree with its bytes
 unfoldable pub frame_of : List ℕ → Result Frame Fault

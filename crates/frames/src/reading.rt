@@ -118,7 +118,9 @@ fn entry_behind(
         | Command::CloseConsumer(_)
         | Command::Ping
         | Command::Pong
-        | Command::RedeliverUnacknowledgedMessages(_) => nothing(&frame[start..]),
+        | Command::RedeliverUnacknowledgedMessages(_)
+        | Command::PartitionedMetadata(_)
+        | Command::Lookup(_) => nothing(&frame[start..]),
     }
 }
 

@@ -84,6 +84,7 @@ ends_earlier verdict.Done s faults new more o = record {
   up = o.up;
   crash = record {
     per_ledger = o.crash.per_ledger;
+    service_url = o.crash.service_url;
     names = o.crash.names;
     count = o.crash.count;
     each = o.crash.each;

@@ -63,6 +63,7 @@ state_crash per_ledger old new served n now numbered is crash stage none unused 
     let x : TopicCrash served.topic now = crash served.topic (sym (ap (λ (b : Broker). topic_at b 0) e)) served.numbered in
     record {
       per_ledger = ap (λ (b : Broker). b.per_ledger) f ∙ sym (ap (λ (b : Broker). b.per_ledger) e);
+      service_url = ap (λ (b : Broker). b.service_url) f ∙ sym (ap (λ (b : Broker). b.service_url) e);
       names = ap (λ (b : Broker). b.names) f ∙ sym (ap (λ (b : Broker). b.names) e);
       count = ap (λ (b : Broker). length b.topics) f ∙ sym (ap (λ (b : Broker). length b.topics) e);
       each = λ number. subst (λ (b : Broker). TopicCrash (topic_at b number) (topic_at new.broker number)) (sym e)

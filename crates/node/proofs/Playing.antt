@@ -11,10 +11,12 @@ use Rattle.commands.specs.declared.consuming.Unsubscribe.{Unsubscribe as Unwante
 use Rattle.commands.specs.declared.giving_back.CloseConsumer.{CloseConsumer as Detached}
 use Rattle.commands.specs.declared.giving_back.Redeliver.{Redeliver as Redelivered}
 use Rattle.commands.specs.declared.producing.CloseProducer.{CloseProducer as Closed}
+use Rattle.commands.specs.declared.lookup.LookupTopic.{LookupTopic}
+use Rattle.commands.specs.declared.lookup.PartitionedTopicMetadata.{PartitionedTopicMetadata}
 use Rattle.commands.specs.declared.reply.Reply.{Reply}
 use Rattle.commands.specs.declared.reply.Reply.TheVariants as reply
 use Rattle.commands.specs.declared.server_error.ServerError.{ServerError}
-use Rattle.commands.specs.declared.server_error.ServerError.TheVariants.{TooManyRequests, NotAllowedError, ConsumerNotFound}
+use Rattle.commands.specs.declared.server_error.ServerError.TheVariants.{TooManyRequests, InvalidTopicName, NotAllowedError, ConsumerNotFound}
 use Rattle.frames.specs.declared.frame.Frame.{Frame}
 use Rattle.frames.specs.declared.frame.FrameEntry.{FrameEntry}
 use Rattle.gated_log.specs.declared.read_error.ReadError.{ReadError}
@@ -42,6 +44,8 @@ use Rattle.session.specs.Client.{Client, Play, plain, Says, SaysAlone, Answered,
 use Rattle.session.specs.Producing.{FoundStep, ProducerIn, own_refusals, with_live_producers, topic_of, sent_entry, send_command, SendIn, producer_command, CloseIn, close_command}
 use Rattle.session.specs.Consuming as consuming
 use Rattle.session.specs.GivingBack as giving_back
+use Rattle.session.specs.Lookup.{LookupIn, PartitionsIn}
+use Rattle.session.specs.TopicName.{is_topic_name}
 use Rattle.session.specs.Working.{WorksCommand, Connects, FrameIn, FramesStep, FeedIn, connected_client, with_progress, ended_if}
 use Rattle.session.specs.Pumping.{Collects, Sends, FindsNoMemory, ServesEach, ServesAll, ServesIf, PumpIn}
 use Rattle.session.specs.declared.consumer_entry.ConsumerEntry.{ConsumerEntry}
@@ -223,6 +227,14 @@ redelivers : (topic : Option ℕ) (old : Play) (c : Redelivered) (new : Play) �
 redelivers None old c new s = still_play old new s
 redelivers (Some topic) old c new s = asked old new old.client topic old.client.number (giving_back.redeliver_command c) s.answer refl s.step s.answered
 
+looks_up : (named : Bool) (old : Play) (c : LookupTopic) (new : Play) → LookupIn named old c new → Plays old new
+looks_up true old c new s = says_alone old (reply.LookupResponse c.request_id (Ok old.broker.service_url)) new (record { no_receipt = refl; no_message = refl }) s
+looks_up false old c new s = says_alone old (reply.LookupResponse c.request_id (Err InvalidTopicName)) new (record { no_receipt = refl; no_message = refl }) s
+
+tells_partitions : (named : Bool) (old : Play) (c : PartitionedTopicMetadata) (new : Play) → PartitionsIn named old c new → Plays old new
+tells_partitions true old c new s = says_alone old (reply.PartitionedMetadataResponse c.request_id None) new (record { no_receipt = refl; no_message = refl }) s
+tells_partitions false old c new s = says_alone old (reply.PartitionedMetadataResponse c.request_id (Some InvalidTopicName)) new (record { no_receipt = refl; no_message = refl }) s
+
 works : (c : Command) (old : Play) (entry : FrameEntry) (new : Play) → WorksCommand old c entry new → Plays old new
 works (command.Connect c) old entry new s = ends old new _ s
 works (command.Producer c) old entry new s =
@@ -237,6 +249,8 @@ works (command.CloseProducer c) old entry new s = closes (topic_of old.client.pr
 works (command.Unsubscribe c) old entry new s = unsubscribes (consuming.topic_of old.client.consumers c.consumer_id) old c new s
 works (command.CloseConsumer c) old entry new s = closes_consumer (consuming.topic_of old.client.consumers c.consumer_id) old c new s
 works (command.RedeliverUnacknowledgedMessages c) old entry new s = redelivers (consuming.topic_of old.client.consumers c.consumer_id) old c new s
+works (command.PartitionedMetadata c) old entry new s = tells_partitions (is_topic_name c.topic) old c new s
+works (command.Lookup c) old entry new s = looks_up (is_topic_name c.topic) old c new s
 works command.Ping old entry new s = says_alone old reply.Pong new (record { no_receipt = refl; no_message = refl }) s
 works command.Pong old entry new s = still_play old new s
 works (command.Other k) old entry new s = ends old new _ s

@@ -9,7 +9,7 @@ use Rattle.cursor.specs.Positions.{Positions, Has, below}
 use Rattle.commands.specs.declared.consuming.AckType.{AckType}
 use Rattle.commands.specs.declared.consuming.AckType.TheVariants.{Individual, Cumulative}
 use Rattle.commands.specs.declared.reply.Reply.{Reply}
-use Rattle.commands.specs.declared.reply.Reply.TheVariants.{Connected, ProducerSuccess, SendReceipt, SendError, Message, Success, Error, AckResponse, Pong}
+use Rattle.commands.specs.declared.reply.Reply.TheVariants.{Connected, ProducerSuccess, SendReceipt, SendError, Message, Success, Error, PartitionedMetadataResponse, LookupResponse, AckResponse, Pong}
 use Rattle.records.specs.Maps.{Kept}
 use Rattle.reply_queues.specs.Replies.{refused}
 use Rattle.subscriptions.specs.State.{Subscription}
@@ -149,6 +149,8 @@ is_acceptance (SendError producer_id sequence_id error) = false
 is_acceptance (Message consumer_id id redelivery_count) = false
 is_acceptance (Success request_id) = true
 is_acceptance (Error request_id error) = false
+is_acceptance (PartitionedMetadataResponse request_id error) = false
+is_acceptance (LookupResponse request_id service_url) = false
 is_acceptance (AckResponse consumer_id None request_id) = true
 is_acceptance (AckResponse consumer_id (Some error) request_id) = false
 is_acceptance Pong = false

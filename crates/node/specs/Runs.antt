@@ -40,6 +40,7 @@ pub record Reached (old : State) (events : List Event) (broker : Broker) : Type 
 -- what a crash leaves of a node, as it is opened again: each topic as a crash leaves it, and no session
 pub record StateCrash (old new : State) : Type 0 where
   pub per_ledger : new.broker.per_ledger ≡ old.broker.per_ledger
+  pub service_url : new.broker.service_url ≡ old.broker.service_url
   pub names : new.broker.names ≡ old.broker.names
   pub count : length new.broker.topics ≡ length old.broker.topics
   pub each : (number : ℕ) → TopicCrash (topic_at old.broker number) (topic_at new.broker number)

@@ -33,7 +33,7 @@ pub record State : Type 0 where
 
 -- a broker of one topic, number 0
 abbrev pub broker_with : ℕ → Topic → Broker
-broker_with per_ledger topic = record { per_ledger = per_ledger; names = codes "persistent://a/b/c" ∷ []; topics = topic ∷ [] }
+broker_with per_ledger topic = record { per_ledger = per_ledger; service_url = codes "pulsar://replay"; names = codes "persistent://a/b/c" ∷ []; topics = topic ∷ [] }
 
 -- nothing happened to it yet
 abbrev pub fresh_broker : ℕ → Broker

@@ -2,7 +2,7 @@
 use Rattle.std.specs.Prelude.{◌≡◌, ℕ, ◌+◌, cond, nat_eq, Bool, true, false, Option, Some, None, List, [], ◌∷◌, ◌++◌}
 use Rattle.std.specs.List.{AllByRecursion}
 use Rattle.commands.specs.declared.reply.Reply.{Reply}
-use Rattle.commands.specs.declared.reply.Reply.TheVariants.{Connected, ProducerSuccess, SendReceipt, SendError, Message, Success, Error, AckResponse, Pong}
+use Rattle.commands.specs.declared.reply.Reply.TheVariants.{Connected, ProducerSuccess, SendReceipt, SendError, Message, Success, Error, PartitionedMetadataResponse, LookupResponse, AckResponse, Pong}
 use Rattle.topic_core.specs.declared.dispatch.Outgoing.{Outgoing}
 use Rattle.topic_core.specs.State.{Topic}
 use Rattle.reply_queues.specs.Replies.{is_receipt}
@@ -43,6 +43,8 @@ is_message (SendError producer_id sequence_id error) = false
 is_message (Message consumer_id id redelivery_count) = true
 is_message (Success request_id) = false
 is_message (Error request_id error) = false
+is_message (PartitionedMetadataResponse request_id error) = false
+is_message (LookupResponse request_id service_url) = false
 is_message (AckResponse consumer_id error request_id) = false
 is_message Pong = false
 

@@ -6,6 +6,9 @@ use disk::Shelf;
 use session::{Found, Port};
 use topic_core::{Answer, Outgoing, ReadError, TooManyPermits, TopicCommand, TopicStore};
 
+/// Where clients find the broker, for now: a node is driven by a replay alone.
+const SERVICE_URL: &str = "pulsar://replay";
+
 impl<T: TopicStore, S: Shelf> Port for Topics<T, S> {
     ghost use Rattle.node.specs.Standing.{broker_of, TopicsStand, Passes, Refuses};
 
@@ -18,6 +21,10 @@ impl<T: TopicStore, S: Shelf> Port for Topics<T, S> {
     ghost passes = { Passes S.disk };
 
     ghost refuses = { Refuses S.disk };
+
+    fn service_url(&self) -> &str {
+        SERVICE_URL
+    }
 
     fn topics(&self) -> u64 {
         1

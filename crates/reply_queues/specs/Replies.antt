@@ -2,7 +2,7 @@
 use Rattle.std.specs.Prelude.{ℕ, Bool, true, false, cond, nat_eq, List, [], ◌∷◌, ◌++◌, Some, length, take, drop, map, count_by}
 use Rattle.commands.specs.declared.server_error.ServerError.TheVariants.{PersistenceError}
 use Rattle.commands.specs.declared.reply.Reply.{Reply}
-use Rattle.commands.specs.declared.reply.Reply.TheVariants.{Connected, ProducerSuccess, SendReceipt, SendError, Message, Success, Error, AckResponse, Pong}
+use Rattle.commands.specs.declared.reply.Reply.TheVariants.{Connected, ProducerSuccess, SendReceipt, SendError, Message, Success, Error, PartitionedMetadataResponse, LookupResponse, AckResponse, Pong}
 
 -- what a topic owes to one session, in order: replies that are due, and then those that await a flush
 pub record SessionReplies : Type 0 where
@@ -19,6 +19,8 @@ is_receipt (SendError producer_id sequence_id error) = false
 is_receipt (Message consumer_id id redelivery_count) = false
 is_receipt (Success request_id) = false
 is_receipt (Error request_id error) = false
+is_receipt (PartitionedMetadataResponse request_id error) = false
+is_receipt (LookupResponse request_id service_url) = false
 is_receipt (AckResponse consumer_id error request_id) = false
 is_receipt Pong = false
 
@@ -80,6 +82,8 @@ refused (SendError producer_id sequence_id error) = SendError producer_id sequen
 refused (Message consumer_id id redelivery_count) = Message consumer_id id redelivery_count
 refused (Success request_id) = Error request_id PersistenceError
 refused (Error request_id error) = Error request_id error
+refused (PartitionedMetadataResponse request_id error) = PartitionedMetadataResponse request_id error
+refused (LookupResponse request_id service_url) = LookupResponse request_id service_url
 refused (AckResponse consumer_id error request_id) = AckResponse consumer_id (Some PersistenceError) request_id
 refused Pong = Pong
 

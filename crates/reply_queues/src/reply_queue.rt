@@ -284,6 +284,14 @@ fn refuse(reply: &mut Reply)
             request_id: _,
             error: _,
         }
+        | Reply::PartitionedMetadataResponse {
+            request_id: _,
+            error: _,
+        }
+        | Reply::LookupResponse {
+            request_id: _,
+            service_url: _,
+        }
         | Reply::Pong => {}
     }
 }

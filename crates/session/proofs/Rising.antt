@@ -4,13 +4,15 @@ use Rattle.std.proofs.lemmas.Bool.{cases_lt, ltb-false, eqb-false}
 use borrow.Author.Tests.{ltb-true}
 use Rattle.std.specs.List.{AllByRecursion, insert, position_or_len}
 use Rattle.commands.specs.declared.command.Command.{Command}
-use Rattle.commands.specs.declared.command.Command.TheVariants.{Connect, Producer, Send, Subscribe, Ack, Flow, Unsubscribe, CloseProducer, CloseConsumer, Ping, Pong, RedeliverUnacknowledgedMessages, Other}
+use Rattle.commands.specs.declared.command.Command.TheVariants.{Connect, Producer, Send, Subscribe, Ack, Flow, Unsubscribe, CloseProducer, CloseConsumer, Ping, Pong, RedeliverUnacknowledgedMessages, PartitionedMetadata, Lookup, Other}
 use Rattle.commands.specs.declared.consuming.Subscribe.{Subscribe as Wanted}
 use Rattle.commands.specs.declared.consuming.Ack.{Ack as Acked}
 use Rattle.commands.specs.declared.consuming.Flow.{Flow as Given}
 use Rattle.commands.specs.declared.consuming.Unsubscribe.{Unsubscribe as Removed}
 use Rattle.commands.specs.declared.giving_back.CloseConsumer.{CloseConsumer as Detached}
 use Rattle.commands.specs.declared.giving_back.Redeliver.{Redeliver as Returned}
+use Rattle.commands.specs.declared.lookup.LookupTopic.{LookupTopic}
+use Rattle.commands.specs.declared.lookup.PartitionedTopicMetadata.{PartitionedTopicMetadata}
 use Rattle.commands.specs.declared.producing.CloseProducer.{CloseProducer as Closed}
 use Rattle.commands.specs.declared.producing.Producer.{Producer as Asked}
 use Rattle.commands.specs.declared.producing.Send.{Send as Sent}
@@ -35,6 +37,7 @@ use Rattle.session.specs.Client.{Client, Play, plain, Ends, Says, SaysAlone, Ans
 use Rattle.session.specs.Producing as producing
 use Rattle.session.specs.Consuming.{is_live, has_entry, own_refusals, with_entry, is_later, with_consumer, granting, with_live_consumers, FoundStep, SubscribeIn, FlowIn, RefusesAck, AckIn, UnsubscribeIn}
 use Rattle.session.specs.GivingBack.{CloseConsumerIn, RedeliverIn}
+use Rattle.session.specs.Lookup.{LookupIn, PartitionsIn}
 use Rattle.session.specs.Working.{WorksCommand, connected_client, Connects, FrameIn, FramesStep, FeedIn, FeedStep}
 use Rattle.session.specs.Pumping.{Collects, Sends, FindsNoMemory, ServesEach, ServesAll, ServesIf, PumpIn, PumpStep}
 use Rattle.session.specs.Laws.{AreRising}
@@ -203,6 +206,14 @@ first_is_false false error others h = refl
 subscribes : (old : Play) (asked : Wanted) (new : Play) → SubscribeIn (first_standing (own_refusals old.client.consumers asked)) old asked new → Rises old new
 subscribes old asked new h = subscribes_in (first_standing (own_refusals old.client.consumers asked)) old asked new (first_is_false _ _ _) h
 
+looks_up : (named : Bool) (old : Play) (asked : LookupTopic) (new : Play) → LookupIn named old asked new → Keeps old new
+looks_up true old asked new h = said_alone old _ new h
+looks_up false old asked new h = said_alone old _ new h
+
+tells_partitions : (named : Bool) (old : Play) (asked : PartitionedTopicMetadata) (new : Play) → PartitionsIn named old asked new → Keeps old new
+tells_partitions true old asked new h = said_alone old _ new h
+tells_partitions false old asked new h = said_alone old _ new h
+
 works : (c : Command) (old : Play) (entry : FrameEntry) (new : Play) → WorksCommand old c entry new → Rises old new
 works (Connect c) old entry new h = rises old new (ends old new _ h)
 works (Producer c) old entry new h = rises old new (produces _ (producing.with_live_producers old) c new h)
@@ -216,6 +227,8 @@ works (CloseConsumer c) old entry new h = rises old new (closes_consumer _ old c
 works Ping old entry new h = rises old new (said_alone old _ new h)
 works Pong old entry new h = rises old new (still old new h)
 works (RedeliverUnacknowledgedMessages c) old entry new h = rises old new (redelivers _ old c new h)
+works (PartitionedMetadata c) old entry new h = rises old new (tells_partitions _ old c new h)
+works (Lookup c) old entry new h = rises old new (looks_up _ old c new h)
 works (Other k) old entry new h = rises old new (ends old new _ h)
 
 connects : (c : Command) (old new : Play) → Connects old c new → Keeps old new
@@ -231,6 +244,8 @@ connects (CloseConsumer c) old new h = ends old new _ h
 connects Ping old new h = ends old new _ h
 connects Pong old new h = ends old new _ h
 connects (RedeliverUnacknowledgedMessages c) old new h = ends old new _ h
+connects (PartitionedMetadata c) old new h = ends old new _ h
+connects (Lookup c) old new h = ends old new _ h
 connects (Other k) old new h = ends old new _ h
 
 frame_rises : (fault : Option Fault) (connected : Bool) (old : Play) (frame : Frame) (new : Play) → FrameIn fault connected old frame new → Rises old new

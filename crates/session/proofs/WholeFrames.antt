@@ -1,7 +1,9 @@
 -- Each step of a session writes whole frames.
 use Rattle.std.proofs.Common.{◌≡◌, inl, inr, ℕ, ◌-◌, zero, suc, List, [], ◌∷◌, Bool, true, false, Option, Some, None, Result, Ok, Err, ap, ⊎_elim}
 use Rattle.commands.specs.declared.command.Command.{Command}
-use Rattle.commands.specs.declared.command.Command.TheVariants.{Connect, Producer, Send, Subscribe, Ack, Flow, Unsubscribe, CloseProducer, CloseConsumer, Ping, Pong, RedeliverUnacknowledgedMessages, Other}
+use Rattle.commands.specs.declared.command.Command.TheVariants.{Connect, Producer, Send, Subscribe, Ack, Flow, Unsubscribe, CloseProducer, CloseConsumer, Ping, Pong, RedeliverUnacknowledgedMessages, PartitionedMetadata, Lookup, Other}
+use Rattle.commands.specs.declared.lookup.LookupTopic.{LookupTopic}
+use Rattle.commands.specs.declared.lookup.PartitionedTopicMetadata.{PartitionedTopicMetadata}
 use Rattle.commands.specs.declared.producing.Producer.{Producer as Asked}
 use Rattle.commands.specs.declared.producing.Send.{Send as Sent}
 use Rattle.commands.specs.declared.reply.Reply.{Reply}
@@ -28,6 +30,7 @@ use Rattle.session.specs.Producing.{FoundStep, ProducerIn, SendIn, CloseIn}
 use Rattle.session.specs.Consuming as consuming
 use Rattle.session.specs.Consuming.{SubscribeIn, FlowIn, RefusesAck, AckIn, UnsubscribeIn}
 use Rattle.session.specs.GivingBack.{CloseConsumerIn, RedeliverIn}
+use Rattle.session.specs.Lookup.{LookupIn, PartitionsIn}
 use Rattle.session.specs.Working.{WorksCommand, Connects, FrameIn, FramesStep, FeedIn}
 use Rattle.session.specs.Pumping.{Collects, Sends, Serves, ServesEach, ServesAll, ServesIf, PumpIn}
 use Rattle.session.specs.Laws.{FeedsWriteFrames, PumpsWriteFrames}
@@ -97,6 +100,14 @@ pub redeliver_writes : (topic : Option ℕ) (old : Play) (asked : Returned) (new
 redeliver_writes None old asked new h = writes_same old new (ap (λ (p : Play). p.out) h)
 redeliver_writes (Some topic) old asked new h = (speaks_answered old.client new.client old.out new.out h.answer h.answered).writes
 
+lookup_writes : (named : Bool) (old : Play) (asked : LookupTopic) (new : Play) → LookupIn named old asked new → Writes old.out new.out
+lookup_writes true old asked new h = says_writes old new _ h
+lookup_writes false old asked new h = says_writes old new _ h
+
+partitions_writes : (named : Bool) (old : Play) (asked : PartitionedTopicMetadata) (new : Play) → PartitionsIn named old asked new → Writes old.out new.out
+partitions_writes true old asked new h = says_writes old new _ h
+partitions_writes false old asked new h = says_writes old new _ h
+
 pub command_writes : (c : Command) (old : Play) (entry : FrameEntry) (new : Play) → WorksCommand old c entry new → Writes old.out new.out
 command_writes (Connect c) old entry new h = ends_writes old new _ h
 command_writes (Producer c) old entry new h = producer_writes _ _ c new h
@@ -110,6 +121,8 @@ command_writes (CloseConsumer c) old entry new h = close_consumer_writes _ old c
 command_writes Ping old entry new h = says_writes old new _ h
 command_writes Pong old entry new h = writes_same old new (ap (λ (p : Play). p.out) h)
 command_writes (RedeliverUnacknowledgedMessages c) old entry new h = redeliver_writes _ old c new h
+command_writes (PartitionedMetadata c) old entry new h = partitions_writes _ old c new h
+command_writes (Lookup c) old entry new h = lookup_writes _ old c new h
 command_writes (Other k) old entry new h = ends_writes old new _ h
 
 pub connects_writes : (c : Command) (old new : Play) → Connects old c new → Writes old.out new.out
@@ -125,6 +138,8 @@ connects_writes (CloseConsumer c) old new h = ends_writes old new _ h
 connects_writes Ping old new h = ends_writes old new _ h
 connects_writes Pong old new h = ends_writes old new _ h
 connects_writes (RedeliverUnacknowledgedMessages c) old new h = ends_writes old new _ h
+connects_writes (PartitionedMetadata c) old new h = ends_writes old new _ h
+connects_writes (Lookup c) old new h = ends_writes old new _ h
 connects_writes (Other k) old new h = ends_writes old new _ h
 
 pub frame_writes : (fault : Option Fault) (connected : Bool) (old : Play) (frame : Frame) (new : Play) → FrameIn fault connected old frame new → Writes old.out new.out

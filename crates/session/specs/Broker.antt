@@ -18,6 +18,7 @@ use Rattle.session.specs.declared.port.Found.TheVariants as found
 
 pub record Broker : Type 0 where
   pub per_ledger : ℕ  -- how many entry ids a ledger id has
+  pub service_url : List ℕ  -- where clients find the broker
   pub names : List (List ℕ)  -- the name of each topic, by its number
   pub topics : List Topic
 
@@ -84,6 +85,8 @@ IsMessageFor consumer_id (reply.ProducerSuccess request_id name) = ⊥
 IsMessageFor consumer_id reply.Pong = ⊥
 IsMessageFor consumer_id (reply.Message other id redelivery_count) = other ≡ consumer_id
 IsMessageFor consumer_id (reply.Success request_id) = ⊥
+IsMessageFor consumer_id (reply.PartitionedMetadataResponse request_id error) = ⊥
+IsMessageFor consumer_id (reply.LookupResponse request_id service_url) = ⊥
 IsMessageFor consumer_id (reply.AckResponse other error request_id) = ⊥
 
 -- whoever else uses the broker: a message is for the consumer, and its entry is no longer than any that is accepted

@@ -6,6 +6,7 @@ pub mod Producing
 pub mod HashRanges
 pub mod Consuming
 pub mod GivingBack
+pub mod Lookup
 pub mod Working
 pub mod Pumping
 pub mod Laws

@@ -12,6 +12,7 @@ use Rattle.session.specs.Faults.{fault_of}
 use Rattle.session.specs.Producing.{ProducerStep, SendStep, CloseStep}
 use Rattle.session.specs.Consuming.{SubscribeStep, FlowStep, AckStep, UnsubscribeStep}
 use Rattle.session.specs.GivingBack.{CloseConsumerStep, RedeliverStep}
+use Rattle.session.specs.Lookup.{LookupStep, PartitionsStep}
 use Rattle.session.specs.declared.fault.Fault.{Fault}
 use Rattle.session.specs.declared.fault.Fault.TheVariants as fault
 
@@ -29,6 +30,8 @@ WorksCommand old (command.CloseConsumer c) entry new = CloseConsumerStep old c n
 WorksCommand old command.Ping entry new = SaysAlone old reply.Pong new
 WorksCommand old command.Pong entry new = new ≡ old
 WorksCommand old (command.RedeliverUnacknowledgedMessages c) entry new = RedeliverStep old c new
+WorksCommand old (command.PartitionedMetadata c) entry new = PartitionsStep old c new
+WorksCommand old (command.Lookup c) entry new = LookupStep old c new
 WorksCommand old (command.Other k) entry new = Ends old fault.UnknownCommand new
 
 abbrev pub connected_client : Client → Client
@@ -48,6 +51,8 @@ Connects old (command.CloseConsumer c) new = Ends old fault.OutOfTurn new
 Connects old command.Ping new = Ends old fault.OutOfTurn new
 Connects old command.Pong new = Ends old fault.OutOfTurn new
 Connects old (command.RedeliverUnacknowledgedMessages c) new = Ends old fault.OutOfTurn new
+Connects old (command.PartitionedMetadata c) new = Ends old fault.OutOfTurn new
+Connects old (command.Lookup c) new = Ends old fault.OutOfTurn new
 Connects old (command.Other k) new = Ends old fault.UnknownCommand new
 
 abbrev pub FrameIn : Option Fault → Bool → Play → Frame → Play → Type 0

@@ -10,6 +10,7 @@ mod fault;
 mod giving_back;
 mod hash_ranges;
 mod laws;
+mod lookup;
 mod port;
 mod producer_entry;
 mod producing;

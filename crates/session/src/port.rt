@@ -35,6 +35,11 @@ pub trait Port {
     /// A message was refused so between the two, and there is a cause for it.
     ghost refuses: { Self → ReadError → Self → Type 0 };
 
+    /// Where clients find the broker, of which it tells those that look for a topic's.
+    fn service_url(&self) -> &str
+        ensures url { sole self.now → result.now ≡ (broker self.now).service_url }
+        ensures short { length result.now ≤ 65535 };
+
     /// How many topics there are. Their numbers count from 0.
     fn topics(&self) -> u64
         ensures { result ≡ count self.now };

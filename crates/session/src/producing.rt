@@ -291,6 +291,8 @@ fn is_success(answer: &Answer) -> bool
             | Reply::Error { .. }
             | Reply::Message { .. }
             | Reply::Success { .. }
+            | Reply::PartitionedMetadataResponse { .. }
+            | Reply::LookupResponse { .. }
             | Reply::AckResponse { .. }
             | Reply::Pong,
         )

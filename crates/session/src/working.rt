@@ -101,6 +101,8 @@ impl Session {
             Command::Ping => self.say(&Reply::Pong, out),
             Command::Pong => {}
             Command::RedeliverUnacknowledgedMessages(asked) => self.redeliver(asked, port, out),
+            Command::PartitionedMetadata(asked) => self.tell_partitions(&asked, out),
+            Command::Lookup(asked) => self.look_up(&asked, port, out),
             Command::Other(_) => self.end_by(Fault::UnknownCommand),
         }
     }
@@ -125,7 +127,9 @@ impl Session {
             | Command::CloseConsumer(_)
             | Command::Ping
             | Command::Pong
-            | Command::RedeliverUnacknowledgedMessages(_) => self.end_by(Fault::OutOfTurn),
+            | Command::RedeliverUnacknowledgedMessages(_)
+            | Command::PartitionedMetadata(_)
+            | Command::Lookup(_) => self.end_by(Fault::OutOfTurn),
             Command::Other(_) => self.end_by(Fault::UnknownCommand),
         }
     }

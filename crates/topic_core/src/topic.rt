@@ -375,6 +375,14 @@ fn is_receipt(reply: &Reply) -> bool
             request_id: _,
             error: _,
         }
+        | Reply::PartitionedMetadataResponse {
+            request_id: _,
+            error: _,
+        }
+        | Reply::LookupResponse {
+            request_id: _,
+            service_url: _,
+        }
         | Reply::AckResponse {
             consumer_id: _,
             error: _,

@@ -57,7 +57,7 @@ fn message(consumer_id: u64) -> Outgoing
 impl Port for Board {
     ghost use Rattle.session.specs.Broker.{Broker};
 
-    ghost broker = { λ _. record { per_ledger = 1; names = []; topics = [] } };
+    ghost broker = { λ _. record { per_ledger = 1; service_url = []; names = []; topics = [] } };
 
     ghost count = { λ board. board.topics };
 
@@ -66,6 +66,10 @@ impl Port for Board {
     ghost passes = { λ old new. old.topics ≤ new.topics };
 
     ghost refuses = { λ _ _ _. Unit {0} };
+
+    fn service_url(&self) -> &str {
+        "pulsar://board"
+    }
 
     fn topics(&self) -> u64 {
         self.topics
