@@ -125,6 +125,7 @@ FLOW = [("consumer_id", 1, "u64", REQUIRED), ("message_permits", 2, "u32", REQUI
 REQUEST = [("consumer_id", 1, "u64", REQUIRED), ("request_id", 2, "u64", REQUIRED)]
 CLOSE_PRODUCER = [("producer_id", 1, "u64", REQUIRED), ("request_id", 2, "u64", REQUIRED)]
 REDELIVER = [("consumer_id", 1, "u64", REQUIRED), ("ids", 2, ("repeated", MESSAGE_ID), None)]
+LOOKUP = [("topic", 1, "str", REQUIRED), ("request_id", 2, "u64", REQUIRED)]
 
 RANGES_OF = {"u64": (0, 2**64 - 1), "u32": (0, 2**32 - 1), "i64": (-2**63, 2**63 - 1), "i32": (-2**31, 2**31 - 1)}
 
@@ -238,6 +239,10 @@ def say_redeliver(it):
     return f"REDELIVER {it['consumer_id']} {listed('MessageIdData', it['ids'])}"
 
 
+def say_lookup(name):
+    return lambda it: f"{name} {spelled(it['topic'])} {it['request_id']}"
+
+
 def say_as(name):
     return lambda it: record(name, it)
 
@@ -250,7 +255,8 @@ def say_meta(it):
 # The client commands by their types: the table of each, and what is said of it
 COMMANDS = {2: (CONNECT, say_connect), 4: (SUBSCRIBE, say_subscribe), 5: (PRODUCER, say_producer), 6: (SEND, say_as("Send")), 10: (ACK, say_ack),
             11: (FLOW, say_as("Flow")), 12: (REQUEST, say_as("Unsubscribe")), 15: (CLOSE_PRODUCER, say_as("CloseProducer")),
-            16: (REQUEST, say_as("CloseConsumer")), PING: ([], lambda it: "PING"), 19: ([], lambda it: "PONG"), 20: (REDELIVER, say_redeliver)}
+            16: (REQUEST, say_as("CloseConsumer")), PING: ([], lambda it: "PING"), 19: ([], lambda it: "PONG"), 20: (REDELIVER, say_redeliver),
+            21: (LOOKUP, say_lookup("PARTITIONED_METADATA")), 23: (LOOKUP, say_lookup("LOOKUP"))}
 
 
 def read_command(content):
@@ -372,6 +378,10 @@ REPLIES = {"connected": (3, lambda: text(1, b"node-1") + number(2, 5) + number(3
            "refusal": (14, lambda request, error: number(1, int(request)) + refusal(2, error)),
            "producer": (17, lambda request, name: number(1, int(request)) + text(2, name.encode())),
            "pong": (19, lambda: b""),
+           "partitions": (22, lambda request: number(1, 0) + number(2, int(request)) + number(3, 0)),
+           "partitions_refused": (22, lambda request, error: number(2, int(request)) + number(3, 1) + refusal(4, error)),
+           "lookup": (24, lambda request, url: text(1, url.encode()) + number(3, 1) + number(4, int(request)) + number(5, 1)),
+           "lookup_refused": (24, lambda request, error: number(3, 2) + number(4, int(request)) + refusal(6, error)),
            "ack": (38, lambda consumer, request: number(1, int(consumer)) + number(6, int(request))),
            "ack_refusal": (38, lambda consumer, error, request: number(1, int(consumer)) + refusal(4, error) + number(6, int(request)))}
 

@@ -81,6 +81,8 @@ works old (command.CloseConsumer c) entry new none s some = refl
 works old command.Ping entry new none s some = refl
 works old command.Pong entry new none s some = goes_on old new none (ap (λ (p : Play). p.client) s) some
 works old (command.RedeliverUnacknowledgedMessages c) entry new none s some = goes_on old new none (redelivers (topic_of old.client.consumers c.consumer_id) old c new s).0 some
+works old (command.PartitionedMetadata c) entry new none s some = refl
+works old (command.Lookup c) entry new none s some = refl
 works old (command.Other k) entry new none s some = unknown old new s some
 
 connects : (old : Play) (c : Command) (new : Play) → Connects old c new → new.client.fault ≡ Some fault.NoMemory → may_lack_memory c ≡ true
@@ -96,6 +98,8 @@ connects old (command.CloseConsumer c) new s some = refl
 connects old command.Ping new s some = refl
 connects old command.Pong new s some = turns_out old new s some
 connects old (command.RedeliverUnacknowledgedMessages c) new s some = turns_out old new s some
+connects old (command.PartitionedMetadata c) new s some = refl
+connects old (command.Lookup c) new s some = refl
 connects old (command.Other k) new s some = unknown old new s some
 
 pub frame_wants : (why : Option Fault) (connected : Bool) (old : Play) (frame : Frame) (new : Play) → why ≡ None → old.client.fault ≡ None → FrameIn why connected old frame new

@@ -97,6 +97,8 @@ may_lack_memory (command.CloseConsumer c) = true
 may_lack_memory command.Ping = true
 may_lack_memory command.Pong = false
 may_lack_memory (command.RedeliverUnacknowledgedMessages c) = false
+may_lack_memory (command.PartitionedMetadata c) = true
+may_lack_memory (command.Lookup c) = true
 may_lack_memory (command.Other k) = false
 
 -- A frame ends its session for want of memory only where its command may. A REDELIVER leaves its session and the bytes out as they

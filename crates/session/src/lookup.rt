@@ -19,12 +19,24 @@ impl Session {
         let request_id = asked.request_id;
         if !is_topic_name(asked.topic.as_str()) {
             let service_url = Err(ServerError::InvalidTopicName);
-            return self.say(&Reply::LookupResponse { request_id, service_url }, out);
+            return self.say(
+                &Reply::LookupResponse {
+                    request_id,
+                    service_url,
+                },
+                out,
+            );
         }
         match String::from_str(self.alloc, port.service_url()) {
             Ok(url) => {
                 let service_url = Ok(ReplyText::new(url));
-                self.say(&Reply::LookupResponse { request_id, service_url }, out)
+                self.say(
+                    &Reply::LookupResponse {
+                        request_id,
+                        service_url,
+                    },
+                    out,
+                )
             }
             Err(_) => self.end_by(Fault::NoMemory),
         }
@@ -42,6 +54,9 @@ impl Session {
         } else {
             Some(ServerError::InvalidTopicName)
         };
-        self.say(&Reply::PartitionedMetadataResponse { request_id, error }, out)
+        self.say(
+            &Reply::PartitionedMetadataResponse { request_id, error },
+            out,
+        )
     }
 }

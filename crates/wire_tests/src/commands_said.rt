@@ -1,7 +1,8 @@
 use anyhow::{Error, bail};
 use commands::{
-    Ack, Command, CommandFault, Connect, KeySharedMeta, MessageMeta, Producer, Redeliver, Sequence,
-    Subscribe, Text, read_command, read_entry, read_meta, size_at,
+    Ack, Command, CommandFault, Connect, KeySharedMeta, LookupTopic, MessageMeta,
+    PartitionedTopicMetadata, Producer, Redeliver, Sequence, Subscribe, Text, read_command,
+    read_entry, read_meta, size_at,
 };
 use std::alloc::{AllocError, Global};
 
@@ -88,6 +89,19 @@ fn redeliver(alloc: Global, redeliver: &Redeliver) -> Result<String, AllocError>
     )
 }
 
+fn partitioned_metadata(
+    alloc: Global,
+    asked: &PartitionedTopicMetadata,
+) -> Result<String, AllocError> {
+    let topic = spelled(alloc, &asked.topic)?;
+    format!(in alloc; "PARTITIONED_METADATA {topic} {}", asked.request_id)
+}
+
+fn lookup(alloc: Global, asked: &LookupTopic) -> Result<String, AllocError> {
+    let topic = spelled(alloc, &asked.topic)?;
+    format!(in alloc; "LOOKUP {topic} {}", asked.request_id)
+}
+
 /// The command's name and what it says.
 pub(crate) fn text(alloc: Global, command: &Command) -> Result<String, AllocError> {
     match command {
@@ -103,6 +117,8 @@ pub(crate) fn text(alloc: Global, command: &Command) -> Result<String, AllocErro
         Command::Ping => String::from_str(alloc, "PING"),
         Command::Pong => String::from_str(alloc, "PONG"),
         Command::RedeliverUnacknowledgedMessages(it) => redeliver(alloc, it),
+        Command::PartitionedMetadata(it) => partitioned_metadata(alloc, it),
+        Command::Lookup(it) => lookup(alloc, it),
         Command::Other(kind) => format!(in alloc; "type {kind}"),
     }
 }

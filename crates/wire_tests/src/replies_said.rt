@@ -41,6 +41,16 @@ fn success_of_a_producer(alloc: Global, request: &str, name: &str) -> Result<Rep
     })
 }
 
+fn found(alloc: Global, request: &str, url: &str) -> Result<Reply, Error> {
+    if url.len() > 255 {
+        bail!("the URL has more than 255 bytes");
+    }
+    Ok(Reply::LookupResponse {
+        request_id: request.parse()?,
+        service_url: Ok(ReplyText::new(String::from_str(alloc, url)?)),
+    })
+}
+
 fn to_a_request(alloc: Global, words: &[&str]) -> Result<Reply, Error> {
     match words {
         [name] if *name == "connected" => Ok(Reply::Connected),
@@ -56,6 +66,27 @@ fn to_a_request(alloc: Global, words: &[&str]) -> Result<Reply, Error> {
             success_of_a_producer(alloc, request, producer)
         }
         _ => bail!("no reply is of this name"),
+    }
+}
+
+fn to_a_lookup(alloc: Global, words: &[&str]) -> Result<Reply, Error> {
+    match words {
+        [name, request] if *name == "partitions" => Ok(Reply::PartitionedMetadataResponse {
+            request_id: request.parse()?,
+            error: None,
+        }),
+        [name, request, error] if *name == "partitions_refused" => {
+            Ok(Reply::PartitionedMetadataResponse {
+                request_id: request.parse()?,
+                error: Some(server_error(error)?),
+            })
+        }
+        [name, request, url] if *name == "lookup" => found(alloc, request, url),
+        [name, request, error] if *name == "lookup_refused" => Ok(Reply::LookupResponse {
+            request_id: request.parse()?,
+            service_url: Err(server_error(error)?),
+        }),
+        _ => bail!("no answer to a lookup is of this name"),
     }
 }
 
@@ -103,6 +134,9 @@ fn reply_of(alloc: Global, words: &[&str]) -> Result<Reply, Error> {
     match *name {
         "receipt" | "send_error" => to_a_send(words),
         "message" | "ack" | "ack_refusal" => to_a_consumer(words),
+        "partitions" | "partitions_refused" | "lookup" | "lookup_refused" => {
+            to_a_lookup(alloc, words)
+        }
         _ => to_a_request(alloc, words),
     }
 }
