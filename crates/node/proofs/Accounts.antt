@@ -19,6 +19,7 @@ use Rattle.node.proofs.Covering.{moves_covered}
 use Rattle.node.proofs.Finding.{moves_found, moves_publish}
 use Rattle.node.proofs.Delivering.{moves_delivered}
 use Rattle.node.proofs.Promising.{word_kept}
+use Rattle.node.proofs.Hearing.{are_of}
 use Rattle.node.proofs.Unfolding.{life_unfolds, cut_life_unfolds}
 
 fresh_quiet : (n : ℕ) → IsQuiet (fresh n)
@@ -49,6 +50,7 @@ accounts_to : (old : Broker) (hearers : List (Option ℕ)) (outputs : List Outpu
 accounts_to old hearers outputs new u start = record {
   said = u.said;
   spells = u.spells;
+  heard = λ who. are_of who hearers outputs u.said u.spells u.bounded;
   at_once = u.at_once;
   each = λ number. account (topic_at old number) (from_topic number u.said) (topic_at new number) (u.each number) (start.sound number) (start.quiet number);
 }

@@ -23,6 +23,7 @@ pub mod Lasting
 pub mod Holding
 pub mod Accepting
 pub mod Promising
+pub mod Hearing
 pub mod Accounts
 pub mod Cutting
 pub mod Segments

@@ -115,7 +115,7 @@ for_client : (client : Client) (p q : Play) → client.number ≡ p.client.numbe
 for_client client p q same s = record { number = s.number ∙ same; bytes = s.bytes; out = s.out; unfolds = subst (λ (n : ℕ). Unfolds n p.broker s.bytes q.broker) same s.unfolds }
 
 says_alone : (old : Play) (r : Reply) (new : Play) → IsAtOnce r → SaysAlone old r new → Plays old new
-says_alone old r new may (inl went, same) = record { number = ap (λ (c : Client). c.number) went.0; bytes = frame_of (plain r); out = went.1; unfolds = at_once old.client.number old.broker new.broker r may same }
+says_alone old r new may (inl went, same) = record { number = ap (λ (c : Client). c.number) went.0; bytes = frame_of (plain r); out = went.1; unfolds = at_once old.client.number old.broker new.broker r may went.2 same }
 says_alone old r new may (inr lost, same) = stays old new (ap (λ (c : Client). c.number) lost.0) lost.1 (alike old.client.number old.broker new.broker [] refl same)
 
 -- what a topic answers at once is neither a receipt nor a message
@@ -144,7 +144,7 @@ answered old new client (Now r) same may b (inl went) = record {
   number = ap (λ (c : Client). c.number) went.0 ∙ same;
   bytes = frame_of (plain r);
   out = went.1;
-  unfolds = then old.client.number old.broker new.broker new.broker [] (frame_of (plain r)) b (at_once old.client.number new.broker new.broker r (may r refl) refl);
+  unfolds = then old.client.number old.broker new.broker new.broker [] (frame_of (plain r)) b (at_once old.client.number new.broker new.broker r (may r refl) went.2 refl);
 }
 answered old new client (Now r) same may b (inr lost) = stays old new (ap (λ (c : Client). c.number) lost.0 ∙ same) lost.1 b
 answered old new client Later same may b s = stays old new (ap (λ (c : Client). c.number) s.0 ∙ same) s.1 b
@@ -314,6 +314,7 @@ collects_from at old new r takes (inl went) =
           (record {
             said = From at handed ∷ [];
             written = one_frame (plain r);
+            bounded = (went.2, tt);
             heard = (refl, tt);
             at_once = tt;
             each = λ number. told_at old.broker.topics at number u (fresh old.broker.per_ledger) handed
@@ -363,6 +364,7 @@ sends_from at id old new message takes (inl went) =
           (record {
             said = From at handed ∷ [];
             written = one_frame message;
+            bounded = (went.2, tt);
             heard = (refl, tt);
             at_once = tt;
             each = λ number. told_at old.broker.topics at number u (fresh old.broker.per_ledger) handed

@@ -6,10 +6,10 @@ use Rattle.commands.specs.declared.reply.Reply.{Reply}
 use Rattle.topic_core.specs.declared.dispatch.Outgoing.{Outgoing}
 use Rattle.topic_core.specs.State.{Topic}
 use Rattle.session.specs.Broker.{Broker, topic_at}
-use Rattle.session.specs.Client.{plain, frame_of, frames_of}
+use Rattle.session.specs.Client.{plain, frame_of, frames_of, IsBounded, AreBounded}
 use Rattle.std.specs.List.{AllByRecursion}
 use Rattle.node.specs.Moves.{Handed, Move, MoveStep, Moves, told_on, told_by, is_of_session}
-use Rattle.node.specs.Telling.{Said, AtOnce, From, outgoing_of, all_outgoing, from_topic, IsAtOnce, AnswersAreAtOnce, AreFor, Course, Talk, Unfolds}
+use Rattle.node.specs.Telling.{Said, AtOnce, From, outgoing_of, all_outgoing, listener, from_topic, IsAtOnce, AnswersAreAtOnce, AreFor, Course, Talk, Unfolds}
 
 -- moves, and then others
 pub Moves-append : (t : Topic) (first : List Move) (u : Topic) (then : List Move) (v : Topic) → Moves t first u → Moves u then v → Moves t (first ++ then) v
@@ -74,7 +74,7 @@ all_outgoing-append (x ∷ xs) ys = ap (λ (l : List Outgoing). outgoing_of x �
 
 pub at_once-append : (xs ys : List Said) → AnswersAreAtOnce xs → AnswersAreAtOnce ys → AnswersAreAtOnce (xs ++ ys)
 at_once-append [] ys a b = b
-at_once-append (AtOnce reply ∷ xs) ys a b = (a.0, at_once-append xs ys a.1 b)
+at_once-append (AtOnce who reply ∷ xs) ys a b = (a.0, at_once-append xs ys a.1 b)
 at_once-append (From number handed ∷ xs) ys a b = at_once-append xs ys a b
 
 cond-append : (b : Bool) (h : Handed) (xs ys : List Handed) → cond b (h ∷ (xs ++ ys)) (xs ++ ys) ≡ cond b (h ∷ xs) xs ++ ys
@@ -83,19 +83,21 @@ cond-append false h xs ys = refl
 
 pub from_topic-append : (number : ℕ) (xs ys : List Said) → from_topic number (xs ++ ys) ≡ from_topic number xs ++ from_topic number ys
 from_topic-append number [] ys = refl
-from_topic-append number (AtOnce reply ∷ xs) ys = from_topic-append number xs ys
+from_topic-append number (AtOnce who reply ∷ xs) ys = from_topic-append number xs ys
 from_topic-append number (From other handed ∷ xs) ys =
     ap (λ (l : List Handed). cond (nat_eq other number) (handed ∷ l) l) (from_topic-append number xs ys)
     ∙ cond-append (nat_eq other number) handed (from_topic number xs) (from_topic number ys)
 
 pub for-append : (who : ℕ) (xs ys : List Said) → AreFor who xs → AreFor who ys → AreFor who (xs ++ ys)
-for-append who [] ys a b = b
-for-append who (AtOnce reply ∷ xs) ys a b = for-append who xs ys a b
-for-append who (From number handed ∷ xs) ys a b = (a.0, for-append who xs ys a.1 b)
+for-append who xs ys a b = all_both (λ one. listener one ≡ who) xs ys a b
+
+pub bounded-append : (xs ys : List Said) → AreBounded (all_outgoing xs) → AreBounded (all_outgoing ys) → AreBounded (all_outgoing (xs ++ ys))
+bounded-append [] ys a b = b
+bounded-append (x ∷ xs) ys a b = (a.0, bounded-append xs ys a.1 b)
 
 -- nothing goes out
 pub silently : (who : ℕ) (b c : Broker) → ((number : ℕ) → Talk (topic_at b number) [] (topic_at c number)) → Unfolds who b [] c
-silently who b c each = record { said = []; written = refl; heard = tt; at_once = tt; each = each }
+silently who b c each = record { said = []; written = refl; bounded = tt; heard = tt; at_once = tt; each = each }
 
 pub silent : (who : ℕ) (b : Broker) → Unfolds who b [] b
 silent who b = silently who b b (λ number. still_talk (topic_at b number))
@@ -111,9 +113,9 @@ pub one_frame : (outgoing : Outgoing) → frame_of outgoing ≡ frames_of (outgo
 one_frame outgoing = sym (append-nil (frame_of outgoing))
 
 -- a reply that is neither a receipt nor a message goes out
-pub at_once : (who : ℕ) (b c : Broker) (reply : Reply) → IsAtOnce reply → c ≡ b → Unfolds who b (frame_of (plain reply)) c
-at_once who b c reply may is = becomes who b b c (frame_of (plain reply)) (frame_of (plain reply))
-    (record { said = AtOnce reply ∷ []; written = one_frame (plain reply); heard = tt; at_once = (may, tt); each = λ number. still_talk (topic_at b number) }) refl is
+pub at_once : (who : ℕ) (b c : Broker) (reply : Reply) → IsAtOnce reply → IsBounded (plain reply) → c ≡ b → Unfolds who b (frame_of (plain reply)) c
+at_once who b c reply may bounded is = becomes who b b c (frame_of (plain reply)) (frame_of (plain reply))
+    (record { said = AtOnce who reply ∷ []; written = one_frame (plain reply); bounded = (bounded, tt); heard = (refl, tt); at_once = (may, tt); each = λ number. still_talk (topic_at b number) }) refl is
 
 pub then : (who : ℕ) (a b c : Broker) (x y : List ℕ) → Unfolds who a x b → Unfolds who b y c → Unfolds who a (x ++ y) c
 then who a b c x y p q = record {
@@ -121,6 +123,7 @@ then who a b c x y p q = record {
   written =
       ap (λ (l : List ℕ). l ++ y) p.written ∙ ap (λ (l : List ℕ). frames_of (all_outgoing p.said) ++ l) q.written
       ∙ sym (flat_map-append (λ one. frame_of one) (all_outgoing p.said) (all_outgoing q.said)) ∙ ap (λ (l : List Outgoing). frames_of l) (sym (all_outgoing-append p.said q.said));
+  bounded = bounded-append p.said q.said p.bounded q.bounded;
   heard = for-append who p.said q.said p.heard q.heard;
   at_once = at_once-append p.said q.said p.at_once q.at_once;
   each = λ number.

@@ -6,7 +6,7 @@ use Rattle.std.proofs.lemmas.Option.{get_or_from_slice_get}
 use Rattle.gated_log.specs.declared.refusal.Refusal.TheVariants as refusal
 use Rattle.topic_core.specs.State.{Topic}
 use Rattle.session.specs.Broker.{Broker, fresh, topic_at, with_topic}
-use Rattle.session.specs.Client.{Client, Play, play, frames_of}
+use Rattle.session.specs.Client.{Client, Play, play, frames_of, AreBounded}
 use Rattle.node.specs.State.{State, MayRefuse, Stage, Resting, Taken, Written, place_in, place_of, is_full}
 use Rattle.node.specs.Steps as steps
 use Rattle.node.specs.Runs.{Run, Life, OpeningEnds, EventIn, HappeningStep, AllowedRun}
@@ -20,7 +20,7 @@ use Rattle.node.specs.declared.event.Happening.TheVariants as happening
 use Rattle.node.specs.declared.event.Verdict.{Verdict}
 use Rattle.node.specs.declared.event.Verdict.TheVariants as verdict
 use Rattle.node.specs.declared.event.Output.{Output}
-use Rattle.node.proofs.Saying.{still_course, one_move, then_course, becomes, at_once-append, from_topic-append}
+use Rattle.node.proofs.Saying.{still_course, one_move, then_course, becomes, at_once-append, bounded-append, from_topic-append}
 use Rattle.node.proofs.Brokers.{set_at}
 use Rattle.node.proofs.Playing.{Plays, gone_each, fed, pumped}
 
@@ -28,12 +28,13 @@ use Rattle.node.proofs.Playing.{Plays, gone_each, fed, pumped}
 pub record Utters (who : Option ℕ) (old : Broker) (bytes : List ℕ) (new : Broker) : Type 0 where
   pub said : List Said
   pub written : bytes ≡ frames_of (all_outgoing said)
+  pub bounded : AreBounded (all_outgoing said)
   pub heard : AreHeard who said
   pub at_once : AnswersAreAtOnce said
   pub each : (number : ℕ) → Course (topic_at old number) (from_topic number said) (topic_at new number)
 
 heard_by : (who : ℕ) (b : Broker) (bytes : List ℕ) (c : Broker) → Unfolds who b bytes c → Utters (Some who) b bytes c
-heard_by who b bytes c u = record { said = u.said; written = u.written; heard = u.heard; at_once = u.at_once; each = λ number. (u.each number).course }
+heard_by who b bytes c u = record { said = u.said; written = u.written; bounded = u.bounded; heard = u.heard; at_once = u.at_once; each = λ number. (u.each number).course }
 
 -- nothing goes out, whoever hears
 hushed : (who : Option ℕ) → AreHeard who []
@@ -41,7 +42,7 @@ hushed None = refl
 hushed (Some who) = tt
 
 quietly : (who : Option ℕ) (b : Broker) (bytes : List ℕ) (c : Broker) → bytes ≡ [] → ((number : ℕ) → Course (topic_at b number) [] (topic_at c number)) → Utters who b bytes c
-quietly who b bytes c none each = record { said = []; written = none; heard = hushed who; at_once = tt; each = each }
+quietly who b bytes c none each = record { said = []; written = none; bounded = tt; heard = hushed who; at_once = tt; each = each }
 
 unmoved : (who : Option ℕ) (b : Broker) (bytes : List ℕ) (c : Broker) → bytes ≡ [] → c ≡ b → Utters who b bytes c
 unmoved who b bytes c none is =
@@ -158,6 +159,7 @@ no_event : (b c : Broker) → c ≡ b → RunUnfolds b [] [] c
 no_event b c is = record {
   said = [];
   spells = refl;
+  bounded = tt;
   at_once = tt;
   each = λ number. subst (λ (x : Broker). Course (topic_at b number) [] (topic_at x number)) (sym is) (still_course (topic_at b number));
 }
@@ -168,6 +170,7 @@ and_then : (who : Option ℕ) (hearers : List (Option ℕ)) (output : Output) (o
 and_then who hearers output outputs a b c p q = record {
   said = p.said ++ q.said;
   spells = (p.said, q.said, refl, p.written, p.heard, q.spells);
+  bounded = bounded-append p.said q.said p.bounded q.bounded;
   at_once = at_once-append p.said q.said p.at_once q.at_once;
   each = λ number.
       subst (λ (l : List Handed). Course (topic_at a number) l (topic_at c number)) (sym (from_topic-append number p.said q.said))
@@ -212,6 +215,7 @@ utters_both : (a b c : Broker) (bytes : List ℕ) → ((number : ℕ) → Course
 utters_both a b c bytes first u = record {
   said = u.said;
   written = u.written;
+  bounded = u.bounded;
   heard = u.heard;
   at_once = u.at_once;
   each = λ number. then_course (topic_at a number) (topic_at b number) (topic_at c number) [] (from_topic number u.said) (first number) (u.each number);

@@ -3,12 +3,14 @@ use Rattle.std.specs.Prelude.{◌≡◌, ◌<◌, ◌≤◌, ℕ, ◌+◌, false
 use Rattle.std.specs.List.{AllByRecursion}
 use Rattle.topic_core.specs.State.{Topic, receipts_due}
 use Rattle.topic_core.specs.Soundness.{IsSoundTopic}
+use Rattle.topic_core.specs.declared.dispatch.Outgoing.{Outgoing}
 use Rattle.session.specs.Broker.{Broker, topic_at}
+use Rattle.session.specs.Client.{frames_of, AreBounded}
 use Rattle.node.specs.State.{State, fresh_broker}
 use Rattle.node.specs.Runs.{Run, Life, AllowedRun}
 use Rattle.node.specs.Cuts.{Turn, AllowedLife, hearer_in}
 use Rattle.node.specs.Moves.{Handed, Move, Moves, told_by, is_crash}
-use Rattle.node.specs.Telling.{Said, hearer, hearer_of, Spells, from_topic, AnswersAreAtOnce, receipts_told, RunUnfolds}
+use Rattle.node.specs.Telling.{Said, all_outgoing, said_to, hearer, hearer_of, Spells, bytes_to, from_topic, AnswersAreAtOnce, receipts_told, RunUnfolds}
 use Rattle.node.specs.Finding.{sends_by, FindsEach, IsPublished, IsQuiet}
 use Rattle.node.specs.Promising.{IsKept, nothing_yet, word_by, AreInTurn}
 use Rattle.node.specs.Delivering.{DeliversEach}
@@ -83,10 +85,17 @@ pub record Account (old : Topic) (told : List Handed) (new : Topic) : Type 0 whe
   pub word : WordIsKept old moves new steps
   pub delivered : DeliversEach old moves new.ledger told
 
--- what goes out to each session are frames, each whole; receipts and messages come from topics alone, and each topic can account for them
+-- the bytes are the frames of what was said, and no other frames of replies within their bounds have these bytes
+pub record AreOf (bytes : List ℕ) (said : List Said) : Type 0 where
+  pub frames : bytes ≡ frames_of (all_outgoing said)
+  pub bounded : AreBounded (all_outgoing said)
+  pub no_other : (frames : List Outgoing) → AreBounded frames → frames_of frames ≡ bytes → frames ≡ all_outgoing said
+
+-- what goes out to each session are frames, each whole, and tells what was said to it; receipts and messages come from topics alone, and each topic can account for them
 pub record AccountsTo (old : Broker) (hearers : List (Option ℕ)) (outputs : List Output) (new : Broker) : Type 0 where
   pub said : List Said
   pub spells : Spells hearers outputs said
+  pub heard : (who : ℕ) → AreOf (bytes_to who hearers outputs) (said_to who said)
   pub at_once : AnswersAreAtOnce said
   pub each : (number : ℕ) → Account (topic_at old number) (from_topic number said) (topic_at new number)
 

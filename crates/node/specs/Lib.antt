@@ -14,4 +14,5 @@ pub mod Finding
 pub mod Promising
 pub mod Delivering
 pub mod Laws
+pub mod Hearing
 pub mod Failing

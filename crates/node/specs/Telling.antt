@@ -8,7 +8,7 @@ use Rattle.topic_core.specs.State.{Topic}
 use Rattle.reply_queues.specs.Replies.{is_receipt}
 use Rattle.topic_core.specs.Steps.{receipts_of}
 use Rattle.session.specs.Broker.{Broker, topic_at}
-use Rattle.session.specs.Client.{plain, frames_of}
+use Rattle.session.specs.Client.{plain, frames_of, AreBounded}
 use Rattle.node.specs.Moves.{Handed, outgoing, Move, Moves, told_by, is_of_session}
 use Rattle.node.specs.declared.event.Event.{Event}
 use Rattle.node.specs.declared.event.Event.TheVariants.{Open, Bytes, Pump, Close, Flush, Take, Write, Finish, Reopen}
@@ -18,21 +18,31 @@ use Rattle.node.specs.declared.event.Output.{Output}
 
 -- what goes out
 pub data Said : Type 0 where
-  AtOnce : Reply → Said  -- it answers a command at once
+  AtOnce : ℕ → Reply → Said  -- it answers a command of this session at once
   From : ℕ → Handed → Said  -- the topic of this number had it due to the session, or sent it to its consumer
 
 abbrev pub outgoing_of : Said → Outgoing
-outgoing_of (AtOnce reply) = plain reply
+outgoing_of (AtOnce who reply) = plain reply
 outgoing_of (From number handed) = outgoing handed
 
 abbrev pub all_outgoing : List Said → List Outgoing
 all_outgoing [] = []
 all_outgoing (said ∷ more) = outgoing_of said ∷ all_outgoing more
 
+-- the session to which it goes out
+abbrev pub listener : Said → ℕ
+listener (AtOnce who reply) = who
+listener (From number handed) = handed.session
+
+-- what is said to a session
+abbrev pub said_to : ℕ → List Said → List Said
+said_to who [] = []
+said_to who (said ∷ more) = cond (nat_eq (listener said) who) (said ∷ said_to who more) (said_to who more)
+
 -- those that come from a topic
 abbrev pub from_topic : ℕ → List Said → List Handed
 from_topic number [] = []
-from_topic number (AtOnce reply ∷ more) = from_topic number more
+from_topic number (AtOnce who reply ∷ more) = from_topic number more
 from_topic number (From other handed ∷ more) = cond (nat_eq other number) (handed ∷ from_topic number more) (from_topic number more)
 
 abbrev pub is_message : Reply → Bool
@@ -55,7 +65,7 @@ pub record IsAtOnce (reply : Reply) : Type 0 where
 
 abbrev pub AnswersAreAtOnce : List Said → Type 0
 AnswersAreAtOnce [] = Unit {0}
-AnswersAreAtOnce (AtOnce reply ∷ more) = IsAtOnce reply × AnswersAreAtOnce more
+AnswersAreAtOnce (AtOnce who reply ∷ more) = IsAtOnce reply × AnswersAreAtOnce more
 AnswersAreAtOnce (From number handed ∷ more) = AnswersAreAtOnce more
 
 -- how many receipts are among them
@@ -63,11 +73,9 @@ abbrev pub receipts_told : List Handed → ℕ
 receipts_told [] = 0
 receipts_told (handed ∷ more) = receipts_of handed.reply + receipts_told more
 
--- what a topic has for a session goes out to that session
+-- what a topic has for a session, and what answers it at once, goes out to that session
 abbrev pub AreFor : ℕ → List Said → Type 0
-AreFor who [] = Unit {0}
-AreFor who (AtOnce reply ∷ more) = AreFor who more
-AreFor who (From number handed ∷ more) = (handed.session ≡ who) × AreFor who more
+AreFor who said = AllByRecursion (λ one. listener one ≡ who) said
 
 -- the session whose client an event's bytes go out to
 abbrev pub hearer : Event → Option ℕ
@@ -98,6 +106,17 @@ Spells (who ∷ hearers) (output ∷ outputs) said =
 Spells [] (output ∷ outputs) said = ⊥
 Spells (who ∷ hearers) [] said = ⊥
 
+-- what these bytes are to the one to whom they go out
+abbrev pub heard_as : ℕ → Option ℕ → List ℕ → List ℕ
+heard_as who None bytes = []
+heard_as who (Some other) bytes = cond (nat_eq other who) bytes []
+
+-- the bytes that went out to a session, or to sessions of one number, which a crash gives anew
+abbrev pub bytes_to : ℕ → List (Option ℕ) → List Output → List ℕ
+bytes_to who [] outputs = []
+bytes_to who (hearer ∷ hearers) [] = []
+bytes_to who (hearer ∷ hearers) (output ∷ outputs) = heard_as who hearer output.bytes ++ bytes_to who hearers outputs
+
 -- a topic goes from here to there by moves, on which it tells this
 pub record Course (old : Topic) (told : List Handed) (new : Topic) : Type 0 where
   pub moves : List Move
@@ -113,6 +132,7 @@ pub record Talk (old : Topic) (told : List Handed) (new : Topic) : Type 0 where
 pub record Unfolds (who : ℕ) (old : Broker) (bytes : List ℕ) (new : Broker) : Type 0 where
   pub said : List Said
   pub written : bytes ≡ frames_of (all_outgoing said)
+  pub bounded : AreBounded (all_outgoing said)
   pub heard : AreFor who said
   pub at_once : AnswersAreAtOnce said
   pub each : (number : ℕ) → Talk (topic_at old number) (from_topic number said) (topic_at new number)
@@ -121,5 +141,6 @@ pub record Unfolds (who : ℕ) (old : Broker) (bytes : List ℕ) (new : Broker) 
 pub record RunUnfolds (old : Broker) (hearers : List (Option ℕ)) (outputs : List Output) (new : Broker) : Type 0 where
   pub said : List Said
   pub spells : Spells hearers outputs said
+  pub bounded : AreBounded (all_outgoing said)
   pub at_once : AnswersAreAtOnce said
   pub each : (number : ℕ) → Course (topic_at old number) (from_topic number said) (topic_at new number)

@@ -1,5 +1,6 @@
 ghost use Rattle.node.specs.Cuts.{CutsAreTurns};
 ghost use Rattle.node.specs.Failing.{FailsForACause};
+ghost use Rattle.node.specs.Hearing.{FramesAreAccountedFor};
 ghost use Rattle.node.specs.Laws.{RunsUnfold, LivesUnfold, StaysSound, MovesPublish, ReceiptsAreCovered, ReceiptsAreFound, WordsAreKept, MessagesAreAdmitted, LivesAccount};
 
 /// The bytes that go out to each session are frames, each whole, and each topic moves by allowed moves, on which it
@@ -61,7 +62,13 @@ pub fn cuts_are_turns()
     ensures { CutsAreTurns }
 {}
 
-/// All of this, of every life of a node, with cuts within events too, from the bytes of each session.
+/// All of this, of every life of a node, with cuts within events too, from the bytes of each session to the bytes that went out to
+/// it: those are the frames of what was said to it, and of nothing else.
 pub fn lives_account()
     ensures { LivesAccount }
+{}
+
+/// So each receipt that can be read in the bytes that went out to a session is found, and each message was admitted.
+pub fn frames_are_accounted_for()
+    ensures { FramesAreAccountedFor }
 {}

@@ -17,9 +17,9 @@ mod topics;
 pub use event::{Event, Happening, Output, Verdict};
 pub use gated_log::Refusal;
 pub use laws::{
-    cuts_are_turns, lives_account, lives_unfold, messages_are_admitted, moves_publish,
-    receipts_are_covered, receipts_are_found, runs_unfold, stays_sound, topics_fail_for_a_cause,
-    words_are_kept,
+    cuts_are_turns, frames_are_accounted_for, lives_account, lives_unfold, messages_are_admitted,
+    moves_publish, receipts_are_covered, receipts_are_found, runs_unfold, stays_sound,
+    topics_fail_for_a_cause, words_are_kept,
 };
 pub use node::Node;
 pub use octets::Octets;
