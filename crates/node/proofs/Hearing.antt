@@ -12,7 +12,7 @@ use Rattle.node.specs.Moves.{Handed, Move}
 use Rattle.node.specs.Telling.{Said, AtOnce, From, outgoing_of, all_outgoing, listener, said_to, from_topic, IsAtOnce, AnswersAreAtOnce, AreFor, AreHeard, Spells, heard_as, bytes_to}
 use Rattle.node.specs.Finding.{Sent, sends_by, Finds, FindsEach}
 use Rattle.node.specs.Delivering.{Delivers, DeliversEach}
-use Rattle.node.specs.Laws.{Account, AccountsTo, AreOf}
+use Rattle.node.specs.Laws.{AccountsTo, AreOf}
 use Rattle.node.specs.Hearing.{handed_to, IsAccountedFor, FramesAreAccountedFor}
 use Rattle.node.specs.declared.event.Output.{Output}
 use Rattle.node.proofs.Saying.{all_outgoing-append}
