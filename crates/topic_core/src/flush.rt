@@ -15,6 +15,7 @@ use crate::topic::{Doubt, TopicCore};
 use bytes::Bytes;
 use disk::Shelf;
 use reply_queues::{are_idle, hand_on_all, make_all_due, refuse_all, take_all_back};
+use std::alloc::AllocError;
 use topic_stores::{Batch, TopicStore, WriteError};
 
 impl TopicCore {
@@ -67,9 +68,19 @@ impl TopicCore {
         if self.doubt.is_some() || self.is_idle() {
             return Ok(None);
         }
-        let batch = Batch::copy_of(self.alloc, self.waiting.as_slice(), self.subs.changes())?;
+        let batch = self.copy_of_waiting()?;
         self.hand_on();
         Ok(Some(batch))
+    }
+
+    /// A copy of all that waits, which shares the bytes of the entries.
+    fn copy_of_waiting(&self) -> Result<Batch, AllocError>
+        ensures entries { IfOk result (λ batch. batch.entries.items ≡ self.now.waiting) }
+        ensures changes { IfOk result (λ batch. batch.changes.items ≡ self.now.subs.changes) }
+    {
+        let entries = Vec::from_clones(self.alloc, self.waiting.as_slice())?;
+        let changes = Vec::from_clones(self.alloc, self.subs.changes())?;
+        Ok(Batch { entries, changes })
     }
 
     /// All that waits is handed on.
