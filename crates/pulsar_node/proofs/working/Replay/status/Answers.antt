@@ -39,7 +39,7 @@ returns-in_default-clause-works g c = λ old lives. record {
 pub returns-clause-works : goal.returns-clause-works
 returns-clause-works g c = λ old lives.
     let status = c.in-Some.status in
-    let known : node.StatusOf old.life.up old.life.state (Some status) = subst (λ (o : Option TopicStatus). node.StatusOf old.life.up old.life.state o) c.in-Some.is (c.in_ok-status.ensures c.args.self.per_ledger old.life lives.1) in
+    let known : node.StatusOf old.life.up old.life.state (Some status) = subst (λ (o : Option TopicStatus). node.StatusOf old.life.up old.life.state o) c.in-Some.is (c.in_ok-status.ensures.status c.args.self.per_ledger old.life lives.1) in
     let same : c.as_bytes.result.now ≡ lines_of status = c.as_bytes.ensures.value ∙ c.in_ok-text.ensures in
     record {
       text = c.as_bytes.result.now;
