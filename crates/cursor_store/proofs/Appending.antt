@@ -4,7 +4,7 @@ use Rattle.std.specs.FinMap as map
 use Rattle.disk.specs.Disk.{Disk, Image}
 use Rattle.disk.specs.Areas.{Within, weaken_within}
 use Rattle.gated_log.specs.Batches.{Bodies, BeforeOrAfter}
-use Rattle.disk.specs.Contents.{Settled as SlotsSettled, InDoubt as SlotsInDoubt, StaysSo}
+use Rattle.disk.specs.Contents.{Settled as SlotsSettled, InDoubt as SlotsInDoubt}
 use Rattle.two_slot.specs.declared.two_slot.TwoSlot.{TwoSlot}
 use Rattle.two_slot.specs.Slots.{SlotsOf, Stands}
 use Rattle.two_slot.specs.TwoSlots.{Holds as SlotsHold, content as slots_content}
@@ -53,7 +53,3 @@ pub within : (old : CursorStore) (entries : ℕ) (d0 d1 : Disk) (kept : Kept) (r
     → Within (SlotsOf (topic_of old)) (λ c. BeforeOrAfter (Stands (topic_of old) c) bodies (body_of records)) d0 d1
     → Within (SlotsOf (topic_of old)) (λ c. StandsFor (topic_of old) entries c kept ⊎ StandsFor (topic_of old) entries c (after_all records kept)) d0 d1
 within old entries d0 d1 kept records bodies formed is w = weaken_within (SlotsOf (topic_of old)) _ _ d0 d1 (λ c which. either (topic_of old) entries c kept records bodies is.means formed which) w
-
--- a call that changes the slots' room alone
-pub holds_still : (old new : CursorStore) (entries : ℕ) (c : Image) (kept : Kept) → new.kept ≡ old.kept → StaysSo (SlotsHold old.slots) (SlotsHold new.slots) (slots_content old.slots) (slots_content new.slots) → Holds old entries c kept → Holds new entries c kept
-holds_still old new entries c kept same stays holds = record { bodies = holds.bodies; slots = stays.holds_still c holds.bodies holds.slots; means = holds.means; same = same ∙ holds.same }

@@ -5,7 +5,7 @@ use Rattle.disk.specs.Disk.{Image}
 use Rattle.gated_log.specs.Batches.{Bodies}
 use Rattle.gated_log.specs.Logs.{IsBatchOf}
 use Rattle.two_slot.specs.Slots.{Stands}
-use Rattle.two_slot.specs.TwoSlots.{Holds as SlotsHold, HasRoom as SlotsHaveRoom, content as slots_content, topic_of as slots_topic, failed as slots_failed}
+use Rattle.two_slot.specs.TwoSlots.{Holds as SlotsHold, content as slots_content, topic_of as slots_topic, failed as slots_failed}
 use Rattle.records.specs.declared.record.Record.{Record}
 use Rattle.records.specs.Maps.{Kept}
 use Rattle.records.specs.Records.{after_all}
@@ -41,10 +41,6 @@ pub record Holds (store : CursorStore) (entries : ℕ) (image : Image) (kept : K
   pub slots : SlotsHold store.slots image bodies
   pub means : Means entries map.empty bodies kept
   pub same : store.kept ≡ kept
-
--- there is room for one body more
-abbrev pub HasRoom : CursorStore → PreparedRecords → Type 0
-HasRoom store prepared = SlotsHaveRoom store.slots
 
 -- the batch of these records, and what they make of what is kept
 pub record IsFor (store : CursorStore) (prepared : PreparedRecords) (records : List Record) : Type 0 where

@@ -3,14 +3,14 @@ ghost use Rattle.std.specs.Prelude.{◌≡◌};
 
 use crate::{CursorStore, PreparedRecords, SubStore};
 use disk::{DeviceError, Shelf};
-use gated_log::{BatchList, MAX_BODY, PrepareError, Refusal};
+use gated_log::{BatchList, MAX_BODY, PrepareError, PreparedBatch, Refusal};
 use records::{KeptCursor, KeptSubscriptions, Record, fits, write_records};
 use std::alloc::{AllocError, Global};
 use two_slot::TwoSlot;
 
 impl SubStore for CursorStore {
     ghost use Rattle.two_slot.specs.Slots.{SlotsOf};
-    ghost use Rattle.cursor_store.specs.Cursors.{Holds, StandsFor, HasRoom, IsFor, content, written, topic_of, failed};
+    ghost use Rattle.cursor_store.specs.Cursors.{Holds, StandsFor, IsFor, content, written, topic_of, failed};
     ghost use Rattle.cursor_store.specs.Folded as folded;
     ghost use Rattle.cursor_store.specs.Laws as law;
 
@@ -31,8 +31,6 @@ impl SubStore for CursorStore {
     ghost written = { written };
 
     ghost failed = { failed };
-
-    ghost has_room = { HasRoom };
 
     ghost is_for = { IsFor };
 
@@ -79,7 +77,7 @@ impl SubStore for CursorStore {
         kept.apply_all(records)?;
         let mut builder = self.slots.builder(body.len())?;
         builder.extend_from_slice(&body)?;
-        let batch = self.slots.prepare(builder)?;
+        let batch = PreparedBatch::new(builder)?;
         Ok(PreparedRecords { batch, kept })
     }
 

@@ -52,9 +52,6 @@ pub trait SubStore: Drop {
     /// An append failed. It refuses until it is opened again.
     ghost failed: { Self → Bool };
 
-    /// There is room for what was prepared.
-    ghost has_room: { Self → Self.Prepared → Type 0 };
-
     /// This was prepared by the store, for these records.
     ghost is_for: { Self → Self.Prepared → List Record → Type 0 };
 
@@ -114,7 +111,7 @@ pub trait SubStore: Drop {
     fn prepare(&mut self, records: &[Record]) -> Result<Self::Prepared, PrepareError>
         requires some { 0 < length records.now }
         requires formed { AreFormed (2 ^ 62) (content self.old) records.now }
-        ensures prepared { IfOk result (λ prepared. has_room self.new prepared × is_for self.new prepared records.now) }
+        ensures prepared { IfOk result (λ prepared. is_for self.new prepared records.now) }
         ensures holds_still { (entries : ℕ) (c : Image) (kept : Kept) → holds self.old entries c kept → holds self.new entries c kept }
         ensures written { (c : Image) → written self.new c ≡ written self.old c }
         ensures content { content self.new ≡ content self.old }
@@ -129,7 +126,6 @@ pub trait SubStore: Drop {
         shelf: &mut S,
         prepared: Self::Prepared,
     ) -> Result<(), DeviceError>
-        requires { has_room self.old prepared }
         ensures added { (entries : ℕ) (kept : Kept) (records : List Record) → is_for self.old prepared records → AreFormed entries kept records → Settled (holds self.old entries) (written self.old) (S.disk shelf.old) kept →
             OnOk result (Settled (holds self.new entries) (written self.new) (S.disk shelf.new) (after_all records kept)) }
         ensures in_doubt { (entries : ℕ) (kept : Kept) (records : List Record) → is_for self.old prepared records → AreFormed entries kept records → Settled (holds self.old entries) (written self.old) (S.disk shelf.old) kept →

@@ -3,7 +3,7 @@ use Rattle.std.proofs.Common.{◌≡◌, inl, inr, ℕ, ◌+◌, ◌<◌, ◌≤
 use Rattle.std.proofs.lemmas.List.{append-nil}
 use Rattle.disk.specs.declared.file_id.FileId.{FileId}
 use Rattle.disk.specs.Disk.{Disk, Image, Synced, Leaves, Kept}
-use Rattle.disk.specs.Moments.{joins}
+use Rattle.disk.specs.Moments.{joins, starts}
 use Rattle.gated_log.specs.declared.head.LogHead.{LogHead}
 use Rattle.gated_log.specs.declared.log.GatedLog.{GatedLog}
 use Rattle.gated_log.specs.declared.log_id.LogId.{LogId}
@@ -12,14 +12,15 @@ use Rattle.gated_log.specs.declared.refusal.Refusal.{Refusal}
 use Rattle.gated_log.specs.declared.refusal.Refusal.TheVariants.{Damaged}
 use Rattle.gated_log.specs.Batches.{Bodies, header, sized, opened, AllFit}
 use Rattle.gated_log.specs.Headers.{IsOpen}
-use Rattle.gated_log.specs.Folds.{Link, begun, grown, Form, IsFault}
+use Rattle.gated_log.specs.Folds.{Link, FitsFile, begun, grown, Form, IsFault}
 use Rattle.gated_log.specs.Head.{HasHead}
 use Rattle.disk.specs.Contents.{Settled}
 use Rattle.gated_log.specs.Local.{holds_local_lem}
 use Rattle.gated_log.specs.Logs.{LogHolds, log_id}
 use Rattle.gated_log.specs.One.{opened_push, sized_one}
-use Rattle.gated_log.specs.Reading.{reader_count, HasRead, IsDamagedBehind, IsHeaderRefusal}
+use Rattle.gated_log.specs.Reading.{reader_at, HasRead, IsDamagedBehind, IsHeaderRefusal}
 use Rattle.gated_log.proofs.Further.{still_synced}
+use Rattle.gated_log.specs.Sizes.{length-opened_push}
 
 -- the log that a reader has read
 abbrev pub log_of : LogReader → Bodies → Link
@@ -32,11 +33,23 @@ pub record Going (head : LogHead) (first now : Disk) (held holds : List Link →
   pub seen : first.honest → now.seen ≡ first.seen
   pub any_moment : first.honest → Leaves first.may_leave first now
   pub synced : first.honest → HasHead head first → Synced head.file now
-  pub read : (before : List Link) → held before → (bodies : Bodies) × (length bodies ≡ reader_count reader) × (first.honest → HasHead head first → HasRead reader now.seen bodies) × holds (before ++ log_of reader bodies ∷ [])
+  pub read : (before : List Link) → held before → (bodies : Bodies) × (reader_at reader ≡ length (opened reader.id.number bodies)) × (first.honest → HasHead head first → HasRead reader now.seen bodies) × holds (before ++ log_of reader bodies ∷ [])
 
--- no file has so many bodies
-pub few_read : (reader : LogReader) (bodies : Bodies) → length bodies ≡ reader_count reader → length bodies < 2 ^ 62
-few_read reader bodies counted = omega (arith, reader.few, reader.before_end, reader.bounded, reader.places.ok.0, counted)
+-- where a reader comes to behind a body more
+behind_body : (old reader : LogReader) (bodies : Bodies) (body : List ℕ) → reader.id ≡ old.id → reader_at old ≡ length (opened old.id.number bodies) → reader_at reader ≡ reader_at old + 5 + length body
+    → reader_at reader ≡ length (opened reader.id.number (bodies ++ body ∷ []))
+behind_body old reader bodies body same was at =
+    let here : reader_at reader ≡ length (opened old.id.number (bodies ++ body ∷ [])) = omega (arith, was, at, length-opened_push old.id.number bodies body) in
+    subst (λ (i : LogId). reader_at reader ≡ length (opened i.number (bodies ++ body ∷ []))) (sym same) here
+
+-- and no file is so long
+fits_read : (old reader : LogReader) (bodies : Bodies) (body : List ℕ) → reader_at old ≡ length (opened old.id.number bodies) → reader_at reader ≡ reader_at old + 5 + length body → FitsFile (grown (log_of old bodies) body)
+fits_read old reader bodies body was at = omega (arith, was, at, length-opened_push old.id.number bodies body, reader.before_end, reader.bounded)
+
+-- at the first gate
+pub at_first : (reader : LogReader) → reader_at reader ≡ 16 → reader_at reader ≡ length (opened reader.id.number [])
+unfolding opened
+at_first reader at = omega (arith, at, length-append (header 1 reader.id.number) [])
 
 pub leaves_on : (first mid new : Disk) → Leaves first.may_leave first mid → Leaves mid.may_leave mid new → Leaves first.may_leave first new
 leaves_on first mid new one other = joins first.may_leave mid.may_leave first.may_leave first mid new one other (λ image left. left) (λ image left. one.now image left)
@@ -48,14 +61,26 @@ kept_on first mid new one other = record {
   not_honest = λ h. one.not_honest (other.not_honest h);
 }
 
+-- before the first body
+pub goes_first : (head : LogHead) (disk : Disk) (held holds : List Link → Type 0) (reader : LogReader) → reader.id.file ≡ head.file → reader_at reader ≡ 16 → (HasHead head disk → HasRead reader disk.seen [])
+    → ((before : List Link) → held before → holds (before ++ begun reader.id.number ∷ [])) → Going head disk disk held holds reader
+goes_first head disk held holds reader file at read taken = record {
+  kept = record { faults = omega arith; honest = λ h. h; not_honest = λ h. h };
+  file_is = file;
+  seen = λ h. refl;
+  any_moment = λ h. starts disk.may_leave disk (λ c left. left);
+  synced = λ h has. has.synced;
+  read = λ before is. ([], at_first reader at, λ h has. read has, taken before is);
+}
+
 -- a body more
 pub goes_more : (head : LogHead) (first mid new : Disk) (held holds holds' : List Link → Type 0) (old reader : LogReader) (body : List ℕ) → Going head first mid held holds old
     → Kept mid new → reader.id ≡ old.id → (mid.honest → new.seen ≡ mid.seen) → (mid.honest → Leaves mid.may_leave mid new)
-    → reader_count reader ≡ reader_count old + 1
+    → reader_at reader ≡ reader_at old + 5 + length body
     → ((bodies : Bodies) → mid.honest → HasRead old mid.seen bodies → HasRead reader mid.seen (bodies ++ body ∷ []))
-    → ((logs : List Link) (log : Link) → holds (logs ++ log ∷ []) → length log.bodies < 2 ^ 62 → holds' (logs ++ grown log body ∷ []))
+    → ((logs : List Link) (log : Link) → holds (logs ++ log ∷ []) → FitsFile (grown log body) → holds' (logs ++ grown log body ∷ []))
     → Going head first new held holds' reader
-goes_more head first mid new held holds holds' old reader body so_far kept same seen leaves counted next taken = record {
+goes_more head first mid new held holds holds' old reader body so_far kept same seen leaves at next taken = record {
   kept = kept_on first mid new so_far.kept kept;
   file_is = ap (λ (i : LogId). i.file) same ∙ so_far.file_is;
   seen = λ h. seen (so_far.kept.honest h) ∙ so_far.seen h;
@@ -65,9 +90,9 @@ goes_more head first mid new held holds holds' old reader body so_far kept same 
       let was = so_far.read before held' in
       let bodies = was.0 in
       let more : first.honest → HasHead head first → HasRead reader new.seen (bodies ++ body ∷ []) = λ h has. subst (λ (i : Image). HasRead reader i (bodies ++ body ∷ [])) (sym (seen (so_far.kept.honest h))) (next bodies (so_far.kept.honest h) (was.2 h has)) in
-      let held'' = taken before (log_of old bodies) was.3 (few_read old bodies was.1) in (
+      let held'' = taken before (log_of old bodies) was.3 (fits_read old reader bodies body was.1 at) in (
         bodies ++ body ∷ [],
-        omega (arith, length-append bodies (body ∷ []), was.1, counted),
+        behind_body old reader bodies body same was.1 at,
         more,
         subst (λ (i : LogId). holds' (before ++ record { number = i.number; bodies = bodies ++ body ∷ [] } ∷ [])) (sym same) held'',
       );

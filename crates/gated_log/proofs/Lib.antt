@@ -4,7 +4,6 @@ mod Exists
 mod Gates
 mod Heads
 mod Made
-mod Parts
 mod Places
 mod Torn
 mod Steps

@@ -19,6 +19,10 @@ begun number = record { number = number; bodies = [] }
 abbrev pub grown : Link → List ℕ → Link
 grown log body = record { number = log.number; bodies = log.bodies ++ body ∷ [] }
 
+-- its file isn't longer than a file may be
+abbrev pub FitsFile : Link → Type 0
+FitsFile log = length (opened log.number log.bodies) ≤ 2 ^ 62
+
 -- which logs may stand here
 abbrev pub Form : Type 1
 Form = Link → Type 0

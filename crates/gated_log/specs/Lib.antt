@@ -6,6 +6,7 @@ pub mod Head
 pub mod Logs
 pub mod Content
 pub mod One
+pub mod Sizes
 pub mod Local
 pub mod Reading
 pub mod Folds

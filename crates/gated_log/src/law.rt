@@ -1,5 +1,5 @@
 // Laws of the files.
-ghost use Rattle.std.specs.Prelude.{◌≡◌, ◌⊎◌, ◌<◌, ◌++◌, [], ◌∷◌, List, ℕ, All, length, drop};
+ghost use Rattle.std.specs.Prelude.{◌≡◌, ◌⊎◌, ◌+◌, ◌<◌, ◌++◌, [], ◌∷◌, List, ℕ, All, length, take, drop};
 ghost use Rattle.gated_log.specs.Batches.{Bodies, AllFit, IsLog, opened, first_bodies};
 ghost use Rattle.disk.specs.declared.file_id.FileId.{FileId};
 ghost use Rattle.gated_log.specs.declared.refusal.Refusal.{Refusal};
@@ -20,6 +20,11 @@ pub fn every_file_is_a_log_or_has_a_fault()
 /// A file that begins with these batches gives their bodies, whatever stands behind them.
 pub fn batches_give_their_bodies()
     ensures { (number : ℕ) (bodies : Bodies) (rest file : List ℕ) → AllFit bodies → file ≡ opened number bodies ++ rest → first_bodies (length bodies) (drop 16 file) ≡ bodies }
+{}
+
+/// A body stands behind its gate and its length, five bytes.
+pub fn bodies_stand_behind_their_gates()
+    ensures { (number : ℕ) (before : Bodies) (body : List ℕ) (more : Bodies) → take (length body) (drop (length (opened number before) + 5) (opened number (before ++ body ∷ more))) ≡ body }
 {}
 
 /// A file has one first fault, whatever fold reads it behind these logs.

@@ -16,15 +16,13 @@ mod law;
 mod log;
 mod log_id;
 mod open;
-mod part;
-mod place;
 mod prepare_error;
 mod prepared;
 mod read;
+mod read_at;
 mod read_error;
 mod reader;
 mod refusal;
-mod room;
 
 pub use batch_list::BatchList;
 pub use builder::BatchBuilder;
@@ -34,8 +32,8 @@ pub use gated_file::GatedFile;
 pub use head::LogHead;
 pub use header::{AtHeader, at_header};
 pub use law::{
-    batches_give_their_bodies, every_file_is_a_log_or_has_a_fault, file_stands_for_one_list,
-    files_have_one_fault, logs_have_no_fault,
+    batches_give_their_bodies, bodies_stand_behind_their_gates, every_file_is_a_log_or_has_a_fault,
+    file_stands_for_one_list, files_have_one_fault, logs_have_no_fault,
 };
 pub use log::GatedLog;
 pub use log_id::LogId;
@@ -43,4 +41,3 @@ pub use prepare_error::PrepareError;
 pub use prepared::{MAX_BODY, PreparedBatch};
 pub use read_error::ReadError;
 pub use refusal::Refusal;
-pub use room::Room;

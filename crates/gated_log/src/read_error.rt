@@ -13,7 +13,7 @@ pub enum ReadError {
     /// The device failed in this call, or in an earlier one that failed the store.
     #[error("device")]
     Device,
-    /// What the store remembers isn't in this file, behind the gate at this offset.
+    /// This file ends before bytes that the store remembers to stand at this offset of it.
     #[error("damaged {file} at {offset}")]
     Damaged { file: FileId, offset: u64 },
     /// A growth was refused. Nothing changed.

@@ -8,7 +8,7 @@ mod taken;
 
 use disk::{DeviceError, FileId, Shelf};
 use disk_mem::MemShelf;
-use gated_log::{BatchList, GatedLog, ReadError, Refusal};
+use gated_log::{BatchList, GatedLog, PreparedBatch, ReadError, Refusal};
 use std::alloc::Global;
 use std::test::Fail;
 use taken::Taken;
@@ -35,6 +35,14 @@ fn answer<T: Drop>(answered: Result<T, Refusal>) -> Result<Result<T, Refusal>, R
         Err(Refusal::NoMemory) => Err(Refusal::NoMemory),
         other => Ok(other),
     }
+}
+
+// Adds a body in one go, and answers an error of the device.
+fn append(log: &mut GatedLog, shelf: &mut MemShelf, body: &[u8]) -> Result<(), Refusal> {
+    let mut builder = log.builder(body.len())?;
+    builder.extend_from_slice(body)?;
+    log.append_prepared(shelf, PreparedBatch::new(builder)?)?;
+    Ok(())
 }
 
 // The same of a read.

@@ -2,7 +2,7 @@
 ghost use Rattle.std.specs.Prelude.{◌≡◌, ◌<◌, ◌↔◌, ◌++◌, [], length, IfOk, OnOk, OnErr, IsErrOf};
 
 use crate::Journal;
-use gated_log::{BatchBuilder, BatchList, MAX_BODY, PrepareError};
+use gated_log::{BatchBuilder, BatchList, PrepareError, PreparedBatch};
 use std::alloc::AllocError;
 use std::marker::Model;
 
@@ -28,12 +28,24 @@ impl Model for BodyBuilder {
 }
 
 impl BodyBuilder {
+    ghost use Rattle.gated_log.specs.Logs.{IsBatchOf};
+    ghost use Rattle.journal.specs.Chains.{entry};
+
     /// Adds bytes, all or none. Takes memory only where the room is used up.
     pub fn extend_from_slice(&mut self, bytes: &[u8]) -> Result<(), AllocError>
         ensures extended { OnOk result (self.new ≡ self.old ++ bytes.now) }
         ensures refused { OnErr result (self.new ≡ self.old) }
     {
         self.batch.extend_from_slice(bytes)
+    }
+
+    /// The batch that an append of this body writes, in the builder's own memory. A batch has at most 33,554,432 bytes,
+    /// one of which is its kind.
+    pub fn into_batch(self) -> Result<PreparedBatch, PrepareError>
+        ensures built { IfOk result (λ batch. IsBatchOf batch (entry self)) }
+        ensures too_large { IsErrOf result PrepareError.TooLarge ↔ (33554431 < length self) }
+    {
+        PreparedBatch::new(self.batch)
     }
 }
 
@@ -45,18 +57,5 @@ impl Journal {
         let mut batch = self.last.builder(size.saturating_add(1))?;
         batch.push(ENTRY)?;
         Ok(BodyBuilder { batch })
-    }
-
-    // The body that is these bytes.
-    pub(crate) fn built(&self, body: &[u8]) -> Result<BodyBuilder, PrepareError>
-        ensures built { IfOk result (λ builder. builder ≡ body.now) }
-        ensures too_large { IsErrOf result PrepareError.TooLarge ↔ (33554431 < length body.now) }
-    {
-        if body.len() >= MAX_BODY {
-            return Err(PrepareError::TooLarge);
-        }
-        let mut builder = self.builder(body.len())?;
-        builder.extend_from_slice(body)?;
-        Ok(builder)
     }
 }

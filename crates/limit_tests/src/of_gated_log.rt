@@ -1,14 +1,20 @@
-use crate::outcome::{Outcome, is_too_large, size_of};
+use crate::outcome::{Outcome, batch_in, size_of};
 use anyhow::Error;
 use disk::FileId;
 use disk_mem::MemShelf;
-use gated_log::{BatchList, GatedLog, MAX_BODY};
+use gated_log::{BatchList, GatedLog, MAX_BODY, PreparedBatch};
 use std::alloc::Global;
 
 const FILE: FileId = FileId::Catalog;
 
 fn append(log: &mut GatedLog, shelf: &mut MemShelf, body: &[u8]) -> Result<Outcome, Error> {
-    let refused = is_too_large(log.append(shelf, body))?;
+    let mut builder = log.builder(body.len())?;
+    builder.extend_from_slice(body)?;
+    let batch = batch_in(PreparedBatch::new(builder))?;
+    let refused = batch.is_none();
+    if let Some(batch) = batch {
+        log.append_prepared(shelf, batch)?;
+    }
     Ok(Outcome {
         bytes: body.len(),
         refused,

@@ -1,4 +1,4 @@
-use crate::outcome::{Outcome, is_too_large, size_of};
+use crate::outcome::{Outcome, batch_in, size_of};
 use crate::sizes::Sizes;
 use anyhow::Error;
 use disk::FileId;
@@ -10,7 +10,13 @@ use std::alloc::Global;
 const TOPIC: u16 = 3;
 
 fn append(journal: &mut Journal, shelf: &mut MemShelf, body: &[u8]) -> Result<Outcome, Error> {
-    let refused = is_too_large(journal.append(shelf, body))?;
+    let mut builder = journal.builder(body.len())?;
+    builder.extend_from_slice(body)?;
+    let batch = batch_in(builder.into_batch())?;
+    let refused = batch.is_none();
+    if let Some(batch) = batch {
+        journal.append_prepared(shelf, batch)?;
+    }
     let segment = FileId::Segment {
         topic: TOPIC,
         number: 0,
@@ -42,7 +48,9 @@ pub(crate) fn limits(alloc: Global) -> Result<JournalLimits, Error> {
     body.truncate(MAX_BODY - 1);
     let longest = append(&mut journal, &mut shelf, &body)?;
     let (opened, taken) = Journal::open_with(alloc, &mut shelf, TOPIC, Sizes::new(alloc))?;
-    let end = opened.read(&mut shelf, 0, 0, (MAX_BODY - 2) as u32, 9)?;
+    // The body stands behind a header, a gate, a length and its kind.
+    let last = 22 + (MAX_BODY - 2) as u64;
+    let end = opened.read_at(&mut shelf, 0, last, 1)?;
     Ok(JournalLimits {
         longer,
         longest,

@@ -1,7 +1,7 @@
 use anyhow::Error;
 use disk::{FileId, Shelf};
 use disk_mem::MemShelf;
-use gated_log::Refusal;
+use gated_log::{PrepareError, PreparedBatch};
 
 /// What became of an append of so many bytes: whether it was refused for its length, and then how many bodies there are, and
 /// the size of the file.
@@ -13,11 +13,13 @@ pub(crate) struct Outcome {
     pub(crate) size: u64,
 }
 
-/// Whether an append was refused for its length; another refusal is an error.
-pub(crate) fn is_too_large(appended: Result<(), Refusal>) -> Result<bool, Error> {
-    match appended {
-        Ok(()) => Ok(false),
-        Err(Refusal::TooLarge) => Ok(true),
+/// The batch of a body; none where it was refused for its length. Another refusal is an error.
+pub(crate) fn batch_in(
+    prepared: Result<PreparedBatch, PrepareError>,
+) -> Result<Option<PreparedBatch>, Error> {
+    match prepared {
+        Ok(batch) => Ok(Some(batch)),
+        Err(PrepareError::TooLarge) => Ok(None),
         Err(e) => Err(e.into()),
     }
 }

@@ -10,7 +10,7 @@ use Rattle.managed_ledger.specs.Entries.{Entries, IsEntry, AreEntries, body_of}
 use Rattle.managed_ledger.specs.Bodies.{IsBody, IsFirst, BeginsWith}
 use Rattle.managed_ledger.specs.Ledgers.{places_in}
 use Rattle.managed_ledger.proofs.FirstEntry.{begins}
-use Rattle.managed_ledger.specs.Places.{length_sized}
+use Rattle.managed_ledger.specs.Places.{length_sized, length-places_in}
 
 pub body_push : (done : Entries) (entry : List ℕ) → body_of (done ++ entry ∷ []) ≡ body_of done ++ sized entry
 body_push done entry = flat_map-append sized done (entry ∷ []) ∙ ap (λ (l : List ℕ). body_of done ++ l) (append-nil (sized entry))
@@ -19,34 +19,28 @@ pub each_push : (done : Entries) (entry : List ℕ) → AreEntries done → IsEn
 each_push [] entry each is = (is, tt)
 each_push (e ∷ done) entry each is = (each.0, each_push done entry each.1 is)
 
-pub places_push : (batch at : ℕ) (done : Entries) (entry : List ℕ)
-    → places_in batch at (map length (done ++ entry ∷ [])) ≡ places_in batch at (map length done) ++ record { batch = batch; offset = at + length (body_of done) + 4; size = length entry } ∷ []
-places_push batch at [] entry =
+pub places_push : (at : ℕ) (done : Entries) (entry : List ℕ) → places_in at (map length (done ++ entry ∷ [])) ≡ places_in at (map length done) ++ record { offset = at + length (body_of done) + 4; size = length entry } ∷ []
+places_push at [] entry =
     let here : at + 4 ≡ at + 0 + 4 = omega arith in
-    ap (λ (n : ℕ). (record { batch = batch; offset = n; size = length entry }) ∷ []) here
-places_push batch at (e ∷ done) entry =
+    ap (λ (n : ℕ). (record { offset = n; size = length entry }) ∷ []) here
+places_push at (e ∷ done) entry =
     let here : at + 4 + length e + length (body_of done) + 4 ≡ at + length (body_of (e ∷ done)) + 4 = omega (arith, length_sized e, length-append (sized e) (body_of done)) in
-    let first : Place = record { batch = batch; offset = at + 4; size = length e } in
-    ap (λ (l : List Place). first ∷ l) (places_push batch (at + 4 + length e) done entry
-    ∙ ap (λ (n : ℕ). places_in batch (at + 4 + length e) (map length done) ++ (record { batch = batch; offset = n; size = length entry }) ∷ []) here)
-
-pub length-places_in : (batch at : ℕ) (sizes : List ℕ) → length (places_in batch at sizes) ≡ length sizes
-length-places_in batch at [] = refl
-length-places_in batch at (size ∷ sizes) = ap suc (length-places_in batch (at + 4 + size) sizes)
+    let first : Place = record { offset = at + 4; size = length e } in
+    ap (λ (l : List Place). first ∷ l) (places_push (at + 4 + length e) done entry ∙ ap (λ (n : ℕ). places_in (at + 4 + length e) (map length done) ++ (record { offset = n; size = length entry }) ∷ []) here)
 
 -- so far these entries were read, up to this offset
-pub record Adding (body : List ℕ) (batch first : ℕ) (old : List Place) (at : ℕ) (places : List Place) : Type 0 where
+pub record Adding (body : List ℕ) (start first : ℕ) (old : List Place) (at : ℕ) (places : List Place) : Type 0 where
   pub done : Entries
   pub within : at ≤ length body
   pub bytes : body ≡ body_of done ++ drop at body
   pub at_is : at ≡ length (body_of done)
   pub each : AreEntries done
-  pub places_are : places ≡ old ++ places_in batch 0 (map length done)
+  pub places_are : places ≡ old ++ places_in start (map length done)
   pub few : first + length places ≤ 2 ^ 62
   pub only : (all : Entries) → IsBody body all → (more : Entries) × (all ≡ done ++ more) × (drop at body ≡ body_of more)
 
-pub adding_none : (body : List ℕ) (batch first : ℕ) (old : List Place) → first + length old ≤ 2 ^ 62 → Adding body batch first old 0 old
-adding_none body batch first old few = record {
+pub adding_none : (body : List ℕ) (start first : ℕ) (old : List Place) → first + length old ≤ 2 ^ 62 → Adding body start first old 0 old
+adding_none body start first old few = record {
   done = [];
   within = omega arith;
   bytes = refl;
@@ -74,7 +68,7 @@ each_behind : (done more : Entries) → AreEntries (done ++ more) → AreEntries
 each_behind [] more each = each
 each_behind (e ∷ done) more each = each_behind done more each.1
 
-module _ (body : List ℕ) (batch first : ℕ) (old : List Place) (at : ℕ) (places : List Place) (so_far : Adding body batch first old at places) (some : at < length body) where
+module _ (body : List ℕ) (start first : ℕ) (old : List Place) (at : ℕ) (places : List Place) (so_far : Adding body start first old at places) (some : at < length body) where
   left : 0 < length (drop at body)
   left = omega (arith, some, length-drop at body)
 
@@ -95,14 +89,14 @@ module _ (body : List ℕ) (batch first : ℕ) (old : List Place) (at : ℕ) (pl
   adding_full full all is few = too_many (behind all is).0 (behind all is).1 (behind all is).2
     where
       counted : length places ≡ length old + length so_far.done
-      counted = omega (arith, ap length so_far.places_are, length-append old (places_in batch 0 (map length so_far.done)), length-places_in batch 0 (map length so_far.done), length-map so_far.done (λ (e : List ℕ). length e))
+      counted = omega (arith, ap length so_far.places_are, length-append old (places_in start (map length so_far.done)), length-places_in start (map length so_far.done), length-map so_far.done (λ (e : List ℕ). length e))
 
       too_many : (more : Entries) → all ≡ so_far.done ++ more → drop at body ≡ body_of more → ⊥
       too_many [] same none = absurd (omega (arith, left, ap length none))
       too_many (e ∷ more) same some_left = absurd (omega (arith, counted, full, few, ap length same, length-append so_far.done (e ∷ more)))
 
   pub adding_more : (size : ℕ) → BeginsWith size (drop at body) → first + length places < 2 ^ 62
-      → Adding body batch first old (at + (4 + size)) (places ++ record { batch = batch; offset = at + 4; size = size } ∷ [])
+      → Adding body start first old (at + (4 + size)) (places ++ record { offset = start + at + 4; size = size } ∷ [])
   adding_more size next few = record {
     done = so_far.done ++ entry ∷ [];
     within = omega (arith, next.there, length-drop at body);
@@ -110,8 +104,8 @@ module _ (body : List ℕ) (batch first : ℕ) (old : List Place) (at : ℕ) (pl
         ∙ ap (λ (l : List ℕ). l ++ drop (at + (4 + size)) body) (sym (body_push so_far.done entry));
     at_is = omega (arith, so_far.at_is, entry_size, length_sized entry, ap length (body_push so_far.done entry), length-append (body_of so_far.done) (sized entry));
     each = each_push so_far.done entry so_far.each next.is_entry;
-    places_are = ap (λ (l : List Place). l ++ place ∷ []) so_far.places_are ∙ append_assoc old (places_in batch 0 (map length so_far.done)) (place ∷ [])
-        ∙ ap (λ (l : List Place). old ++ l) (ap (λ (p : Place). places_in batch 0 (map length so_far.done) ++ p ∷ []) place_is ∙ sym (places_push batch 0 so_far.done entry));
+    places_are = ap (λ (l : List Place). l ++ place ∷ []) so_far.places_are ∙ append_assoc old (places_in start (map length so_far.done)) (place ∷ [])
+        ∙ ap (λ (l : List Place). old ++ l) (ap (λ (p : Place). places_in start (map length so_far.done) ++ p ∷ []) place_is ∙ sym (places_push start so_far.done entry));
     few = omega (arith, few, length-append places (place ∷ []));
     only = λ all is.
         let o = behind all is in
@@ -126,22 +120,22 @@ module _ (body : List ℕ) (batch first : ℕ) (old : List Place) (at : ℕ) (pl
       entry_size = omega (arith, next.there, length-take size (drop 4 (drop at body)), length-drop 4 (drop at body))
 
       place : Place
-      place = record { batch = batch; offset = at + 4; size = size }
+      place = record { offset = start + at + 4; size = size }
 
-      place_is : place ≡ record { batch = batch; offset = 0 + length (body_of so_far.done) + 4; size = length entry }
+      place_is : place ≡ record { offset = start + length (body_of so_far.done) + 4; size = length entry }
       place_is =
-          let offset_is : at + 4 ≡ 0 + length (body_of so_far.done) + 4 = omega (arith, so_far.at_is) in
-          (λ i. record { batch = batch; offset = offset_is i; size = (sym entry_size) i })
+          let offset_is : start + at + 4 ≡ start + length (body_of so_far.done) + 4 = omega (arith, so_far.at_is) in
+          (λ i. record { offset = offset_is i; size = (sym entry_size) i })
 
       bytes_here : drop at body ≡ sized entry ++ drop (at + (4 + size)) body
       bytes_here = next.bytes_are ∙ ap (λ (l : List ℕ). sized entry ++ l) (drop-drop (4 + size) at body)
 
 -- one entry more
-adding_step : (body : List ℕ) (batch first : ℕ) (old : List Place) (at : ℕ) (places : List Place) (so_far : Adding body batch first old at places) → at < length body → (size : ℕ) → BeginsWith size (drop at body) → first + length places < 2 ^ 62
-    → (places' : List Place) → places' ≡ places ++ record { batch = batch; offset = at + 4; size = size } ∷ [] → Adding body batch first old (at + (4 + size)) places'
+adding_step : (body : List ℕ) (start first : ℕ) (old : List Place) (at : ℕ) (places : List Place) (so_far : Adding body start first old at places) → at < length body → (size : ℕ) → BeginsWith size (drop at body) → first + length places < 2 ^ 62
+    → (places' : List Place) → places' ≡ places ++ record { offset = start + at + 4; size = size } ∷ [] → Adding body start first old (at + (4 + size)) places'
 unfolding adding_more
-adding_step body batch first old at places so_far some size next few places' is =
-    let more = adding_more body batch first old at places so_far some size next few in
+adding_step body start first old at places so_far some size next few places' is =
+    let more = adding_more body start first old at places so_far some size next few in
     record {
       done = so_far.done ++ take size (drop 4 (drop at body)) ∷ [];
       within = more.within;
@@ -154,9 +148,9 @@ adding_step body batch first old at places so_far some size next few places' is 
     }
 
 -- at the end
-pub adding_done : (body : List ℕ) (batch first : ℕ) (old : List Place) (at : ℕ) (places : List Place) → Adding body batch first old at places → length body ≤ at → length body ≤ 33554432
-    → (entries : Entries) × IsBody body entries × (places ≡ old ++ places_in batch 0 (map length entries))
-adding_done body batch first old at places so_far end fits =
+pub adding_done : (body : List ℕ) (start first : ℕ) (old : List Place) (at : ℕ) (places : List Place) → Adding body start first old at places → length body ≤ at → length body ≤ 33554432
+    → (entries : Entries) × IsBody body entries × (places ≡ old ++ places_in start (map length entries))
+adding_done body start first old at places so_far end fits =
     let none : drop at body ≡ [] = nothing_left (drop at body) (omega (arith, end, length-drop at body)) in
     (so_far.done, record { bytes = so_far.bytes ∙ ap (λ (l : List ℕ). body_of so_far.done ++ l) none ∙ append-nil (body_of so_far.done); each = so_far.each; fits = fits }, so_far.places_are)
   where
@@ -166,26 +160,26 @@ adding_done body batch first old at places so_far end fits =
 
 -- and a fold that held some entries has taken these behind them
 abbrev pub Handing : (Entries → Type 0) → (Entries → Type 0) → List ℕ → ℕ → ℕ → List Place → ℕ → List Place → Type 0
-Handing held holds body batch first old at places = (so_far : Adding body batch first old at places) × ((before : Entries) → held before → holds (before ++ so_far.done))
+Handing held holds body start first old at places = (so_far : Adding body start first old at places) × ((before : Entries) → held before → holds (before ++ so_far.done))
 
-pub handing_none : (held : Entries → Type 0) (body : List ℕ) (batch first : ℕ) (old : List Place) → first + length old ≤ 2 ^ 62 → Handing held held body batch first old 0 old
+pub handing_none : (held : Entries → Type 0) (body : List ℕ) (start first : ℕ) (old : List Place) → first + length old ≤ 2 ^ 62 → Handing held held body start first old 0 old
 unfolding adding_none
-handing_none held body batch first old few = (adding_none body batch first old few, λ before is. subst held (sym (append-nil before)) is)
+handing_none held body start first old few = (adding_none body start first old few, λ before is. subst held (sym (append-nil before)) is)
 
-pub handing_step : (held holds holds' : Entries → Type 0) (body : List ℕ) (batch first : ℕ) (old : List Place) (at : ℕ) (places : List Place) (so_far : Handing held holds body batch first old at places) → at < length body → (size : ℕ) → BeginsWith size (drop at body)
-    → first + length places < 2 ^ 62 → (places' : List Place) → places' ≡ places ++ record { batch = batch; offset = at + 4; size = size } ∷ [] → (handed : List ℕ) → handed ≡ take size (drop 4 (drop at body))
-    → ((entries : Entries) → holds entries → holds' (entries ++ handed ∷ [])) → Handing held holds' body batch first old (at + (4 + size)) places'
+pub handing_step : (held holds holds' : Entries → Type 0) (body : List ℕ) (start first : ℕ) (old : List Place) (at : ℕ) (places : List Place) (so_far : Handing held holds body start first old at places) → at < length body → (size : ℕ) → BeginsWith size (drop at body)
+    → first + length places < 2 ^ 62 → (places' : List Place) → places' ≡ places ++ record { offset = start + at + 4; size = size } ∷ [] → (handed : List ℕ) → handed ≡ take size (drop 4 (drop at body))
+    → ((entries : Entries) → holds entries → holds' (entries ++ handed ∷ [])) → Handing held holds' body start first old (at + (4 + size)) places'
 unfolding adding_step
-handing_step held holds holds' body batch first old at places so_far some size next few places' is handed handed_is takes = (
-  adding_step body batch first old at places so_far.0 some size next few places' is,
+handing_step held holds holds' body start first old at places so_far some size next few places' is handed handed_is takes = (
+  adding_step body start first old at places so_far.0 some size next few places' is,
   λ before before_is. subst holds' (ap (λ (e : List ℕ). (before ++ so_far.0.done) ++ e ∷ []) handed_is ∙ append_assoc before so_far.0.done (take size (drop 4 (drop at body)) ∷ [])) (takes (before ++ so_far.0.done) (so_far.1 before before_is)),
 )
 
-pub handing_done : (held holds : Entries → Type 0) (body : List ℕ) (batch first : ℕ) (old : List Place) (at : ℕ) (places : List Place) → Handing held holds body batch first old at places → length body ≤ at → length body ≤ 33554432
-    → (before : Entries) → held before → (entries : Entries) × IsBody body entries × (places ≡ old ++ places_in batch 0 (map length entries)) × holds (before ++ entries)
+pub handing_done : (held holds : Entries → Type 0) (body : List ℕ) (start first : ℕ) (old : List Place) (at : ℕ) (places : List Place) → Handing held holds body start first old at places → length body ≤ at → length body ≤ 33554432
+    → (before : Entries) → held before → (entries : Entries) × IsBody body entries × (places ≡ old ++ places_in start (map length entries)) × holds (before ++ entries)
 unfolding adding_done
-handing_done held holds body batch first old at places so_far end fits before before_is =
-    let done = adding_done body batch first old at places so_far.0 end fits in
+handing_done held holds body start first old at places so_far end fits before before_is =
+    let done = adding_done body start first old at places so_far.0 end fits in
     (so_far.0.done, done.1, done.2, so_far.1 before before_is)
 
 -- what is handed over

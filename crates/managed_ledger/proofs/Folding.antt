@@ -38,9 +38,9 @@ module _ (held : Entries → Type 0) where
   read_entries index links read = subst (λ (l : List Link). AreSegments 0 l read.2.entries) (sym read.1) (chain_segments read.0 read.2.entries (indexed_ledger index read.0 read.2))
 
   -- the first segment
-  pub begins_first : (index : LedgerIndex) (links : List Link) (number : ℕ) → HasRead held None links → number ≡ 0 → index.closed.items ≡ [] → index.last.first ≡ 0 → index.last.places.items ≡ [] → index.batches ≡ 0 → HasRead held (Some index) (links ++ folds.begun number ∷ [])
-  begins_first index links number none zero_is closed first places count =
-      let more = begun_indexed index closed first places count in
+  pub begins_first : (index : LedgerIndex) (links : List Link) (number : ℕ) → HasRead held None links → number ≡ 0 → index.closed.items ≡ [] → index.last.first ≡ 0 → index.last.places.items ≡ [] → index.end ≡ 16 → HasRead held (Some index) (links ++ folds.begun number ∷ [])
+  begins_first index links number none zero_is closed first places end =
+      let more = begun_indexed index closed first places end in
       (begun 0, (λ i. none.0 i ++ folds.begun (zero_is i) ∷ []), more.0, subst held (sym more.1) none.1)
 
   -- a segment more
@@ -65,11 +65,11 @@ module _ (held : Entries → Type 0) where
       none less.batch (record { bytes = less.body_is; each = less.each; fits = fits }) (omega (arith, is.2, ap length less.entries_are, length-append less.front less.batch, ap length same, counted index read.0 read.2))
 
   -- a body more
-  pub body_good : (held' : Entries → Type 0) (index new : LedgerIndex) (links : List Link) (link : Link) (body : List ℕ) → (read : HasRead held (Some index) (links ++ link ∷ [])) → length link.bodies < 2 ^ 62 → ReadsBody index body read.2.entries held' (Some new)
+  pub body_good : (held' : Entries → Type 0) (index new : LedgerIndex) (links : List Link) (link : Link) (body : List ℕ) → (read : HasRead held (Some index) (links ++ link ∷ [])) → folds.FitsFile (folds.grown link body) → ReadsBody index body read.2.entries held' (Some new)
       → HasRead held' (Some new) (links ++ folds.grown link body ∷ [])
   body_good held' index new links link body read few reads =
       let both = snoc_one links read.0.closed link read.0.last read.1 in
-      let more = reads read.0 (subst (λ (l : Link). length l.bodies < 2 ^ 62) both.1 few) read.2 refl in
+      let more = reads read.0 (subst (λ (l : Link). folds.FitsFile (folds.grown l body)) both.1 few) read.2 refl in
       (grown read.0 body, (λ i. both.0 i ++ folds.grown (both.1 i) body ∷ []), more.0, more.1)
 
   -- the ledger that was opened

@@ -46,7 +46,7 @@ closed_laid first [] [] before last link hold own = (own, tt)
 closed_laid first [] (l ∷ links) before last link hold own = absurd hold
 closed_laid first (i ∷ indexes) [] before last link hold own = absurd hold
 closed_laid first (i ∷ indexes) (l ∷ links) before last link hold own = (
-  record { entries = hold.0; batches = hold.3.segment.batches; counted = sym (found_length l.bodies i.places.items hold.0 hold.3.found) },
+  record { entries = hold.0; batches = hold.3.segment.batches; counted = sym (found_length hold.3) },
   closed_laid (first + length hold.0) indexes links hold.1 last link hold.4 own,
 )
 
@@ -58,7 +58,7 @@ held_laid ledger image entries holds = record {
   each = closed_laid 0 ledger.closed.items holds.chain.closed holds.index.before ledger.last holds.chain.last holds.index.closed_hold (record {
     entries = holds.index.own;
     batches = holds.index.last_holds.segment.batches;
-    counted = sym (found_length holds.chain.last.bodies ledger.last.places.items holds.index.own holds.index.last_holds.found);
+    counted = sym (found_length holds.index.last_holds);
   });
 }
 

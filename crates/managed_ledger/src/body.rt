@@ -48,20 +48,21 @@ fn first_entry(alloc: Global, bytes: &[u8]) -> Result<Option<FirstEntry>, AllocE
     Ok(Some(FirstEntry { size, metadata }))
 }
 
-// Adds the places of the entries in the body of this batch, hands the entries to a fold, and answers whether it is a body of entries. It is none where
-// there would be more than 2^62 entries, of which `first` stand before those at `places`. Otherwise some places may have
-// been added.
+// Adds the places of the entries in a body that begins at this offset of its file, hands the entries to a fold, and answers
+// whether it is a body of entries. It is none where there would be more than 2^62 entries, of which `first` stand before
+// those at `places`. Otherwise some places may have been added.
 pub(crate) fn add_places<E: EntryFold>(
     alloc: Global,
     body: &[u8],
-    batch: u64,
+    start: u64,
     first: u64,
     places: &mut Vec<Place>,
     fold: &mut E,
 ) -> Result<bool, AllocError>
+    requires in_range { start ≤ 2 ^ 63 + 6 }
     requires few { first + length places.old.items ≤ 2 ^ 62 }
     ensures added { (before : Entries) → E.holds fold.old before →
-        IfOk result (λ formed. formed ≡ true → (entries : Entries) × IsBody body.now entries × (places.new.items ≡ places.old.items ++ places_in batch 0 (map length entries)) × E.holds fold.new (before ++ entries)) }
+        IfOk result (λ formed. formed ≡ true → (entries : Entries) × IsBody body.now entries × (places.new.items ≡ places.old.items ++ places_in start (map length entries)) × E.holds fold.new (before ++ entries)) }
     ensures unformed { IfOk result (λ formed. formed ≡ false → (entries : Entries) → IsBody body.now entries → ¬ (first + (length places.old.items + length entries) ≤ 2 ^ 62)) }
     ensures few { first + length places.new.items ≤ 2 ^ 62 }
 {
@@ -80,8 +81,7 @@ pub(crate) fn add_places<E: EntryFold>(
         let size = found.size;
         fold.entry(&rest[4..][..size], &found.metadata)?;
         places.push(Place {
-            batch,
-            offset: at as u32 + 4,
+            offset: start + at as u64 + 4,
             size: size as u32,
         })?;
         at += 4 + size;

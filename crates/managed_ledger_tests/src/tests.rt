@@ -73,7 +73,8 @@ fn append<S: Shelf>(
     if entries.len() > 1_000 {
         return Err(Refusal::TooLarge);
     }
-    ledger.append(shelf, entries)
+    let prepared = ledger.prepare(entries)?;
+    Ok(ledger.append_prepared(shelf, prepared)?)
 }
 
 // The answer, where it isn't want of memory.

@@ -52,7 +52,8 @@ fn append<S: Shelf>(
     if entries.is_empty() || ledger.len() + entries.len() as u64 > most {
         bail!("an append adds an entry or more, and a ledger has 2^62 at most");
     }
-    ledger.append(shelf, entries)?;
+    let prepared = ledger.prepare(entries)?;
+    ledger.append_prepared(shelf, prepared)?;
     Ok(())
 }
 

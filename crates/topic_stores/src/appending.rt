@@ -57,7 +57,6 @@ pub(crate) fn prepare_changes<C: SubStore>(
     requires formed { AreFormed (2 ^ 62) (C.content store.old) changes.now }
     requires few { length changes.now ≤ 65536 }
     ensures prepared { IfOk result (λ prepared. PreparedFor (C.is_for store.new) prepared changes.now) }
-    ensures has_room { IfOk result (λ prepared. IfSome prepared (C.has_room store.new)) }
     ensures holds_still { (entries : ℕ) (c : Image) (kept : Kept) → C.holds store.old entries c kept → C.holds store.new entries c kept }
     ensures written { (c : Image) → C.written store.new c ≡ C.written store.old c }
     ensures content { C.content store.new ≡ C.content store.old }
@@ -114,7 +113,6 @@ pub(crate) fn append_changes<C: SubStore, S: Shelf>(
     shelf: &mut S,
     prepared: Option<C::Prepared>,
 ) -> Result<(), DeviceError>
-    requires { IfSome prepared (C.has_room store.old) }
     ensures added { (entries : ℕ) (kept : Kept) (changes : List Record) → PreparedFor (C.is_for store.old) prepared changes → AreFormed entries kept changes →
         subscription_stores.Settled (C.holds store.old entries) (C.written store.old) (S.disk shelf.old) kept → OnOk result (subscription_stores.Settled (C.holds store.new entries) (C.written store.new) (S.disk shelf.new) (after_all changes kept)) }
     ensures in_doubt { (entries : ℕ) (kept : Kept) (changes : List Record) → PreparedFor (C.is_for store.old) prepared changes → AreFormed entries kept changes →

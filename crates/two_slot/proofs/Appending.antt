@@ -9,7 +9,7 @@ use Rattle.disk.specs.Areas.{Within, widen_within}
 use Rattle.gated_log.specs.declared.log.GatedLog.{GatedLog}
 use Rattle.gated_log.specs.declared.log_id.LogId.{LogId}
 use Rattle.gated_log.specs.Batches.{Bodies, IsLog, BeforeOrAfter}
-use Rattle.disk.specs.Contents.{Settled, InDoubt, StaysSo}
+use Rattle.disk.specs.Contents.{Settled, InDoubt}
 use Rattle.gated_log.specs.Logs.{StandsFor, LogHolds, log_id, log_content}
 use Rattle.two_slot.specs.declared.spare.Spare.{Spare}
 use Rattle.two_slot.specs.declared.two_slot.TwoSlot.{TwoSlot}
@@ -91,17 +91,3 @@ append_settled slots new d0 d1 bodies more topics counts spares works ids s w gr
           let out = w.any_moment.now c may in
           record { works = works; log = grown.left c may; in_range = small; spare = spare out.from c (out.elsewhere other (away slots)) (s.left out.from out.left).spare };
     }
-
--- a call that changes the log's room alone
-pub stays : (old new : TwoSlot) → new.topic ≡ old.topic → new.counts ≡ old.counts → new.spare ≡ old.spare → new.failed ≡ old.failed → log_id new.log ≡ log_id old.log
-    → StaysSo (LogHolds old.log) (LogHolds new.log) (log_content old.log) (log_content new.log) → StaysSo (Holds old) (Holds new) (content old) (content new)
-stays old new topics counts spares fails ids unchanged = record {
-  holds_still = λ c bodies holds. record {
-    works = fails ∙ holds.works;
-    log = unchanged.holds_still c bodies holds.log;
-    in_range = subst (λ (id : LogId). id.number + 1 < 2 ^ 64) (sym ids) holds.in_range;
-    spare = subst (λ (k : Spare). IsSpare k (generation_of new) (c (Slot new.topic (other_of new.counts)))) (sym spares)
-        (spare_same old.spare (generation_of old) (generation_of new) _ _ (ap (λ (id : LogId). id.number) ids) (λ i. c (Slot (topics i) (other_of (counts i)))) holds.spare);
-  };
-  same = unchanged.same;
-}

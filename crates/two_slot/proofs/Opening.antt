@@ -137,7 +137,7 @@ held : (slots : TwoSlot) (topic : ℕ) (slot : CursorSlot) (spare : Spare) → A
     → (c : Image) (bodies : Bodies) → slots.failed ≡ false → LogHolds slots.log c bodies → ((s : CursorSlot) → c (Slot topic s) ≡ disk.seen (Slot topic s)) → Holds slots c bodies
 held slots topic slot spare are disk zero one says c bodies works holds same =
     let file : (log_id slots.log).file ≡ Slot topic slot = slots.is_slot ∙ (λ i. Slot (are.topic_is i) (are.slot_is i)) in
-    let log : IsLog (generation_of slots) bodies (disk.seen (Slot topic slot)) = subst (λ (l : List ℕ). IsLog (generation_of slots) bodies l) (ap c file ∙ same slot) holds.file.is in
+    let log : IsLog (generation_of slots) bodies (disk.seen (Slot topic slot)) = subst (λ (l : List ℕ). IsLog (generation_of slots) bodies l) (ap c file ∙ same slot) holds.is in
     let beside = read_beside topic disk zero one slot spare (generation_of slots) bodies says log in
     let other : c (Slot slots.topic (other_of slots.counts)) ≡ disk.seen (Slot topic (other_of slot)) = (λ i. c (Slot (are.topic_is i) (other_of (are.slot_is i)))) ∙ same (other_of slot) in
     record {

@@ -52,7 +52,7 @@ holds_stand slots image bodies holds = record {
   generation = generation_of slots;
   counts = record {
     in_range = holds.in_range;
-    is = subst (λ (file : FileId). IsLog (generation_of slots) bodies (image file)) slots.is_slot holds.log.file.is;
+    is = subst (λ (file : FileId). IsLog (generation_of slots) bodies (image file)) slots.is_slot holds.log.is;
     yields = spare_yields slots.spare (generation_of slots) (image (Slot slots.topic (other_of slots.counts))) holds.spare;
   };
 }

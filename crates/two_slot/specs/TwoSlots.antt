@@ -1,5 +1,5 @@
 -- What two slots remember of their files.
-use Rattle.std.specs.Prelude.{◌≡◌, ℕ, ◌+◌, ◌<◌, ◌≤◌, ◌^◌, Bool, false, List, length, vec_len, vec_capacity}
+use Rattle.std.specs.Prelude.{◌≡◌, ℕ, ◌+◌, ◌<◌, ◌≤◌, ◌^◌, Bool, false, List, length}
 use Rattle.disk.specs.declared.file_id.FileId.TheVariants.{Slot}
 use Rattle.disk.specs.Disk.{Image}
 use Rattle.gated_log.specs.Batches.{Bodies}
@@ -38,7 +38,3 @@ pub record Holds (slots : TwoSlot) (image : Image) (bodies : Bodies) : Type 0 wh
 -- the bodies in the file of the slot that counts, as many as it remembers; also after a failure
 abbrev pub content : TwoSlot → Image → Bodies
 content slots image = log_content slots.log image
-
--- there is room for one body more
-abbrev pub HasRoom : TwoSlot → Type 0
-HasRoom slots = vec_len slots.log.places < vec_capacity slots.log.places

@@ -1,22 +1,19 @@
-// Bodies are read, and one is added.
+// A body is added.
 ghost use Rattle.std.specs.Prelude.{◌≡◌};
 
 use crate::TwoSlot;
 use disk::{DeviceError, Shelf};
-use gated_log::{BatchBuilder, BatchList, PrepareError, PreparedBatch, ReadError, Refusal};
+use gated_log::{BatchBuilder, BatchList, PreparedBatch};
 use std::alloc::AllocError;
 
 impl BatchList for TwoSlot {
     ghost use Rattle.gated_log.specs.Content.{held_content};
-    ghost use Rattle.gated_log.specs.Logs.{IsBatchOf};
     ghost use Rattle.two_slot.specs.Slots.{SlotsOf, Stands};
-    ghost use Rattle.two_slot.specs.TwoSlots.{Holds, HasRoom, content, topic_of, failed};
+    ghost use Rattle.two_slot.specs.TwoSlots.{Holds, content, topic_of, failed};
     ghost use Rattle.two_slot.specs.Local.{stands_local_lem, holds_local_lem, content_local_lem, holds_stand};
     ghost use Rattle.two_slot.specs.One.{slots_one};
 
     type Id = u16;
-
-    type Prepared = PreparedBatch;
 
     ghost id = { topic_of };
 
@@ -30,10 +27,6 @@ impl BatchList for TwoSlot {
 
     ghost failed = { failed };
 
-    ghost has_room = { λ slots _. HasRoom slots };
-
-    ghost is_for = { IsBatchOf };
-
     fn id(&self) -> u16 {
         self.topic
     }
@@ -46,31 +39,20 @@ impl BatchList for TwoSlot {
         self.failed
     }
 
-    fn read<S: Shelf>(&self, shelf: &mut S, index: u64) -> Result<Option<Vec<u8>>, ReadError> {
-        if self.failed {
-            return Err(ReadError::Device);
-        }
-        self.log.read(shelf, index)
-    }
-
     fn builder(&self, size: usize) -> Result<BatchBuilder, AllocError> {
         self.log.builder(size)
-    }
-
-    fn prepare(&mut self, builder: BatchBuilder) -> Result<PreparedBatch, PrepareError> {
-        self.log.prepare(builder)
     }
 
     fn append_prepared<S: Shelf>(
         &mut self,
         shelf: &mut S,
-        prepared: PreparedBatch,
+        batch: PreparedBatch,
     ) -> Result<(), DeviceError> {
         if self.failed {
             return Err(DeviceError);
         }
         self.failed = true;
-        self.log.append_prepared(shelf, prepared)?;
+        self.log.append_prepared(shelf, batch)?;
         self.failed = false;
         Ok(())
     }

@@ -7,7 +7,7 @@ mod taken;
 
 use disk::{CursorSlot, DeviceError, FileId, Shelf};
 use disk_mem::MemShelf;
-use gated_log::{BatchList, ReadError, Refusal};
+use gated_log::{BatchList, PreparedBatch, Refusal};
 use std::alloc::Global;
 use std::test::Fail;
 use taken::Taken;
@@ -27,8 +27,10 @@ const ONE: FileId = FileId::Slot {
 
 type Found = Result<u64, Refusal>;
 
-// The bodies of a list, in their order.
+// The bodies of a list, in their order, and what an opening hands over of so many of them.
 const BODIES: [&[u8]; 3] = [b"ab", b"cd", b""];
+
+const TEXTS: [&[u8]; 4] = [b"|", b"|ab,", b"|ab,cd,", b"|ab,cd,,"];
 
 // The answer, where it isn't want of memory.
 fn answer<T: Drop>(answered: Result<T, Refusal>) -> Result<Result<T, Refusal>, Refusal> {
@@ -38,12 +40,12 @@ fn answer<T: Drop>(answered: Result<T, Refusal>) -> Result<Result<T, Refusal>, R
     }
 }
 
-// The same of a read.
-fn read_answer<T: Drop>(answered: Result<T, ReadError>) -> Result<Result<T, ReadError>, ReadError> {
-    match answered {
-        Err(ReadError::NoMemory) => Err(ReadError::NoMemory),
-        other => Ok(other),
-    }
+// Adds a body in one go, and answers an error of the device.
+fn append(slots: &mut TwoSlot, shelf: &mut MemShelf, body: &[u8]) -> Result<(), Refusal> {
+    let mut builder = slots.builder(body.len())?;
+    builder.extend_from_slice(body)?;
+    slots.append_prepared(shelf, PreparedBatch::new(builder)?)?;
+    Ok(())
 }
 
 // The slots that are opened; what they hand over is dropped.
@@ -59,15 +61,12 @@ fn found(alloc: Global, shelf: &mut MemShelf) -> Result<Found, Refusal> {
     }
 }
 
-// Whether slots hold so many of the bodies, from the first one on.
-fn hold(slots: &TwoSlot, shelf: &mut MemShelf, count: u64) -> Result<bool, Refusal> {
-    for (index, expected) in (0..count).zip(BODIES) {
-        let body = slots.read(shelf, index)?;
-        if !body.is_some_and(|body| body.as_slice() == expected) {
-            return Ok(false);
-        }
-    }
-    Ok(slots.count() == count && slots.read(shelf, count)?.is_none())
+// Whether an opening hands over so many of the bodies, from the first one on.
+fn hold(alloc: Global, shelf: &mut MemShelf, count: u64) -> Result<bool, Refusal> {
+    let mut taken = Taken::new(alloc);
+    let slots = TwoSlot::open_with(alloc, shelf, TOPIC, &mut taken)?;
+    let expected = TEXTS.get(count as usize).copied();
+    Ok(slots.count() == count && expected == Some(taken.text.as_slice()))
 }
 
 // Makes these the bytes of a file.

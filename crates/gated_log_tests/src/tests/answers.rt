@@ -1,8 +1,8 @@
 // The bytes of a file, and the answer of each call.
 use super::taken::Taken;
-use super::{FILE, NUMBER, contents, roomy};
+use super::{FILE, NUMBER, append, contents, read_answer, roomy};
 use disk::{FileId, Shelf};
-use gated_log::{BatchBuilder, BatchList, GatedLog, LogId, PreparedBatch, Room};
+use gated_log::{BatchBuilder, BatchList, GatedLog, LogId, PreparedBatch, ReadError};
 use std::test::Fail;
 
 const FRESH: [u8; 17] = [
@@ -20,7 +20,7 @@ fn a_fresh_file_and_one_batch_byte_by_byte(rt: HostRuntime) -> Result<(), Fail> 
     let mut log = GatedLog::create(rt.alloc(), &mut shelf, FILE, NUMBER)?;
     let fresh = contents(rt.alloc(), &mut shelf)?;
     assert_eq!(rt; fresh.as_slice(), FRESH.as_slice());
-    log.append(&mut shelf, b"abc")?;
+    append(&mut log, &mut shelf, b"abc")?;
     let grown = contents(rt.alloc(), &mut shelf)?;
     assert_eq!(rt; grown.as_slice(), WITH_ABC.as_slice());
     assert_eq!(rt; shelf.length(FileId::Catalog)?, 0);
@@ -32,9 +32,9 @@ fn each_call_answers(rt: HostRuntime) -> Result<(), Fail> {
     let mut shelf = roomy(rt.alloc())?;
     let mut log = GatedLog::create(rt.alloc(), &mut shelf, FILE, NUMBER)?;
     let builder = log.builder(0)?;
-    let prepared = log.prepare(builder)?;
-    log.append_prepared(&mut shelf, prepared)?;
-    log.append(&mut shelf, b"abc")?;
+    let batch = PreparedBatch::new(builder)?;
+    log.append_prepared(&mut shelf, batch)?;
+    append(&mut log, &mut shelf, b"abc")?;
     assert_eq!(rt;
         log.id(),
         LogId {
@@ -44,11 +44,9 @@ fn each_call_answers(rt: HostRuntime) -> Result<(), Fail> {
     );
     assert_eq!(rt; log.count(), 2);
     assert!(rt; !log.is_failed());
-    let empty = log.read(&mut shelf, 0)?;
-    assert!(rt; empty.is_some_and(|body| body.is_empty()));
-    let body = log.read(&mut shelf, 1)?;
-    assert!(rt; body.is_some_and(|body| body.as_slice() == b"abc".as_slice()));
-    assert!(rt; log.read(&mut shelf, 2)?.is_none());
+    assert_eq!(rt; log.end(), 29);
+    let body = log.read_at(&mut shelf, 26, 3)?;
+    assert_eq!(rt; body.as_slice(), b"abc".as_slice());
     Ok(())
 }
 
@@ -66,35 +64,37 @@ fn an_opening_has_memory_where_there_is_some(rt: HostRuntime) -> Result<(), Fail
         }
     );
     assert_eq!(rt; log.count(), 1);
-    let body = log.read(&mut shelf, 0)?;
-    assert!(rt; body.is_some_and(|body| body.as_slice() == b"abc".as_slice()));
+    let body = log.read_at(&mut shelf, 21, 3)?;
+    assert_eq!(rt; body.as_slice(), b"abc".as_slice());
     Ok(())
 }
 
 #[test]
-fn a_log_made_with_room_takes_a_body_and_reads_a_part(rt: HostRuntime) -> Result<(), Fail> {
+fn bytes_of_a_log_are_read_where_they_stand(rt: HostRuntime) -> Result<(), Fail> {
     let mut shelf = roomy(rt.alloc())?;
-    let room = Room::new(rt.alloc())?;
     let mut builder = BatchBuilder::with_capacity(rt.alloc(), 6)?;
     builder.push(b'a')?;
     builder.extend_from_slice(b"bcdef")?;
     assert_eq!(rt; builder.len(), 6);
     let batch = PreparedBatch::new(builder)?;
-    let mut log = GatedLog::create_with_room(rt.alloc(), &mut shelf, FILE, NUMBER, room)?;
+    let mut log = GatedLog::create(rt.alloc(), &mut shelf, FILE, NUMBER)?;
     log.append_prepared(&mut shelf, batch)?;
-    let parts = [
-        (0, 9, b"abcdef".as_slice()),
-        (2, 3, b"cde".as_slice()),
-        (6, 1, b"".as_slice()),
-        (9, 1, b"".as_slice()),
-    ];
-    for (from, most, expected) in parts {
-        let part = log.read_part(&mut shelf, 0, from, most)?;
-        assert!(rt;
-            part.is_some_and(|part| part.as_slice() == expected),
-            "{from}, {most}"
-        );
+    for (offset, size, expected) in [
+        (16, 5, [1, 6, 0, 0, 0].as_slice()),
+        (21, 6, b"abcdef"),
+        (23, 3, b"cde"),
+        (27, 0, b""),
+    ] {
+        let bytes = log.read_at(&mut shelf, offset, size)?;
+        assert_eq!(rt; bytes.as_slice(), expected, "{offset}, {size}");
     }
-    assert!(rt; log.read_part(&mut shelf, 1, 0, 9)?.is_none());
+    let past = read_answer(log.read_at(&mut shelf, 25, 9))?;
+    assert_eq!(rt;
+        past.err(),
+        Some(ReadError::Damaged {
+            file: FILE,
+            offset: 25
+        })
+    );
     Ok(())
 }

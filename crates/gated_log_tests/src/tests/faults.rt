@@ -1,5 +1,5 @@
 // One call of the device fails, and no power with it.
-use super::{FILE, NUMBER, answer, found, lay, read_answer, roomy};
+use super::{FILE, NUMBER, answer, append, found, lay, read_answer, roomy};
 use disk::{CrashShelf, DeviceError, Fuse, Shelf};
 use gated_log::{BatchList, GatedLog, ReadError, Refusal};
 use std::test::Fail;
@@ -23,13 +23,13 @@ fn a_failed_list_refuses_until_it_is_opened_again(rt: HostRuntime) -> Result<(),
     for (number, count) in [(1, 0), (2, 0), (3, 0), (4, 1)] {
         let mut log = GatedLog::create(rt.alloc(), &mut shelf, FILE, NUMBER)?;
         shelf.arm(Fuse::Fail(number))?;
-        let failed = answer(log.append(&mut shelf, b"ab"))?;
-        let later = answer(log.append(&mut shelf, b"cd"))?;
+        let failed = answer(append(&mut log, &mut shelf, b"ab"))?;
+        let later = answer(append(&mut log, &mut shelf, b"cd"))?;
         let size = shelf.length(FILE)?;
         assert_eq!(rt; failed, Err(Refusal::Device), "{number}");
         assert_eq!(rt; later, Err(Refusal::Device), "{number}");
         assert_eq!(rt;
-            read_answer(log.read(&mut shelf, 0))?.err(),
+            read_answer(log.read_at(&mut shelf, 21, 2))?.err(),
             Some(ReadError::Device),
             "{number}"
         );
@@ -45,7 +45,7 @@ fn a_failed_list_refuses_until_it_is_opened_again(rt: HostRuntime) -> Result<(),
 fn a_failing_call_of_an_opening_refuses_it(rt: HostRuntime) -> Result<(), Fail> {
     let mut shelf = roomy(rt.alloc())?;
     let mut log = GatedLog::create(rt.alloc(), &mut shelf, FILE, NUMBER)?;
-    log.append(&mut shelf, b"ab")?;
+    append(&mut log, &mut shelf, b"ab")?;
     for fuse in [
         Fuse::Fail(1),
         Fuse::FailRead(1),
@@ -68,14 +68,14 @@ fn a_read_that_fails_does_not_fail_the_list(rt: HostRuntime) -> Result<(), Fail>
     let mut shelf = roomy(rt.alloc())?;
     lay(&mut shelf, b"")?;
     let mut log = GatedLog::create(rt.alloc(), &mut shelf, FILE, NUMBER)?;
-    log.append(&mut shelf, b"ab")?;
+    append(&mut log, &mut shelf, b"ab")?;
     shelf.arm(Fuse::FailRead(1))?;
     assert_eq!(rt;
-        read_answer(log.read(&mut shelf, 0))?.err(),
+        read_answer(log.read_at(&mut shelf, 21, 2))?.err(),
         Some(ReadError::Device)
     );
     assert!(rt; !log.is_failed());
-    let body = log.read(&mut shelf, 0)?;
-    assert!(rt; body.is_some_and(|body| body.as_slice() == b"ab".as_slice()));
+    let body = log.read_at(&mut shelf, 21, 2)?;
+    assert_eq!(rt; body.as_slice(), b"ab".as_slice());
     Ok(())
 }

@@ -1,6 +1,6 @@
 // What an opening hands over.
 use super::taken::Taken;
-use super::{FILE, NUMBER, answer, lay, roomy};
+use super::{FILE, NUMBER, answer, append, lay, roomy};
 use disk::{CrashShelf, DeviceError, Fuse, Shelf};
 use disk_mem::MemShelf;
 use gated_log::{AtHeader, BatchList, GatedLog, LogHead, LogId, Refusal};
@@ -10,8 +10,8 @@ use std::test::Fail;
 // A log of two bodies, the first without bytes.
 fn made(alloc: Global, shelf: &mut MemShelf) -> Result<(), Fail> {
     let mut log = GatedLog::create(alloc, shelf, FILE, NUMBER)?;
-    log.append(shelf, b"")?;
-    log.append(shelf, b"abc")?;
+    append(&mut log, shelf, b"")?;
+    append(&mut log, shelf, b"abc")?;
     Ok(())
 }
 
@@ -38,8 +38,8 @@ fn an_opening_hands_over_each_body(rt: HostRuntime) -> Result<(), Fail> {
         }
     );
     assert_eq!(rt; opened.count(), 2);
-    let body = opened.read(&mut shelf, 1)?;
-    assert!(rt; body.is_some_and(|body| body.as_slice() == b"abc".as_slice()));
+    let body = opened.read_at(&mut shelf, 26, 3)?;
+    assert_eq!(rt; body.as_slice(), b"abc".as_slice());
     Ok(())
 }
 

@@ -1,5 +1,5 @@
 // The power fails within a call, and comes back in each form of crash.
-use super::{FILE, NUMBER, answer, found, lay, roomy};
+use super::{FILE, NUMBER, answer, append, found, lay, roomy};
 use disk::{CrashForm, CrashShelf, Fuse};
 use disk_mem::MemShelf;
 use gated_log::{BatchList, GatedLog, Refusal};
@@ -63,10 +63,10 @@ fn after_append(
     stop: u64,
 ) -> Result<Found, Fail> {
     let mut log = GatedLog::create(alloc, shelf, FILE, NUMBER)?;
-    log.append(shelf, b"ab")?;
+    append(&mut log, shelf, b"ab")?;
     shelf.arm(Fuse::CrashAs(form))?;
     shelf.arm(Fuse::Stop(stop))?;
-    let appended = answer(log.append(shelf, b"cd"))?;
+    let appended = answer(append(&mut log, shelf, b"cd"))?;
     if appended != Err(Refusal::Device) {
         return Err(Fail::new("appended, though a call failed"));
     }

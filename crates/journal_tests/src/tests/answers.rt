@@ -38,22 +38,30 @@ fn a_rolled_chain_byte_by_byte(rt: HostRuntime) -> Result<(), Fail> {
 fn bodies_are_read_by_their_places(rt: HostRuntime) -> Result<(), Fail> {
     let mut shelf = roomy(rt.alloc())?;
     let mut journal = Journal::create(rt.alloc(), &mut shelf, 3, 0)?;
-    journal.append(&mut shelf, b"abc")?;
+    append(&mut journal, &mut shelf, b"abc")?;
     roll(&mut journal, &mut shelf, 1)?;
-    journal.append(&mut shelf, b"de")?;
-    for (segment, index, from, most, part) in [
-        (0, 0, 0, 9, b"abc".as_slice()),
-        (0, 0, 1, 1, b"b"),
-        (1, 0, 1, 5, b"e"),
-        (1, 0, u32::MAX, 5, b""),
+    append(&mut journal, &mut shelf, b"de")?;
+    for (segment, offset, size, part) in [
+        (0, 22, 3, b"abc".as_slice()),
+        (0, 23, 1, b"b"),
+        (1, 23, 1, b"e"),
+        (1, 24, 0, b""),
     ] {
-        let found = journal.read(&mut shelf, segment, index, from, most)?;
+        let found = journal.read_at(&mut shelf, segment, offset, size)?;
         assert_eq!(rt; found.as_deref(), Some(part));
     }
-    for (segment, index) in [(0, 1), (0, u64::MAX), (1, 1), (2, 0)] {
-        let found = journal.read(&mut shelf, segment, index, 0, 9)?;
+    for segment in [2, u64::MAX] {
+        let found = journal.read_at(&mut shelf, segment, 22, 1)?;
         assert_eq!(rt; found.as_deref(), None);
     }
+    let past = read_answer(journal.read_at(&mut shelf, 1, 24, 9))?;
+    assert_eq!(rt;
+        past.err(),
+        Some(ReadError::Damaged {
+            file: segment(1),
+            offset: 24
+        })
+    );
     Ok(())
 }
 
@@ -67,15 +75,9 @@ fn an_opening_has_memory_where_there_is_some(rt: HostRuntime) -> Result<(), Fail
     assert_eq!(rt; journal.segments(), 2);
     assert_eq!(rt; journal.last_count(), 1);
     assert!(rt; !journal.is_failed());
-    for (segment, index, body) in [
-        (0, 0, Some(b"ab".as_slice())),
-        (0, 1, None),
-        (1, 0, Some(b"")),
-        (1, 1, None),
-    ] {
-        let found = journal.read(&mut shelf, segment, index, 0, 9)?;
-        assert_eq!(rt; found.as_deref(), body);
-    }
+    assert_eq!(rt; journal.last_end(), 22);
+    let found = journal.read_at(&mut shelf, 0, 22, 2)?;
+    assert_eq!(rt; found.as_deref(), Some(b"ab".as_slice()));
     Ok(())
 }
 
@@ -85,10 +87,10 @@ fn a_read_that_fails_does_not_fail_the_journal(rt: HostRuntime) -> Result<(), Fa
     let mut journal = Journal::create(rt.alloc(), &mut shelf, 3, 0)?;
     append(&mut journal, &mut shelf, b"ab")?;
     shelf.arm(Fuse::FailRead(1))?;
-    let failed = read_answer(journal.read(&mut shelf, 0, 0, 0, 9))?;
+    let failed = read_answer(journal.read_at(&mut shelf, 0, 22, 2))?;
     assert_eq!(rt; failed.err(), Some(ReadError::Device));
     assert!(rt; !journal.is_failed());
-    let body = journal.read(&mut shelf, 0, 0, 0, 9)?;
+    let body = journal.read_at(&mut shelf, 0, 22, 2)?;
     assert_eq!(rt; body.as_deref(), Some(b"ab".as_slice()));
     Ok(())
 }

@@ -75,7 +75,7 @@ fn an_opening_hands_over_each_body(rt: HostRuntime) -> Result<(), Fail> {
     assert_eq!(rt; text.as_slice(), b"|ab,|,".as_slice());
     append(&mut journal, &mut shelf, b"c")?;
     assert_eq!(rt; journal.last_count(), 2);
-    let part = journal.read(&mut shelf, 1, 1, 0, 9)?;
+    let part = journal.read_at(&mut shelf, 1, 28, 1)?;
     assert!(rt; part.is_some_and(|part| part.as_slice() == b"c".as_slice()));
     let (_, numbers, text) = handed(rt.alloc(), &mut shelf)?;
     assert_eq!(rt; numbers.as_slice(), [0, 5].as_slice());

@@ -1,8 +1,8 @@
 // The power fails at each call of the device within a call of a journal, and comes back in each form of crash.
 use super::{
-    answer, append, chain, chain_gone_on, damaged, found, lay, open, roll, roomy, segment,
+    answer, append, chain, chain_gone_on, damaged, found, lay, open, prepared, roll, roomy, segment,
 };
-use disk::{CrashForm, CrashShelf, Fuse};
+use disk::{CrashForm, CrashShelf, DeviceError, Fuse};
 use disk_mem::MemShelf;
 use gated_log::Refusal;
 use journal::Journal;
@@ -35,10 +35,10 @@ fn is_left(form: CrashForm, stop: u64, calls: u64) -> bool {
 }
 
 // A failed answer where there was a stop, and only there.
-fn check(answered: Result<(), Refusal>, failed: bool, stopped: bool) -> Result<(), Fail> {
+fn check(answered: Result<(), DeviceError>, failed: bool, stopped: bool) -> Result<(), Fail> {
     match answered {
         Ok(()) if !stopped && !failed => Ok(()),
-        Err(Refusal::Device) if stopped && failed => Ok(()),
+        Err(DeviceError) if stopped && failed => Ok(()),
         _ => Err(Fail::new("another answer than that of the device")),
     }
 }
@@ -88,7 +88,8 @@ fn after_append(
     let mut journal = Journal::create(alloc, shelf, 3, 0)?;
     append(&mut journal, shelf, b"ab")?;
     lay_stop(shelf, form, stop)?;
-    let appended = answer(journal.append(shelf, b"c"))?;
+    let batch = prepared(&journal, b"c")?;
+    let appended = journal.append_prepared(shelf, batch);
     check(appended, journal.is_failed(), stop < 5)?;
     shelf.crash();
     chain(alloc, shelf)
@@ -126,10 +127,7 @@ fn after_roll(
     append(&mut journal, shelf, b"ab")?;
     let roll = journal.prepare_roll()?;
     lay_stop(shelf, form, stop)?;
-    let rolled = match journal.roll_prepared(shelf, 5, roll) {
-        Ok(()) => Ok(()),
-        Err(_) => Err(Refusal::Device),
-    };
+    let rolled = journal.roll_prepared(shelf, 5, roll);
     check(rolled, journal.is_failed(), stop < 10)?;
     shelf.crash();
     chain(alloc, shelf)
@@ -182,7 +180,8 @@ fn after_opening(
     append(&mut journal, shelf, b"ab")?;
     roll(&mut journal, shelf, 5)?;
     shelf.arm(Fuse::Fail(4))?;
-    let appended = answer(journal.append(shelf, b"c"))?;
+    let batch = prepared(&journal, b"c")?;
+    let appended = journal.append_prepared(shelf, batch);
     check(appended, journal.is_failed(), true)?;
     lay_stop(shelf, form, stop)?;
     let opened = answer(open(alloc, shelf))?;

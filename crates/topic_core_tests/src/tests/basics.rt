@@ -96,7 +96,7 @@ fn a_failing_read_changes_nothing(rt: HostRuntime) -> Result<(), Fail> {
     Ok(())
 }
 
-// The first batch of a segment stands behind its gate at 16.
+// The first entry of a segment stands at 26: behind a header, the gate, the length and the kind of its batch, and its own length.
 const FIRST: FileId = FileId::Segment {
     topic: 0,
     number: 0,
@@ -120,7 +120,7 @@ fn a_file_cut_behind_an_open_topic_is_damage(rt: HostRuntime) -> Result<(), Fail
     drop(topic);
     let damage = Refusal::Damaged {
         file: FIRST,
-        offset: 16,
+        offset: 26,
     };
     assert_eq!(rt; seen?, (Some(damage), false, 1));
     Ok(())

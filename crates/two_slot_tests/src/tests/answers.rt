@@ -1,6 +1,7 @@
 // The bytes of the files, and the answer of each call.
-use super::{ONE, TOPIC, ZERO, contents, lay, roomy};
-use gated_log::BatchList;
+use super::taken::Taken;
+use super::{ONE, TOPIC, ZERO, append, contents, lay, roomy};
+use gated_log::{BatchList, PreparedBatch};
 use std::test::Fail;
 use two_slot::TwoSlot;
 
@@ -25,7 +26,7 @@ fn new_slots_and_one_body_byte_by_byte(rt: HostRuntime) -> Result<(), Fail> {
     assert_eq!(rt; zero.as_slice(), FRESH.as_slice());
     let one = contents(rt.alloc(), &mut shelf, ONE)?;
     assert_eq!(rt; one.as_slice(), CLOSED.as_slice());
-    slots.append(&mut shelf, b"abc")?;
+    append(&mut slots, &mut shelf, b"abc")?;
     let grown = contents(rt.alloc(), &mut shelf, ZERO)?;
     assert_eq!(rt; grown.as_slice(), WITH_ABC.as_slice());
     let still = contents(rt.alloc(), &mut shelf, ONE)?;
@@ -52,14 +53,14 @@ fn each_call_answers(rt: HostRuntime) -> Result<(), Fail> {
     let mut shelf = roomy(rt.alloc())?;
     let mut slots = TwoSlot::create(rt.alloc(), &mut shelf, TOPIC)?;
     let builder = slots.builder(0)?;
-    let prepared = slots.prepare(builder)?;
-    slots.append_prepared(&mut shelf, prepared)?;
-    slots.append(&mut shelf, b"abc")?;
+    let batch = PreparedBatch::new(builder)?;
+    slots.append_prepared(&mut shelf, batch)?;
+    append(&mut slots, &mut shelf, b"abc")?;
     assert_eq!(rt; slots.id(), TOPIC);
     assert_eq!(rt; slots.count(), 2);
     assert!(rt; !slots.is_failed());
-    let body = slots.read(&mut shelf, 1)?;
-    assert!(rt; body.is_some_and(|body| body.as_slice() == b"abc".as_slice()));
-    assert!(rt; slots.read(&mut shelf, 2)?.is_none());
+    let mut taken = Taken::new(rt.alloc());
+    TwoSlot::open_with(rt.alloc(), &mut shelf, TOPIC, &mut taken)?;
+    assert_eq!(rt; taken.text.as_slice(), b"|,abc,".as_slice());
     Ok(())
 }

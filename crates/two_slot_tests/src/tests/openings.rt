@@ -57,8 +57,6 @@ fn opened_slots_have_their_bodies(rt: HostRuntime) -> Result<(), Fail> {
     assert_eq!(rt; opened.id(), TOPIC);
     assert_eq!(rt; opened.count(), 2);
     assert!(rt; !opened.is_failed());
-    let body = opened.read(&mut shelf, 1)?;
-    assert!(rt; body.is_some_and(|body| body.as_slice() == b"bc".as_slice()));
     Ok(())
 }
 

@@ -1,8 +1,8 @@
 // A call of the device fails, once or until the power does, and a crash of each form follows.
-use super::{BODIES, Found, ONE, TOPIC, ZERO, answer, found, hold, lay, open, read_answer, roomy};
+use super::{BODIES, Found, ONE, TOPIC, ZERO, answer, append, found, hold, lay, open, roomy};
 use disk::{CrashForm, CrashShelf, Fuse};
 use disk_mem::MemShelf;
-use gated_log::{BatchList, ReadError, Refusal};
+use gated_log::{BatchList, Refusal};
 use std::alloc::Global;
 use std::test::Fail;
 use two_slot::TwoSlot;
@@ -74,22 +74,21 @@ fn after_append(
     fuse: Fuse,
 ) -> Result<u64, Fail> {
     let mut slots = TwoSlot::create(alloc, shelf, TOPIC)?;
-    slots.append(shelf, BODIES[0])?;
+    append(&mut slots, shelf, BODIES[0])?;
     shelf.arm(Fuse::CrashAs(form))?;
     shelf.arm(fuse)?;
-    if answer(slots.append(shelf, BODIES[1]))? != Err(Refusal::Device) {
+    if answer(append(&mut slots, shelf, BODIES[1]))? != Err(Refusal::Device) {
         return Err(Fail::new("appended, though a call failed"));
     }
     shelf.crash();
     let mut left = open(alloc, shelf)?;
     let count = left.count();
-    if !hold(&left, shelf, count)? {
+    if !hold(alloc, shelf, count)? {
         return Err(Fail::new("neither the old list nor the new one"));
     }
     let next = if count == 1 { BODIES[1] } else { BODIES[2] };
-    left.append(shelf, next)?;
-    let grown = open(alloc, shelf)?;
-    if left.count() == count || !hold(&grown, shelf, left.count())? {
+    append(&mut left, shelf, next)?;
+    if left.count() == count || !hold(alloc, shelf, left.count())? {
         return Err(Fail::new("the next body isn't there"));
     }
     Ok(count)
@@ -126,9 +125,9 @@ fn after_opening(
     fuse: Fuse,
 ) -> Result<u64, Fail> {
     let mut slots = TwoSlot::create(alloc, shelf, TOPIC)?;
-    slots.append(shelf, BODIES[0])?;
+    append(&mut slots, shelf, BODIES[0])?;
     shelf.arm(Fuse::Fail(4))?;
-    if answer(slots.append(shelf, BODIES[1]))? != Err(Refusal::Device) {
+    if answer(append(&mut slots, shelf, BODIES[1]))? != Err(Refusal::Device) {
         return Err(Fail::new("appended, though a call failed"));
     }
     shelf.arm(Fuse::CrashAs(form))?;
@@ -139,7 +138,7 @@ fn after_opening(
     shelf.crash();
     let left = open(alloc, shelf)?;
     let count = left.count();
-    if !hold(&left, shelf, count)? {
+    if !hold(alloc, shelf, count)? {
         return Err(Fail::new("neither the old list nor the new one"));
     }
     Ok(count)
@@ -172,7 +171,7 @@ fn each_call_of_an_opening_fails_in_each_crash(rt: HostRuntime) -> Result<(), Fa
 fn a_read_that_fails_refuses_an_opening(rt: HostRuntime) -> Result<(), Fail> {
     let mut shelf = roomy(rt.alloc())?;
     let mut slots = TwoSlot::create(rt.alloc(), &mut shelf, TOPIC)?;
-    slots.append(&mut shelf, BODIES[0])?;
+    append(&mut slots, &mut shelf, BODIES[0])?;
     for call in 1..6u64 {
         shelf.arm(Fuse::FailRead(call))?;
         assert_eq!(rt;
@@ -190,30 +189,15 @@ fn failed_slots_refuse_until_they_are_opened(rt: HostRuntime) -> Result<(), Fail
     let mut shelf = roomy(rt.alloc())?;
     for (call, count) in [(1, 1), (2, 1), (3, 1), (4, 2)] {
         let mut slots = TwoSlot::create(rt.alloc(), &mut shelf, TOPIC)?;
-        slots.append(&mut shelf, BODIES[0])?;
+        append(&mut slots, &mut shelf, BODIES[0])?;
         shelf.arm(Fuse::Fail(call))?;
-        let failed = answer(slots.append(&mut shelf, BODIES[1]))?;
-        let later = answer(slots.append(&mut shelf, BODIES[2]))?;
-        let read = read_answer(slots.read(&mut shelf, 0))?;
+        let failed = answer(append(&mut slots, &mut shelf, BODIES[1]))?;
+        let later = answer(append(&mut slots, &mut shelf, BODIES[2]))?;
         assert_eq!(rt; failed, Err(Refusal::Device), "{call}");
         assert_eq!(rt; later, Err(Refusal::Device), "{call}");
-        assert_eq!(rt; read.err(), Some(ReadError::Device), "{call}");
         assert!(rt; slots.is_failed(), "{call}");
         assert_eq!(rt; slots.count(), 1, "{call}");
         assert_eq!(rt; found(rt.alloc(), &mut shelf)?, Ok(count), "{call}");
     }
-    Ok(())
-}
-
-#[test]
-fn a_read_that_fails_does_not_fail_the_slots(rt: HostRuntime) -> Result<(), Fail> {
-    let mut shelf = roomy(rt.alloc())?;
-    let mut slots = TwoSlot::create(rt.alloc(), &mut shelf, TOPIC)?;
-    slots.append(&mut shelf, BODIES[0])?;
-    shelf.arm(Fuse::FailRead(1))?;
-    let read = read_answer(slots.read(&mut shelf, 0))?;
-    assert_eq!(rt; read.err(), Some(ReadError::Device));
-    assert!(rt; !slots.is_failed());
-    assert!(rt; hold(&slots, &mut shelf, 1)?);
     Ok(())
 }

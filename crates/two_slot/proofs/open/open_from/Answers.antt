@@ -49,7 +49,7 @@ returns-in_ok-log-in-Read-clause-opened g c = λ honest are held.
     let settled = opened.1 honest has in (
       opened.0,
       read_settled _ heads.topic c.in-Read.slot c.in-Read.spare (record { topic_is = refl; slot_is = refl; spare_is = refl }) disk new c.header_of.result c.header_of-2.result says opened.0
-          (c.is_failed-failed.ensures ∙ settled.now.file.works) (c.open_from.ensures.seen honest) (c.open_from.ensures.any_moment honest) settled,
+          (c.is_failed-failed.ensures ∙ settled.now.works) (c.open_from.ensures.seen honest) (c.open_from.ensures.any_moment honest) settled,
       opened.2,
     )
 

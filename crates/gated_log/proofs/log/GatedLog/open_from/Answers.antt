@@ -1,16 +1,16 @@
 use Rattle.std.proofs.Common.{◌≡◌, ◌⊎◌, inl, inr, ⊎_elim, ℕ, ◌+◌, refl, ◌≤◌, length, List, ◌++◌, [], ◌∷◌, sym, ◌∙◌, ap, subst}
-use Rattle.std.specs.Option.{option_map, IsSome}
+use Rattle.std.specs.Option.{option_map, IfSome}
 use Rattle.std.proofs.lemmas.Result.{err_from_is_err_and}
 use Rattle.disk.specs.Disk.{Image}
 use Rattle.gated_log.specs.declared.log_id.LogId.{LogId}
 use Rattle.gated_log.specs.declared.refusal.Refusal.{Refusal}
 use Rattle.gated_log.specs.declared.refusal.Refusal.TheVariants.{Device, NoMemory, Damaged}
 use Rattle.gated_log.specs.Batches.{IsLog}
-use Rattle.gated_log.specs.Folds.{behind, IsFault, begun, grown}
+use Rattle.gated_log.specs.Folds.{FitsFile, behind, IsFault, begun, grown}
 use Rattle.gated_log.specs.Logs.{log_id}
-use Rattle.gated_log.specs.Reading.{reader_count, HasRead, IsNext}
+use Rattle.gated_log.specs.Reading.{reader_at, HasRead, IsNext}
 use Rattle.gated_log.proofs.Further.{still_synced}
-use Rattle.gated_log.proofs.Folding.{log_of, goes_more, number_fault, gate_fault, body_fault, last_fits, settles}
+use Rattle.gated_log.proofs.Folding.{log_of, goes_first, goes_more, number_fault, gate_fault, body_fault, last_fits, settles}
 use Rattle.gated_log.proofs.log.GatedLog.open_from.Goals as goal
 
 pub returns-then-not-branch-clause-refused : goal.returns-then-not-branch-clause-refused
@@ -75,7 +75,14 @@ returns-then-not-branch-2-clause-refused g c = λ before honest has held.
     let bad : ¬ form (grown (log_of old read.0) body) = subst (λ r. ¬ g.F.Fold.form r (before ++ grown (log_of old read.0) body ∷ [])) c.bodies.invariant.1
     (subst (λ (l : List ℕ). ¬ g.F.Fold.form (g.F.Fold.rule c.bodies.fold) (before ++ grown (log_of old read.0) l ∷ [])) c.deref.ensures.value refused) in
     inr (inr (subst (λ (i : Image). IsFault form file (i file) (Damaged file c.gate-gate.result)) (so_far.seen honest)
-    (body_fault form file mid.seen old c.next.new.self read.0 body c.gate-gate.result (read.2 honest has) more c.next.ensures.id so_far.file_is formed bad (c.gate-gate.ensures mid.seen read.0 (read.2 honest has)))))
+    (body_fault form file mid.seen old c.next.new.self read.0 body c.gate-gate.result (read.2 honest has) more c.next.ensures.id so_far.file_is formed bad (c.gate-gate.ensures ∙ read.1))))
+
+pub bodies-init : goal.bodies-init
+bodies-init g c = (
+  goes_first c.args.head.now (g.S.Shelf.disk c.args.shelf.now) (g.F.Fold.holds c.args.fold.now) (g.F.Fold.holds c.begin-2.new.self) c.in_ok-reader.reader c.in_ok-reader.ensures.file c.in_ok-reader.ensures.at (λ has. c.in_ok-reader.ensures.begun (g.S.Shelf.disk c.args.shelf.now).seen has.is)
+      (λ before held. subst (λ (i : LogId). g.F.Fold.holds c.begin-2.new.self (before ++ begun i.number ∷ [])) c.id.ensures (c.in_ok-begin.ensures.taken before held cc)),
+  c.begin-2.ensures.rule,
+)
 
 pub bodies-preserved : goal.bodies-preserved
 bodies-preserved g c =
@@ -85,8 +92,8 @@ bodies-preserved g c =
     let so_far = c.bodies.invariant.0 in
     let old = c.bodies.reader in
     let body = c.in-Some.body.items in (
-      goes_more c.args.head.now first mid new (g.F.Fold.holds c.args.fold.now) (g.F.Fold.holds c.bodies.fold) (g.F.Fold.holds c.body.new.self) old c.next.new.self body so_far c.next.ensures.kept c.next.ensures.id c.next.ensures.seen c.next.ensures.any_moment (subst (λ o. IsSome o → reader_count c.next.new.self ≡ reader_count old + 1) c.in-Some.is c.in_ok-body.ensures.counted refl)
+      goes_more c.args.head.now first mid new (g.F.Fold.holds c.args.fold.now) (g.F.Fold.holds c.bodies.fold) (g.F.Fold.holds c.body.new.self) old c.next.new.self body so_far c.next.ensures.kept c.next.ensures.id c.next.ensures.seen c.next.ensures.any_moment (subst (λ o. IfSome o (λ body. reader_at c.next.new.self ≡ reader_at old + 5 + length body.items)) c.in-Some.is c.in_ok-body.ensures.at)
           (λ bodies h read. subst (λ o. IsNext old c.next.new.self mid.seen bodies (option_map (λ body. body.items) o)) c.in-Some.is (c.in_ok-body.ensures.next bodies h read))
-          (λ logs log held few. subst (λ (l : List ℕ). g.F.Fold.holds c.body.new.self (logs ++ grown log l ∷ [])) c.deref.ensures.value (c.in_ok-body-2.ensures.taken logs log held few cc)),
+          (λ logs log held few. subst (λ (l : List ℕ). g.F.Fold.holds c.body.new.self (logs ++ grown log l ∷ [])) c.deref.ensures.value (c.in_ok-body-2.ensures.taken logs log held (subst (λ (l : List ℕ). FitsFile (grown log l)) (sym c.deref.ensures.value) few) cc)),
       c.body.ensures.rule ∙ c.bodies.invariant.1,
     )
