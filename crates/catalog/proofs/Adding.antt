@@ -1,0 +1,69 @@
+-- A name more.
+use Rattle.std.proofs.Common.{◌≡◌, ◌⊎◌, ⊎_elim, inl, inr, ℕ, ◌<◌, true, false, List, [], ◌∷◌, ◌++◌, length, sym, ◌∙◌, ap, subst}
+use Rattle.disk.specs.declared.file_id.FileId.{FileId}
+use Rattle.disk.specs.declared.file_id.FileId.TheVariants.{Catalog as catalog_file}
+use Rattle.disk.specs.Disk.{Disk, Image}
+use Rattle.disk.specs.Areas.{Within, weaken_within}
+use Rattle.disk.specs.Contents.{Settled, InDoubt, StaysSo}
+use Rattle.gated_log.specs.declared.log.GatedLog.{GatedLog}
+use Rattle.gated_log.specs.declared.log_id.LogId.{LogId}
+use Rattle.gated_log.specs.Batches.{BeforeOrAfter, IsLog}
+use Rattle.gated_log.specs.Logs.{LogHolds, StandsFor as LogStands, log_id, log_content}
+use Rattle.catalog.specs.declared.catalog.Catalog.{Catalog}
+use Rattle.catalog.specs.Names.{Names, AreNames, IsPerLedger}
+use Rattle.catalog.specs.Growing.{IsNext, names_more}
+use Rattle.catalog.specs.Catalogs.{Own, Holds, StandsFor, content, remembered, per_ledger}
+
+-- it may follow the names that the catalog holds, too
+held : (old : Catalog) (names : Names) (name : List ℕ) → remembered old ≡ names → IsNext (remembered old) name → IsNext names name
+held old names name same is = subst (λ (l : Names). IsNext l name) same is
+
+held_names : (old : Catalog) (names : Names) → remembered old ≡ names → AreNames names
+held_names old names same = subst AreNames same old.are
+
+pub log_settled : (old : Catalog) (log : GatedLog) (disk : Disk) (names : Names) → StaysSo (LogHolds old.log) (LogHolds log) (log_content old.log) (log_content log) → Settled (Holds old) disk names → Settled (LogHolds log) disk names
+log_settled old log disk names stays s = record { honest = s.honest; now = stays.holds_still disk.seen names s.now.log; left = λ c may. stays.holds_still c names (s.left c may).log }
+
+pub added : (old new : Catalog) (name : List ℕ) (d0 d1 : Disk) (names : Names) → remembered new ≡ remembered old ++ name ∷ [] → Settled (Holds old) d0 names → Settled (LogHolds new.log) d1 (names ++ name ∷ []) → Settled (Holds new) d1 (names ++ name ∷ [])
+added old new name d0 d1 names keys s log =
+    let same = keys ∙ ap (λ (l : Names). l ++ name ∷ []) s.now.same in
+    record { honest = log.honest; now = record { log = log.now; same = same }; left = λ c may. record { log = log.left c may; same = same } }
+
+-- without the name, or with it
+either : (old : Catalog) (id : LogId) (c : Image) (names : Names) (name : List ℕ) → id ≡ log_id old.log → remembered old ≡ names → IsNext (remembered old) name
+    → LogStands id c names ⊎ LogStands id c (names ++ name ∷ []) → StandsFor (per_ledger old) c names ⊎ StandsFor (per_ledger old) c (names ++ name ∷ [])
+either old id c names name same kept next which =
+    let are = held_names old names kept in
+    ⊎_elim
+      (λ is. inl (record { log = in_file names is; ledgers = old.ledgers; names_are = are }))
+      (λ is. inr (record { log = in_file (names ++ name ∷ []) is; ledgers = old.ledgers; names_are = names_more names name are (held old names name kept next) }))
+      which
+  where
+    in_file : (bodies : Names) → LogStands id c bodies → IsLog (per_ledger old) bodies (c catalog_file)
+    in_file bodies is = subst (λ (f : FileId). IsLog (per_ledger old) bodies (c f)) old.file (subst (λ (i : LogId). IsLog i.number bodies (c i.file)) same is)
+
+pub in_doubt : (old : Catalog) (log log' : GatedLog) (name : List ℕ) (d0 d1 : Disk) (names : Names) → IsNext (remembered old) name → log_id log ≡ log_id old.log → Settled (Holds old) d0 names
+    → InDoubt (log_content log') (LogStands (log_id log)) d1 names (names ++ name ∷ []) → InDoubt (log_content log') (StandsFor (per_ledger old)) d1 names (names ++ name ∷ [])
+in_doubt old log log' name d0 d1 names next id s doubt = record {
+  honest = doubt.honest;
+  now = doubt.now;
+  same = doubt.same;
+  left = λ c may. either old (log_id log) c names name id s.now.same next (doubt.left c may);
+}
+
+pub within : (old : Catalog) (log : GatedLog) (name : List ℕ) (d0 d1 : Disk) (names : Names) → IsNext (remembered old) name → log_id log ≡ log_id old.log → Settled (Holds old) d0 names
+    → Within (λ f. f ≡ (log_id log).file) (λ c. BeforeOrAfter (LogStands (log_id log) c) names name) d0 d1 → Within Own (λ c. BeforeOrAfter (StandsFor (per_ledger old) c) names name) d0 d1
+within old log name d0 d1 names next id s w =
+    weaken_within Own (λ (c : Image). BeforeOrAfter (LogStands (log_id log) c) names name) (λ (c : Image). BeforeOrAfter (StandsFor (per_ledger old) c) names name) d0 d1
+    (λ c which. either old (log_id log) c names name id s.now.same next which)
+    (subst (λ (file : FileId). Within (λ f. f ≡ file) (λ (c : Image). BeforeOrAfter (LogStands (log_id log) c) names name) d0 d1) (ap (λ (i : LogId). i.file) id ∙ old.file) w)
+
+pub others : (old : Catalog) (log : GatedLog) (d0 d1 : Disk) → log_id log ≡ log_id old.log → Within (λ f. f ≡ (log_id log).file) (λ c. Unit {0}) d0 d1 → Within Own (λ c. Unit {0}) d0 d1
+others old log d0 d1 id w = subst (λ (file : FileId). Within (λ f. f ≡ file) (λ c. Unit {0}) d0 d1) (ap (λ (i : LogId). i.file) id ∙ old.file) w
+
+-- a call that changes room alone
+pub stays : (old new : Catalog) → remembered new ≡ remembered old → StaysSo (LogHolds old.log) (LogHolds new.log) (log_content old.log) (log_content new.log) → StaysSo (Holds old) (Holds new) (content old) (content new)
+stays old new keys log = record {
+  holds_still = λ c names holds. record { log = log.holds_still c names holds.log; same = keys ∙ holds.same };
+  same = log.same;
+}

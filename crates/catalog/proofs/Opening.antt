@@ -1,0 +1,28 @@
+-- A catalog is opened.
+use Rattle.std.proofs.Common.{◌≡◌, ℕ, Bool, List, [], ◌∷◌, sym, ◌∙◌, subst}
+use Rattle.disk.specs.Disk.{Disk, Image, Same}
+use Rattle.disk.specs.Contents.{Settled}
+use Rattle.gated_log.specs.Batches.{Bodies}
+use Rattle.gated_log.specs.Folds.{Link}
+use Rattle.gated_log.specs.Logs.{LogHolds}
+use Rattle.catalog.specs.declared.catalog.Catalog.{Catalog}
+use Rattle.catalog.specs.Names.{Names}
+use Rattle.catalog.specs.Catalogs.{Holds, StandsFor, remembered, per_ledger}
+use Rattle.catalog.specs.Laws.{one_list, holds_stands}
+
+-- the log of an opened catalog holds what the fold has taken
+pub opened : (catalog : Catalog) (disk : Disk) (bodies : Bodies) → remembered catalog ≡ bodies → Settled (LogHolds catalog.log) disk bodies → Settled (Holds catalog) disk (remembered catalog)
+opened catalog disk bodies same s =
+    let log = subst (λ (b : Bodies). Settled (LogHolds catalog.log) disk b) (sym same) s in
+    record {
+      honest = log.honest;
+      now = record { log = log.now; same = λ i. remembered catalog };
+      left = λ c may. record { log = log.left c may; same = λ i. remembered catalog };
+    }
+
+-- it has the names that the file stands for
+pub again : (catalog : Catalog) (was : Image) (disk : Disk) (number : ℕ) (names : Names) → disk.seen ≡ was → Settled (Holds catalog) disk (remembered catalog) → StandsFor number was names → (per_ledger catalog ≡ number) × Settled (Holds catalog) disk names
+again catalog was disk number names same s is =
+    let there = holds_stands catalog disk.seen (remembered catalog) s.now in
+    let one = one_list (per_ledger catalog) number was (remembered catalog) names (subst (λ (i : Image). StandsFor (per_ledger catalog) i (remembered catalog)) same there) is in
+    (one.0, subst (λ (l : Names). Settled (Holds catalog) disk l) one.1 s)

@@ -1,0 +1,5 @@
+pub mod Names
+pub mod Catalogs
+pub mod Growing
+pub mod Folded
+pub mod Laws

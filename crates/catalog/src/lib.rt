@@ -1,0 +1,19 @@
+//! The catalog is the list of a node's topic names, in order of creation: a topic's number is the place of its name. It is a
+//! log with a name in each batch, and its number is how many entries a ledger of the node has. A name is added whole or not
+//! at all, at whatever moment a crash comes; after a failure the catalog remembers the old names, and the next search opens
+//! it again. An opening answers the names, or the first fault that stands in the file.
+#![tactic(auto)]
+
+mod add;
+mod catalog;
+mod create;
+mod find;
+mod law;
+mod names_fold;
+mod open;
+
+pub use catalog::{Catalog, MAX_ENTRIES_PER_LEDGER, MAX_TOPICS};
+pub use law::{
+    catalog_has_no_fault, catalog_has_one_fault, catalog_is_its_own_file,
+    catalog_stands_for_one_list,
+};
