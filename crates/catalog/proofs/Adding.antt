@@ -1,5 +1,5 @@
 -- A name more.
-use Rattle.std.proofs.Common.{◌≡◌, ◌⊎◌, ⊎_elim, inl, inr, ℕ, ◌<◌, true, false, List, [], ◌∷◌, ◌++◌, length, sym, ◌∙◌, ap, subst}
+use Rattle.std.proofs.Common.{◌≡◌, ◌⊎◌, ⊎_elim, inl, inr, ℕ, ◌<◌, true, false, List, [], ◌∷◌, ◌++◌, length, refl, sym, ◌∙◌, ap, subst, arith}
 use Rattle.disk.specs.declared.file_id.FileId.{FileId}
 use Rattle.disk.specs.declared.file_id.FileId.TheVariants.{Catalog as catalog_file}
 use Rattle.disk.specs.Disk.{Disk, Image}
@@ -8,11 +8,41 @@ use Rattle.disk.specs.Contents.{Settled, InDoubt, StaysSo}
 use Rattle.gated_log.specs.declared.log.GatedLog.{GatedLog}
 use Rattle.gated_log.specs.declared.log_id.LogId.{LogId}
 use Rattle.gated_log.specs.Batches.{BeforeOrAfter, IsLog}
+use Rattle.gated_log.specs.declared.prepare_error.PrepareError.{PrepareError}
+use Rattle.gated_log.specs.declared.prepare_error.PrepareError.TheVariants as prepare
+use Rattle.gated_log.specs.declared.refusal.Refusal.{Refusal}
+use Rattle.gated_log.specs.declared.refusal.Refusal.TheVariants as refusal
+use Rattle.gated_log.specs.Refusals.{unprepared}
 use Rattle.gated_log.specs.Logs.{LogHolds, StandsFor as LogStands, log_id, log_content}
+use Rattle.names.specs.Names.{is_topic_name}
+use Rattle.names.proofs.Parts.{name_is_short}
 use Rattle.catalog.specs.declared.catalog.Catalog.{Catalog}
-use Rattle.catalog.specs.Names.{Names, AreNames, IsPerLedger}
+use Rattle.catalog.specs.Names.{Names, AreNames, IsPerLedger, has_name}
 use Rattle.catalog.specs.Growing.{IsNext, names_more}
 use Rattle.catalog.specs.Catalogs.{Own, Holds, StandsFor, content, remembered, per_ledger}
+
+-- the body that was built is the name
+pub body_is : (builder grown body text name : List ℕ) → builder ≡ [] → grown ≡ builder ++ body → body ≡ text → text ≡ name → grown ≡ name
+body_is builder grown body text name none grows is same = grows ∙ ap (λ (b : List ℕ). b ++ body) none ∙ is ∙ same
+
+-- a text that is a topic's name, of which there is none yet, where there is room
+pub next_name : (names : Names) (text name : List ℕ) → text ≡ name → is_topic_name text ≡ true → has_name names name ≡ false → length names < 64 → IsNext names name
+next_name names text name same good new room = record { room = room; topic = ap is_topic_name (sym same) ∙ good; new = new }
+
+-- a name is never too large for a batch
+pub no_memory : (error : PrepareError) (names : Names) (name body : List ℕ) → IsNext names name → body ≡ name → (error ≡ prepare.TooLarge → 33554432 < length body) → unprepared error ≡ refusal.NoMemory
+no_memory prepare.TooLarge names name body next is large = absurd (omega (arith, large refl, ap length is, name_is_short name next.topic))
+no_memory prepare.NoMemory names name body next is large = refl
+
+-- what stands of the catalog behind an append
+pub names_are : (old : Catalog) (keys : Names) (name : List ℕ) → IsNext (remembered old) name → keys ≡ remembered old ++ name ∷ [] → AreNames keys
+names_are old keys name next grows = subst AreNames (sym grows) (names_more (remembered old) name old.are next)
+
+pub ledgers_are : (old : Catalog) (log : GatedLog) → log_id log ≡ log_id old.log → IsPerLedger (log_id log).number
+ledgers_are old log id = subst (λ (i : LogId). IsPerLedger i.number) (sym id) old.ledgers
+
+pub file_is : (old : Catalog) (log : GatedLog) → log_id log ≡ log_id old.log → (log_id log).file ≡ catalog_file
+file_is old log id = ap (λ (i : LogId). i.file) id ∙ old.file
 
 -- it may follow the names that the catalog holds, too
 held : (old : Catalog) (names : Names) (name : List ℕ) → remembered old ≡ names → IsNext (remembered old) name → IsNext names name

@@ -1,14 +1,27 @@
 -- A catalog is opened.
-use Rattle.std.proofs.Common.{◌≡◌, ℕ, Bool, List, [], ◌∷◌, sym, ◌∙◌, subst}
+use Rattle.std.proofs.Common.{◌≡◌, ◌⊎◌, ℕ, sym, subst}
 use Rattle.disk.specs.Disk.{Disk, Image, Same}
 use Rattle.disk.specs.Contents.{Settled}
+use Rattle.gated_log.specs.declared.refusal.Refusal.{Refusal}
+use Rattle.gated_log.specs.declared.refusal.Refusal.TheVariants.{Device, NoMemory}
 use Rattle.gated_log.specs.Batches.{Bodies}
 use Rattle.gated_log.specs.Folds.{Link}
 use Rattle.gated_log.specs.Logs.{LogHolds}
 use Rattle.catalog.specs.declared.catalog.Catalog.{Catalog}
-use Rattle.catalog.specs.Names.{Names}
+use Rattle.catalog.specs.Names.{Names, AreNames}
 use Rattle.catalog.specs.Catalogs.{Holds, StandsFor, remembered, per_ledger}
+use Rattle.catalog.specs.Folded.{HasNames, IsFault}
 use Rattle.catalog.specs.Laws.{one_list, holds_stands}
+
+-- no memory, the device, or a fault
+abbrev pub Told : Image → Refusal → Type 0
+Told image e = (e ≡ NoMemory) ⊎ ((e ≡ Device) ⊎ IsFault image e)
+
+pub told_same : (image : Image) (e e' : Refusal) → e ≡ e' → Told image e' → Told image e
+told_same image e e' same told = subst (λ (x : Refusal). Told image x) (sym same) told
+
+pub taken_are : (names : Names) (log : Link) → HasNames names log → AreNames names
+taken_are names log has = subst AreNames (sym has.same) has.is.names_are
 
 -- the log of an opened catalog holds what the fold has taken
 pub opened : (catalog : Catalog) (disk : Disk) (bodies : Bodies) → remembered catalog ≡ bodies → Settled (LogHolds catalog.log) disk bodies → Settled (Holds catalog) disk (remembered catalog)

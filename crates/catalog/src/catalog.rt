@@ -1,5 +1,6 @@
 // The names of topics in a log of batches.
 ghost use Rattle.std.specs.Prelude.{◌≡◌};
+ghost use Rattle.std.proofs.Props.{props};
 ghost use Rattle.disk.specs.declared.file_id.FileId.{FileId};
 ghost use Rattle.gated_log.specs.Logs.{log_id};
 ghost use Rattle.catalog.specs.Names.{AreNames, IsPerLedger};
@@ -22,7 +23,7 @@ pub struct Catalog {
     pub(crate) alloc: Global,
     pub(crate) log: GatedLog,
     pub(crate) names: IndexSet<TopicName>,
-    ghost are: { AreNames names.keys },
+    ghost are: { AreNames names.keys } by { Prim.hlevel props },
     ghost ledgers: { IsPerLedger (log_id log).number },
     ghost file: { (log_id log).file ≡ FileId.Catalog },
 }

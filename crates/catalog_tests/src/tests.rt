@@ -3,10 +3,10 @@
 // plain values, and a test drops the device before it looks at them.
 mod damage;
 mod kept;
-mod names;
+mod texts;
 mod stops;
 
-use ::names::{NameFault, TopicName};
+use names::{NameFault, TopicName};
 use catalog::Catalog;
 use disk::{DeviceError, FileId, Shelf};
 use disk_mem::MemShelf;

@@ -1,5 +1,5 @@
 // Which bytes are names.
-use ::names::{is_name_part, is_topic_name};
+use names::{is_name_part, is_topic_name};
 use super::{FIRST, name};
 use gated_log::Refusal;
 use std::alloc::{AllocError, Global};
