@@ -3,19 +3,24 @@
 // plain values, and a test drops the device before it looks at them.
 mod damage;
 mod kept;
-mod texts;
 mod stops;
+mod texts;
 
-use names::{NameFault, TopicName};
 use catalog::Catalog;
 use disk::{DeviceError, FileId, Shelf};
 use disk_mem::MemShelf;
 use gated_log::Refusal;
+use names::{NameFault, TopicName};
 use std::alloc::Global;
 use std::test::Fail;
 
 // How many entries a ledger has.
 const ENTRIES: u32 = 2;
+
+// An open header with that number.
+const HEADER: [u8; 16] = [
+    1, 0x50, 0x55, 0x4c, 0x53, 0x41, 0x52, 1, 2, 0, 0, 0, 0, 0, 0, 0,
+];
 
 // The file of a catalog without names.
 const FRESH: [u8; 17] = [

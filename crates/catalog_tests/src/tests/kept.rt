@@ -1,13 +1,13 @@
 // The bytes of the file, and what a catalog answers.
-use super::{ENTRIES, FIRST, FRESH, SECOND, add, contents, find, found, roomy};
+use super::{ENTRIES, FIRST, FRESH, HEADER, SECOND, add, contents, find, roomy};
 use catalog::{Catalog, MAX_TOPICS};
 use disk_mem::MemShelf;
 use gated_log::Refusal;
-use std::alloc::{AllocError, Global};
+use std::alloc::Global;
 use std::test::Fail;
 
 const BATCHES: [&[u8]; 6] = [
-    &FRESH[..16],
+    &HEADER,
     b"\x01\x12\0\0\0",
     FIRST,
     b"\x01\x12\0\0\0",
@@ -17,15 +17,16 @@ const BATCHES: [&[u8]; 6] = [
 
 // What stands in the file of a new catalog behind two names, and in one without any.
 fn written(alloc: Global, shelf: &mut MemShelf) -> Result<(Vec<u8>, Vec<u8>), Fail> {
+    Catalog::create(alloc, shelf, ENTRIES)?;
+    let fresh = contents(alloc, shelf)?;
     let mut catalog = Catalog::create(alloc, shelf, ENTRIES)?;
-    let fresh = contents(alloc, shelf);
     let first = add(&mut catalog, shelf, alloc, FIRST);
     let second = add(&mut catalog, shelf, alloc, SECOND);
     drop(catalog);
     if (first?, second?) != (0, 1) {
         return Err(Fail::new("not in order"));
     }
-    Ok((fresh?, contents(alloc, shelf)?))
+    Ok((fresh, contents(alloc, shelf)?))
 }
 
 #[test]
@@ -72,7 +73,9 @@ fn first_wrong(
 ) -> Result<Option<u16>, Refusal> {
     for number in 0..64u16 {
         let text = text(usize::from(number));
-        let named = catalog.name(number).is_some_and(|name| name.as_str().as_bytes() == text);
+        let named = catalog
+            .name(number)
+            .is_some_and(|name| name.as_str().as_bytes() == text.as_slice());
         if !named || find(catalog, shelf, alloc, &text)? != Some(number) {
             return Ok(Some(number));
         }

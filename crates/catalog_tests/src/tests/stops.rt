@@ -187,13 +187,14 @@ fn a_search_settles_a_failure_without_a_crash(rt: HostRuntime) -> Result<(), Fai
     Ok(())
 }
 
-// Whether the catalog is found, where a sync more than one or a read more than three would fail; and whether these fail then.
+// Whether the catalog is found, where a sync more than one or a read more than four would fail; and whether these fail then.
 fn opens_once(alloc: Global, shelf: &mut MemShelf) -> Result<(bool, bool), Refusal> {
     with_first(alloc, shelf)?;
     shelf.arm(Fuse::Fail(2))?;
     shelf.arm(Fuse::FailRead(5))?;
     let opened = found(alloc, shelf)? == Ok(1);
-    let ended = shelf.sync(FileId::Catalog).is_err() && shelf.read(FileId::Catalog, 0, &mut [0; 1]).is_err();
+    let ended = shelf.sync(FileId::Catalog).is_err()
+        && shelf.read(FileId::Catalog, 0, &mut [0; 1]).is_err();
     Ok((opened, ended))
 }
 

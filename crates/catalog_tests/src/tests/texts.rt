@@ -1,7 +1,7 @@
 // Which bytes are names.
-use names::{is_name_part, is_topic_name};
 use super::{FIRST, name};
 use gated_log::Refusal;
+use names::{is_name_part, is_topic_name};
 use std::alloc::{AllocError, Global};
 use std::test::Fail;
 

@@ -1,4 +1,4 @@
-use Rattle.std.proofs.Common.{◌≡◌, ◌∙◌, ap, Option, ℕ, length}
+use Rattle.std.proofs.Common.{◌∙◌, ap, Option, ℕ, length}
 use Rattle.std.specs.Option.{unwrap_or}
 use Rattle.names.proofs.Parts.{place_or_length}
 use Rattle.names.proofs.part.before_slash.Goals as goal
