@@ -10,7 +10,6 @@ use Rattle.gated_log.specs.declared.log_id.LogId.{LogId}
 use Rattle.gated_log.specs.Batches.{BeforeOrAfter, IsLog}
 use Rattle.gated_log.specs.declared.prepare_error.PrepareError.{PrepareError}
 use Rattle.gated_log.specs.declared.prepare_error.PrepareError.TheVariants as prepare
-use Rattle.gated_log.specs.declared.refusal.Refusal.{Refusal}
 use Rattle.gated_log.specs.declared.refusal.Refusal.TheVariants as refusal
 use Rattle.gated_log.specs.Refusals.{unprepared}
 use Rattle.gated_log.specs.Logs.{LogHolds, StandsFor as LogStands, log_id, log_content}
@@ -51,8 +50,8 @@ held old names name same is = subst (λ (l : Names). IsNext l name) same is
 held_names : (old : Catalog) (names : Names) → remembered old ≡ names → AreNames names
 held_names old names same = subst AreNames same old.are
 
-pub log_settled : (old : Catalog) (log : GatedLog) (disk : Disk) (names : Names) → StaysSo (LogHolds old.log) (LogHolds log) (log_content old.log) (log_content log) → Settled (Holds old) disk names → Settled (LogHolds log) disk names
-log_settled old log disk names stays s = record { honest = s.honest; now = stays.holds_still disk.seen names s.now.log; left = λ c may. stays.holds_still c names (s.left c may).log }
+pub log_settled : (old : Catalog) (disk : Disk) (names : Names) → Settled (Holds old) disk names → Settled (LogHolds old.log) disk names
+log_settled old disk names s = record { honest = s.honest; now = s.now.log; left = λ c may. (s.left c may).log }
 
 pub added : (old new : Catalog) (name : List ℕ) (d0 d1 : Disk) (names : Names) → remembered new ≡ remembered old ++ name ∷ [] → Settled (Holds old) d0 names → Settled (LogHolds new.log) d1 (names ++ name ∷ []) → Settled (Holds new) d1 (names ++ name ∷ [])
 added old new name d0 d1 names keys s log =
@@ -65,9 +64,9 @@ either : (old : Catalog) (id : LogId) (c : Image) (names : Names) (name : List �
 either old id c names name same kept next which =
     let are = held_names old names kept in
     ⊎_elim
-      (λ is. inl (record { log = in_file names is; ledgers = old.ledgers; names_are = are }))
-      (λ is. inr (record { log = in_file (names ++ name ∷ []) is; ledgers = old.ledgers; names_are = names_more names name are (held old names name kept next) }))
-      which
+    (λ is. inl (record { log = in_file names is; ledgers = old.ledgers; names_are = are }))
+    (λ is. inr (record { log = in_file (names ++ name ∷ []) is; ledgers = old.ledgers; names_are = names_more names name are (held old names name kept next) }))
+    which
   where
     in_file : (bodies : Names) → LogStands id c bodies → IsLog (per_ledger old) bodies (c catalog_file)
     in_file bodies is = subst (λ (f : FileId). IsLog (per_ledger old) bodies (c f)) old.file (subst (λ (i : LogId). IsLog i.number bodies (c i.file)) same is)
@@ -91,9 +90,9 @@ within old log name d0 d1 names next id s w =
 pub others : (old : Catalog) (log : GatedLog) (d0 d1 : Disk) → log_id log ≡ log_id old.log → Within (λ f. f ≡ (log_id log).file) (λ c. Unit {0}) d0 d1 → Within Own (λ c. Unit {0}) d0 d1
 others old log d0 d1 id w = subst (λ (file : FileId). Within (λ f. f ≡ file) (λ c. Unit {0}) d0 d1) (ap (λ (i : LogId). i.file) id ∙ old.file) w
 
--- a call that changes room alone
-pub stays : (old new : Catalog) → remembered new ≡ remembered old → StaysSo (LogHolds old.log) (LogHolds new.log) (log_content old.log) (log_content new.log) → StaysSo (Holds old) (Holds new) (content old) (content new)
-stays old new keys log = record {
-  holds_still = λ c names holds. record { log = log.holds_still c names holds.log; same = keys ∙ holds.same };
-  same = log.same;
+-- a call that changes the room for names alone
+pub stays : (old new : Catalog) → new.log ≡ old.log → remembered new ≡ remembered old → StaysSo (Holds old) (Holds new) (content old) (content new)
+stays old new log keys = record {
+  holds_still = λ c names holds. record { log = subst (λ (l : GatedLog). LogHolds l c names) (sym log) holds.log; same = keys ∙ holds.same };
+  same = λ c. ap (λ (l : GatedLog). log_content l c) log;
 }

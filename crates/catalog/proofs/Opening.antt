@@ -1,6 +1,6 @@
 -- A catalog is opened.
 use Rattle.std.proofs.Common.{◌≡◌, ◌⊎◌, ℕ, sym, subst}
-use Rattle.disk.specs.Disk.{Disk, Image, Same}
+use Rattle.disk.specs.Disk.{Disk, Image}
 use Rattle.disk.specs.Contents.{Settled}
 use Rattle.gated_log.specs.declared.refusal.Refusal.{Refusal}
 use Rattle.gated_log.specs.declared.refusal.Refusal.TheVariants.{Device, NoMemory}

@@ -1,5 +1,5 @@
 -- What a catalog remembers of its file.
-use Rattle.std.specs.Prelude.{◌≡◌, ℕ, Bool, List}
+use Rattle.std.specs.Prelude.{◌≡◌, ℕ, Bool}
 use Rattle.disk.specs.declared.file_id.FileId.{FileId}
 use Rattle.disk.specs.declared.file_id.FileId.TheVariants.{Catalog as catalog_file}
 use Rattle.disk.specs.Disk.{Image}

@@ -1,5 +1,5 @@
 -- Names behind names.
-use Rattle.std.proofs.Common.{◌≡◌, ℕ, ◌≤◌, ◌<◌, ◌+◌, Bool, true, false, ◌&&◌, ◌||◌, not, nat_lt, List, [], ◌∷◌, ◌++◌, length, refl, sym, ◌∙◌, ap, arith, length-append}
+use Rattle.std.proofs.Common.{◌≡◌, ℕ, ◌<◌, Bool, true, false, ◌&&◌, ◌||◌, not, nat_lt, List, [], ◌∷◌, ◌++◌, length, refl, sym, ◌∙◌, ap, arith, length-append}
 use Rattle.std.specs.List.{IsDistinct, AllByRecursion}
 use Rattle.std.specs.Str.{bytes_eq}
 use Rattle.std.proofs.lemmas.Bool.{ltb-true, lt-ltb}
@@ -64,9 +64,10 @@ second_false false b is = is
 differ_more : (names : Names) (body : List ℕ) → IsDistinct bytes_eq names → has_name names body ≡ false → IsDistinct bytes_eq (names ++ body ∷ [])
 unfolding IsDistinct
 differ_more [] body differ new = (tt, tt)
-differ_more (name ∷ names) body differ new =
-    (all_more (λ y. bytes_eq name y ≡ false) names body differ.0 (nat_list_eq_equiv.symm name body ∙ first_false (bytes_eq body name) (has_name names body) new),
-    differ_more names body differ.1 (second_false (bytes_eq body name) (has_name names body) new))
+differ_more (name ∷ names) body differ new = (
+  all_more (λ y. bytes_eq name y ≡ false) names body differ.0 (nat_list_eq_equiv.symm name body ∙ first_false (bytes_eq body name) (has_name names body) new),
+  differ_more names body differ.1 (second_false (bytes_eq body name) (has_name names body) new),
+)
 
 -- names without the last one differ too, and the last one isn't among them
 differ_less : (names : Names) (body : List ℕ) → IsDistinct bytes_eq (names ++ body ∷ []) → IsDistinct bytes_eq names × (has_name names body ≡ false)

@@ -33,7 +33,7 @@ own_file number a b names same is = record {
 -- a catalog that holds names has a file that stands for them
 pub holds_stands : (catalog : Catalog) (image : Image) (names : Names) → Holds catalog image names → StandsFor (per_ledger catalog) image names
 holds_stands catalog image names holds = record {
-  log = subst (λ f. IsLog (per_ledger catalog) names (image f)) catalog.file holds.log.file.is;
+  log = subst (λ f. IsLog (per_ledger catalog) names (image f)) catalog.file holds.log.is;
   ledgers = catalog.ledgers;
   names_are = subst (λ (l : Names). AreNames l) holds.same catalog.are;
 }

@@ -5,7 +5,7 @@ ghost use Rattle.catalog.specs.Names.{has_name};
 
 use crate::catalog::Catalog;
 use disk::Shelf;
-use gated_log::{BatchList, Refusal};
+use gated_log::{BatchList, PreparedBatch, Refusal};
 use indexmap::IndexSet;
 use names::TopicName;
 
@@ -68,7 +68,7 @@ impl Catalog {
         let body = name.as_str().as_bytes();
         let mut builder = self.log.builder(body.len())?;
         builder.extend_from_slice(body)?;
-        let prepared = self.log.prepare(builder)?;
+        let prepared = PreparedBatch::new(builder)?;
         self.log.append_prepared(shelf, prepared)?;
         Ok(put(&mut self.names, name))
     }

@@ -1,4 +1,4 @@
-use Rattle.std.proofs.Common.{◌≡◌, inr, ℕ, List, [], ◌∷◌, ◌++◌, refl, sym, ◌∙◌, ap, subst, Err}
+use Rattle.std.proofs.Common.{inr, ℕ, List, [], ◌∷◌, ◌++◌, refl, ◌∙◌, ap, subst, Err}
 use Rattle.std.proofs.lemmas.Result.{err_from_is_err_and}
 use Rattle.gated_log.specs.declared.prepare_error.PrepareError.{PrepareError}
 use Rattle.gated_log.specs.Logs.{IsBatchOf}
@@ -8,7 +8,7 @@ use Rattle.catalog.proofs.Adding.{body_is, next_name, no_memory, names_are, ledg
 use Rattle.catalog.proofs.catalog.Catalog.add.Goals as goal
 
 pub returns-in_err-prepared-clause-no_memory : goal.returns-in_err-prepared-clause-no_memory
-returns-in_err-prepared-clause-no_memory g c = λ is. (stays c.args.self.now _ c.reserve.ensures.keys c.in_err-prepared.ensures.unchanged, (c.in_err-prepared.ensures.failed, refl))
+returns-in_err-prepared-clause-no_memory g c = λ is. (stays c.args.self.now _ refl c.reserve.ensures.keys, (refl, refl))
 
 pub returns-in_err-prepared-clause-refusals : goal.returns-in_err-prepared-clause-refusals
 returns-in_err-prepared-clause-refusals g c =
@@ -21,27 +21,27 @@ pub returns-in_err-append_prepared-clause-in_doubt : goal.returns-in_err-append_
 returns-in_err-append_prepared-clause-in_doubt g c = λ names s _.
     let name_is = body_is c.in_ok-builder.builder c.extend_from_slice.new.self c.as_bytes-body.result.now c.as_str.result.now c.args.name c.in_ok-builder.ensures c.in_ok-extend_from_slice.ensures.extended c.as_bytes-body.ensures.value c.as_str.ensures.text in
     let next = next_name (remembered c.args.self.now) c.as_str.result.now c.args.name c.as_str.ensures.text c.as_str.ensures.good c.requires.new c.requires.room in
-    let is_for = subst (λ (b : List ℕ). IsBatchOf c.in_ok-prepared.prepared b) name_is c.in_ok-prepared.ensures.prepared.1 in
-    let log = log_settled c.args.self.now c.prepare.new.self (g.S.Shelf.disk c.args.shelf.now) names c.prepare.ensures.unchanged s in
-    in_doubt c.args.self.now c.prepare.new.self c.append_prepared.new.self c.args.name (g.S.Shelf.disk c.args.shelf.now) (g.S.Shelf.disk c.append_prepared.new.shelf) names next c.prepare.ensures.id s
+    let is_for = subst (λ (b : List ℕ). IsBatchOf c.in_ok-prepared.prepared b) name_is c.in_ok-prepared.ensures.built in
+    let log = log_settled c.args.self.now (g.S.Shelf.disk c.args.shelf.now) names s in
+    in_doubt c.args.self.now c.args.self.now.log c.append_prepared.new.self c.args.name (g.S.Shelf.disk c.args.shelf.now) (g.S.Shelf.disk c.append_prepared.new.shelf) names next refl s
     (c.in_err-append_prepared.ensures.in_doubt names c.args.name is_for log refl)
 
 pub returns-in_err-append_prepared-clause-within : goal.returns-in_err-append_prepared-clause-within
 returns-in_err-append_prepared-clause-within g c = λ names s.
     let name_is = body_is c.in_ok-builder.builder c.extend_from_slice.new.self c.as_bytes-body.result.now c.as_str.result.now c.args.name c.in_ok-builder.ensures c.in_ok-extend_from_slice.ensures.extended c.as_bytes-body.ensures.value c.as_str.ensures.text in
     let next = next_name (remembered c.args.self.now) c.as_str.result.now c.args.name c.as_str.ensures.text c.as_str.ensures.good c.requires.new c.requires.room in
-    let is_for = subst (λ (b : List ℕ). IsBatchOf c.in_ok-prepared.prepared b) name_is c.in_ok-prepared.ensures.prepared.1 in
-    let log = log_settled c.args.self.now c.prepare.new.self (g.S.Shelf.disk c.args.shelf.now) names c.prepare.ensures.unchanged s in
-    within c.args.self.now c.prepare.new.self c.args.name (g.S.Shelf.disk c.args.shelf.now) (g.S.Shelf.disk c.append_prepared.new.shelf) names next c.prepare.ensures.id s (c.append_prepared.ensures.within names c.args.name is_for log)
+    let is_for = subst (λ (b : List ℕ). IsBatchOf c.in_ok-prepared.prepared b) name_is c.in_ok-prepared.ensures.built in
+    let log = log_settled c.args.self.now (g.S.Shelf.disk c.args.shelf.now) names s in
+    within c.args.self.now c.args.self.now.log c.args.name (g.S.Shelf.disk c.args.shelf.now) (g.S.Shelf.disk c.append_prepared.new.shelf) names next refl s (c.append_prepared.ensures.within names c.args.name is_for log)
 
 pub returns-in_err-append_prepared-clause-others : goal.returns-in_err-append_prepared-clause-others
 returns-in_err-append_prepared-clause-others g c = λ honest.
-    others c.args.self.now c.prepare.new.self (g.S.Shelf.disk c.args.shelf.now) (g.S.Shelf.disk c.append_prepared.new.shelf) c.prepare.ensures.id (c.append_prepared.ensures.others honest)
+    others c.args.self.now c.args.self.now.log (g.S.Shelf.disk c.args.shelf.now) (g.S.Shelf.disk c.append_prepared.new.shelf) refl (c.append_prepared.ensures.others honest)
 
 pub invariant_of-self-2 : goal.invariant_of-self-2
 invariant_of-self-2 g c =
     let next = next_name (remembered c.args.self.now) c.as_str.result.now c.args.name c.as_str.ensures.text c.as_str.ensures.good c.requires.new c.requires.room in
-    let id = c.append_prepared.ensures.id ∙ c.prepare.ensures.id in
+    let id = c.append_prepared.ensures.id in
     record {
       are = names_are c.args.self.now c.put.new.names.keys c.args.name next (c.put.ensures.names ∙ ap (λ (l : Names). l ++ c.args.name ∷ []) c.reserve.ensures.keys);
       ledgers = ledgers_are c.args.self.now c.append_prepared.new.self id;
@@ -51,8 +51,8 @@ invariant_of-self-2 g c =
 pub returns-clause-added : goal.returns-clause-added
 returns-clause-added g c = λ names s.
     let name_is = body_is c.in_ok-builder.builder c.extend_from_slice.new.self c.as_bytes-body.result.now c.as_str.result.now c.args.name c.in_ok-builder.ensures c.in_ok-extend_from_slice.ensures.extended c.as_bytes-body.ensures.value c.as_str.ensures.text in
-    let is_for = subst (λ (b : List ℕ). IsBatchOf c.in_ok-prepared.prepared b) name_is c.in_ok-prepared.ensures.prepared.1 in
-    let log = log_settled c.args.self.now c.prepare.new.self (g.S.Shelf.disk c.args.shelf.now) names c.prepare.ensures.unchanged s in
+    let is_for = subst (λ (b : List ℕ). IsBatchOf c.in_ok-prepared.prepared b) name_is c.in_ok-prepared.ensures.built in
+    let log = log_settled c.args.self.now (g.S.Shelf.disk c.args.shelf.now) names s in
     added c.args.self.now _ c.args.name (g.S.Shelf.disk c.args.shelf.now) (g.S.Shelf.disk c.append_prepared.new.shelf) names (c.put.ensures.names ∙ ap (λ (l : Names). l ++ c.args.name ∷ []) c.reserve.ensures.keys) s
     (c.in_ok-append_prepared.ensures.added names c.args.name is_for log)
 
@@ -60,10 +60,10 @@ pub returns-clause-within : goal.returns-clause-within
 returns-clause-within g c = λ names s.
     let name_is = body_is c.in_ok-builder.builder c.extend_from_slice.new.self c.as_bytes-body.result.now c.as_str.result.now c.args.name c.in_ok-builder.ensures c.in_ok-extend_from_slice.ensures.extended c.as_bytes-body.ensures.value c.as_str.ensures.text in
     let next = next_name (remembered c.args.self.now) c.as_str.result.now c.args.name c.as_str.ensures.text c.as_str.ensures.good c.requires.new c.requires.room in
-    let is_for = subst (λ (b : List ℕ). IsBatchOf c.in_ok-prepared.prepared b) name_is c.in_ok-prepared.ensures.prepared.1 in
-    let log = log_settled c.args.self.now c.prepare.new.self (g.S.Shelf.disk c.args.shelf.now) names c.prepare.ensures.unchanged s in
-    within c.args.self.now c.prepare.new.self c.args.name (g.S.Shelf.disk c.args.shelf.now) (g.S.Shelf.disk c.append_prepared.new.shelf) names next c.prepare.ensures.id s (c.append_prepared.ensures.within names c.args.name is_for log)
+    let is_for = subst (λ (b : List ℕ). IsBatchOf c.in_ok-prepared.prepared b) name_is c.in_ok-prepared.ensures.built in
+    let log = log_settled c.args.self.now (g.S.Shelf.disk c.args.shelf.now) names s in
+    within c.args.self.now c.args.self.now.log c.args.name (g.S.Shelf.disk c.args.shelf.now) (g.S.Shelf.disk c.append_prepared.new.shelf) names next refl s (c.append_prepared.ensures.within names c.args.name is_for log)
 
 pub returns-clause-others : goal.returns-clause-others
 returns-clause-others g c = λ honest.
-    others c.args.self.now c.prepare.new.self (g.S.Shelf.disk c.args.shelf.now) (g.S.Shelf.disk c.append_prepared.new.shelf) c.prepare.ensures.id (c.append_prepared.ensures.others honest)
+    others c.args.self.now c.args.self.now.log (g.S.Shelf.disk c.args.shelf.now) (g.S.Shelf.disk c.append_prepared.new.shelf) refl (c.append_prepared.ensures.others honest)

@@ -1,4 +1,4 @@
-use Rattle.std.proofs.Common.{◌≡◌, ◌∙◌, sym}
+use Rattle.std.proofs.Common.{◌∙◌, sym}
 use Rattle.catalog.specs.Folded.{takes_name, refuses_body}
 use Rattle.catalog.proofs.Taking.{ok_both}
 use Rattle.catalog.proofs.names_fold.NamesFoldFold.body.Goals as goal
