@@ -5,7 +5,7 @@ use Rattle.std.proofs.KnownBytes.{Appends-trans, Appends-kept, Keeps-refl}
 use Rattle.std.proofs.Math.Seq.{take-append_seam}
 use Rattle.std.proofs.lemmas.Bool.{true≢false}
 use Rattle.std.proofs.lemmas.List.{take_all}
-use Rattle.std.specs.Prelude.{is_err, IfOk, OnOk, OnErr}
+use Rattle.std.specs.Prelude.{is_err, IfOk, IfErr, OnOk, OnErr}
 use Rattle.disk.specs.declared.crash_shelf.CrashForm.{CrashForm}
 use Rattle.disk.specs.declared.crash_shelf.Fuse.{Fuse}
 use Rattle.disk.specs.Laid.{after_arm}
@@ -194,7 +194,7 @@ module _ (bytes : List ℕ) (script : Script) (is : IsScript bytes script) (a : 
   module _ (b c d : Option (List ℕ)) (text rest : List ℕ) (life last : Moment) (begins : Begins script.per_ledger text life) (p : Appends a b text)
       (prints : Prints 2 life script.lines rest last) (q : Appends b c rest) (kept : Keeps c d) where
     -- all went well
-    pub run_ends : ReplaysAll bytes a d
+    run_ends : ReplaysAll bytes a d
     run_ends = (
       script,
       is,
@@ -204,7 +204,7 @@ module _ (bytes : List ℕ) (script : Script) (is : IsScript bytes script) (a : 
     )
 
     -- all was written, but for what a flush may have lost
-    pub flush_fails : Replays {X = Unit {0}} bytes a d (Err Device)
+    flush_fails : Replays {X = Unit {0}} bytes a d (Err Device)
     flush_fails =
         let all : take (length script.lines) script.lines ≡ script.lines = take_all (length script.lines) script.lines (omega arith) in
         inr (
@@ -217,6 +217,10 @@ module _ (bytes : List ℕ) (script : Script) (is : IsScript bytes script) (a : 
           ([], sym (append-nil (text ++ rest))),
           Appends-kept a c d _ (Appends-trans a b c _ _ p q) kept,
         )
+
+    pub run_finished : (finished : Result (Unit {0}) ProgramFault) → IfErr finished (λ fault. fault ≡ Device) → Replays bytes a d finished
+    run_finished (Ok done) is = run_ends
+    run_finished (Err fault) is = subst (λ (f : ProgramFault). Replays {X = Unit {0}} bytes a d (Err f)) (sym is) flush_fails
 
 -- the script couldn't be read
 pub read_fails : (known a : Option (List ℕ)) (fault : ProgramFault) → IsOutage fault → (bytes : List ℕ) × IsAllOf known bytes × Replays {X = Unit {0}} bytes a a (Err fault)

@@ -1,4 +1,5 @@
 pub mod Arguments
+pub mod Cause
 pub mod Event
 pub mod Fault
 pub mod Replay

@@ -7,11 +7,15 @@ mod arguments;
 mod event;
 mod fault;
 mod replay;
+mod sink;
+mod source;
 mod working;
 
 use crate::arguments::{command, script_file};
 use crate::fault::{ProgramFault, exit_status, write_fault};
 use crate::replay::replay;
+use crate::sink::ToWriter;
+use crate::source::FromReader;
 use clap::ArgMatches;
 use clap::error::ErrorKind;
 use std::fs::File;
@@ -63,12 +67,12 @@ fn replay_input<R: AllocGlobal + Print + Input + Files>(
     rt: &R,
     matches: &ArgMatches<'_>,
 ) -> Result<(), ProgramFault> {
-    let mut lines = io::writer(rt);
+    let mut lines = ToWriter(io::writer(rt));
     match script_file(matches) {
         Some(path) => {
-            let mut file = File::open(rt, path).map_err(|_| ProgramFault::Device)?;
-            replay(rt.alloc(), &mut file, &mut lines)
+            let file = File::open(rt, path).map_err(|_| ProgramFault::Device)?;
+            replay(rt.alloc(), &mut FromReader(file), &mut lines)
         }
-        None => replay(rt.alloc(), &mut rt.reader(), &mut lines),
+        None => replay(rt.alloc(), &mut FromReader(rt.reader()), &mut lines),
     }
 }

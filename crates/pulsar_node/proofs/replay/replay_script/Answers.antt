@@ -4,36 +4,28 @@ use Rattle.script.specs.declared.line.Line.{Line}
 use Rattle.pulsar_node.specs.declared.working.Replay.{Replay}
 use Rattle.pulsar_node.specs.contracts.working.ReplayLiving.TheImpl.{lives-value}
 use Rattle.pulsar_node.specs.Replay.{WorksLines}
-use Rattle.pulsar_node.proofs.Worked.{begun_fails, run_fails, run_ends, flush_fails}
+use Rattle.pulsar_node.proofs.Worked.{begun_fails, run_fails, run_finished}
 use Rattle.pulsar_node.proofs.replay.replay_script.Goals as goal
 
-pub returns-in_err-replay : goal.returns-in_err-replay
-returns-in_err-replay g c =
+pub returns-in_err-replay-clause-replays : goal.returns-in_err-replay-clause-replays
+returns-in_err-replay-clause-replays g c =
     let p = err_from_is_err_and c.from_residual-in_err-replay.result c.from_residual-in_err-replay.ensures.1 in
-    rw (p.1, p.2) (begun_fails c.args.bytes.now c.in_ok-per_ledger.field-0 c.in_ok-per_ledger.ensures.found (g.W.Write.contents c.args.writer.now)
-    {R = Replay} lives-value.it (g.W.Write.contents c.begin.new.writer) c.in_err-replay.field-0.0 c.in_err-replay.ensures.begun)
+    rw (p.1, p.2) (begun_fails c.args.bytes.now c.in_ok-per_ledger.field-0 c.in_ok-per_ledger.ensures.found (g.W.Sink.contents c.args.sink.now)
+    {R = Replay} lives-value.it (g.W.Sink.contents c.begin.new.sink) c.in_err-replay.field-0.0 c.in_err-replay.ensures.begun)
 
-pub returns-in_err-work_lines : goal.returns-in_err-work_lines
-returns-in_err-work_lines g c =
+pub returns-in_err-work_lines-clause-replays : goal.returns-in_err-work_lines-clause-replays
+returns-in_err-work_lines-clause-replays g c =
     let b = c.in_ok-replay.ensures.begun in
     let p = err_from_is_err_and c.from_residual-in_err-work_lines.result c.from_residual-in_err-work_lines.ensures.1 in
     let fault = c.in_err-work_lines.field-0.0 in
-    let worked = subst (λ (ls : List Line). WorksLines {X = Unit {0}} 2 b.1 ls (g.W.Write.contents c.begin.new.writer) (g.W.Write.contents c.work_lines.new.writer) (Err fault)) c.into_vec.ensures (c.in_err-work_lines.ensures b.1 b.3) in
-    rw (p.1, p.2) (run_fails c.args.bytes.now c.in_ok-per_ledger.field-0 c.in_ok-per_ledger.ensures.found (g.W.Write.contents c.args.writer.now)
-    (g.W.Write.contents c.begin.new.writer) (g.W.Write.contents c.work_lines.new.writer) b.0 b.1 fault b.2 b.4 worked)
+    let worked = subst (λ (ls : List Line). WorksLines {X = Unit {0}} 2 b.1 ls (g.W.Sink.contents c.begin.new.sink) (g.W.Sink.contents c.work_lines.new.sink) (Err fault)) c.into_vec.ensures (c.in_err-work_lines.ensures.works b.1 b.3) in
+    rw (p.1, p.2) (run_fails c.args.bytes.now c.in_ok-per_ledger.field-0 c.in_ok-per_ledger.ensures.found (g.W.Sink.contents c.args.sink.now)
+    (g.W.Sink.contents c.begin.new.sink) (g.W.Sink.contents c.work_lines.new.sink) b.0 b.1 fault b.2 b.4 worked)
 
-pub returns-in-Ok : goal.returns-in-Ok
-returns-in-Ok g c =
+pub returns-clause-replays : goal.returns-clause-replays
+returns-clause-replays g c =
     let b = c.in_ok-replay.ensures.begun in
-    let worked = subst (λ (ls : List Line). WorksLines {X = Unit {0}} 2 b.1 ls (g.W.Write.contents c.begin.new.writer) (g.W.Write.contents c.work_lines.new.writer) (Ok tt)) c.into_vec.ensures (c.in_ok-work_lines.ensures b.1 b.3) in
-    run_ends c.args.bytes.now c.in_ok-per_ledger.field-0 c.in_ok-per_ledger.ensures.found (g.W.Write.contents c.args.writer.now)
-    (g.W.Write.contents c.begin.new.writer) (g.W.Write.contents c.work_lines.new.writer) (g.W.Write.contents c.flush.new.self) b.0 worked.0 b.1 worked.1 b.2 b.4
-    worked.2 worked.3 c.flush.ensures.bytes
-
-pub returns-in-Err : goal.returns-in-Err
-returns-in-Err g c =
-    let b = c.in_ok-replay.ensures.begun in
-    let worked = subst (λ (ls : List Line). WorksLines {X = Unit {0}} 2 b.1 ls (g.W.Write.contents c.begin.new.writer) (g.W.Write.contents c.work_lines.new.writer) (Ok tt)) c.into_vec.ensures (c.in_ok-work_lines.ensures b.1 b.3) in
-    flush_fails c.args.bytes.now c.in_ok-per_ledger.field-0 c.in_ok-per_ledger.ensures.found (g.W.Write.contents c.args.writer.now)
-    (g.W.Write.contents c.begin.new.writer) (g.W.Write.contents c.work_lines.new.writer) (g.W.Write.contents c.flush.new.self) b.0 worked.0 b.1 worked.1 b.2 b.4
-    worked.2 worked.3 c.flush.ensures.bytes
+    let worked = subst (λ (ls : List Line). WorksLines {X = Unit {0}} 2 b.1 ls (g.W.Sink.contents c.begin.new.sink) (g.W.Sink.contents c.work_lines.new.sink) (Ok tt)) c.into_vec.ensures (c.in_ok-work_lines.ensures.works b.1 b.3) in
+    run_finished c.args.bytes.now c.in_ok-per_ledger.field-0 c.in_ok-per_ledger.ensures.found (g.W.Sink.contents c.args.sink.now)
+    (g.W.Sink.contents c.begin.new.sink) (g.W.Sink.contents c.work_lines.new.sink) (g.W.Sink.contents c.finish.new.self) b.0 worked.0 b.1 worked.1 b.2 b.4
+    worked.2 worked.3 c.finish.ensures.kept c.finish.result c.finish.ensures.fault

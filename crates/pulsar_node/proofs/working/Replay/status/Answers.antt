@@ -25,7 +25,7 @@ returns-in_err-write_whole-clause-works g c = λ old lives.
     let known : node.StatusOf old.life.up old.life.state (Some status) = subst (λ (o : Option TopicStatus). node.StatusOf old.life.up old.life.state o) c.in-Some.is (c.in_ok-status.ensures.status c.args.self.per_ledger old.life lives.1) in
     let same : c.as_bytes.result.now ≡ lines_of status = c.as_bytes.ensures.value ∙ c.in_ok-text.ensures in
     let told = subst (λ (t : List ℕ). Tells old t old) (sym same) (tells old status known) in
-    rw (p.1, p.2) (task_fails _ c.args.self.line old _ c.as_bytes.result.now old _ _ c.in_err-write_whole.field-0.0 told c.in_err-write_whole.ensures)
+    rw (p.1, p.2) (task_fails _ c.args.self.line old _ c.as_bytes.result.now old _ _ c.in_err-write_whole.field-0.0 told c.in_err-write_whole.ensures.writes)
 
 pub returns-in_default-clause-works : goal.returns-in_default-clause-works
 returns-in_default-clause-works g c = λ old lives. record {
@@ -45,6 +45,6 @@ returns-clause-works g c = λ old lives.
       text = c.as_bytes.result.now;
       new = old;
       step = subst (λ (t : List ℕ). Tells old t old) (sym same) (tells old status known);
-      writes = c.in_ok-write_whole.ensures;
+      writes = c.in_ok-write_whole.ensures.writes;
       goes_on = lives;
     }

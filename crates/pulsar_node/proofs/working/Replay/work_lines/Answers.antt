@@ -51,8 +51,8 @@ loop-line-preserved g c =
           (_, t.new, Prints-more 2 old c.loop-line.yielded w.0 w.1 c.in-Some.line t.text t.new w.2 (subst (λ (k : ℕ). LineStep k w.1 c.in-Some.line t.text t.new) place t.step), t.goes_on, Appends-trans _ _ _ _ _ w.4 t.writes);
     }
 
-pub returns-in_err-self : goal.returns-in_err-self
-returns-in_err-self g c = λ old lives.
+pub returns-in_err-self-clause-works : goal.returns-in_err-self-clause-works
+returns-in_err-self-clause-works g c = λ old lives.
     let known = c.loop-line.invariant in
     let w = known.worked old lives in
     let t = c.in_err-self.ensures.works w.1 w.3 in
@@ -63,8 +63,8 @@ returns-in_err-self g c = λ old lives.
     rw (p.1, p.2) (one_more_fails 2 old w.1 t.new c.loop-line.yielded _ c.args.lines.items c.in-Some.line w.0 t.text _ _ _ fault w.2
     (subst (λ (k : ℕ). IfRemembered {X = Unit {0}} (Err fault) (LineStep k w.1 c.in-Some.line t.text t.new)) place (remembered_fault Replay (Unit {0}) _ fault t.step)) w.4 (writes_fault Replay (Unit {0}) t.text _ _ fault t.writes) whole)
 
-pub returns : goal.returns
-returns g c = λ old lives.
+pub returns-clause-works : goal.returns-clause-works
+returns-clause-works g c = λ old lives.
     let known = c.loop-line.invariant in
     let w = known.worked old lives in
     let none : length (into_iter_items c.loop-line.line-iterator) ≡ 0 = sym c.loop-line.line-iterator.rest.ok.0 ∙ c.in-None.ensures.steps.0 in

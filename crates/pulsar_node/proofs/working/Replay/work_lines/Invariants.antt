@@ -20,5 +20,5 @@ invariant-loop-line g l = record {
       × (mid : Moment)
       × Prints 2 old l.yielded text mid
       × ((mid.device ≡ shelf_in l.self.machine) × Holds disk_of l.self.per_ledger l.self.machine mid.life)
-      × Appends (g.W.Write.contents l.fn.writer) (g.W.Write.contents l.writer) text;
+      × Appends (g.W.Sink.contents l.fn.sink) (g.W.Sink.contents l.sink) text;
 }

@@ -1,7 +1,7 @@
 use Rattle.std.proofs.Common.{take, length-drop, arith}
 use Rattle.std.proofs.lemmas.Result.{err_from_is_err_and}
 use Rattle.pulsar_node.proofs.Written.{written_more, written_same, take-rest, IsFront-take}
-use Rattle.pulsar_node.proofs.replay.write_whole.Goals as goal
+use Rattle.pulsar_node.proofs.sink.write_whole.Goals as goal
 
 pub loop-preserved : goal.loop-preserved
 loop-preserved g c =

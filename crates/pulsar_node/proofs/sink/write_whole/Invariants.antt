@@ -1,6 +1,6 @@
 use Rattle.std.proofs.Common.{◌≤◌, length, take}
 use Rattle.std.specs.Io.KnownBytes.{Appends}
-use Rattle.pulsar_node.proofs.replay.write_whole.Given as goal
+use Rattle.pulsar_node.proofs.sink.write_whole.Given as goal
 
 -- what was written is a front of the bytes
 abbrev pub invariant-loop : goal.invariant-loop
