@@ -79,8 +79,8 @@ fn adds(
     let settled = settled(&mut catalog, shelf, alloc);
     drop(catalog);
     armed?;
-    let expected = if count == 1 { Some(1) } else { None };
-    Ok(fails? && settled? == (expected, true) && found(alloc, shelf)? == Ok(count + 2))
+    let (expected, left) = if count == 1 { (Some(1), 3) } else { (None, 2) };
+    Ok(fails? && settled? == (expected, true) && found(alloc, shelf)? == Ok(left))
 }
 
 // Whether an opening fails, and another one behind a crash finds the catalog.
