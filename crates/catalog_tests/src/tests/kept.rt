@@ -1,5 +1,5 @@
 // The bytes of the file, and what a catalog answers.
-use super::{ENTRIES, FIRST, FRESH, HEADER, SECOND, add, contents, find, roomy};
+use super::{ENTRIES, FIRST, FRESH, HEADER, SECOND, add, answer, contents, find, roomy};
 use catalog::{Catalog, MAX_TOPICS};
 use disk_mem::MemShelf;
 use gated_log::Refusal;
@@ -61,7 +61,7 @@ fn fill(
         }
         add(catalog, shelf, alloc, &text(number))?;
     }
-    let refused = add(catalog, shelf, alloc, &text(99));
+    let refused = answer(add(catalog, shelf, alloc, &text(99)))?;
     Ok((catalog.len(), refused.err()))
 }
 
