@@ -20,7 +20,9 @@ fn damaged(offset: u64) -> Found {
 fn changed(place: usize, bytes: &[u8]) -> [u8; 17] {
     let mut file = FRESH;
     for (index, byte) in (place..17).zip(bytes) {
-        file[index] = *byte;
+        if let Some(there) = file.get_mut(index) {
+            *there = *byte;
+        }
     }
     file
 }
@@ -73,8 +75,11 @@ fn headers_of_each_kind(rt: HostRuntime) -> Result<(), Fail> {
 fn fill(file: &mut Vec<u8>, bodies: &[&[u8]], end: &[u8]) -> Result<(), Refusal> {
     file.extend_from_slice(&HEADER)?;
     for body in bodies {
+        let Ok(size) = u8::try_from(body.len()) else {
+            return Err(Refusal::TooLarge);
+        };
         file.push(1)?;
-        file.push(body.len() as u8)?;
+        file.push(size)?;
         file.extend_from_slice(&[0; 3])?;
         file.extend_from_slice(body)?;
     }
