@@ -104,7 +104,14 @@ impl Port for Board {
                 producer_name,
             }),
             TopicCommand::Subscribe(_) => Answer::Later,
-            _ => Answer::NoMemory,
+            TopicCommand::CloseConsumer(asked) => Answer::Now(Reply::Success {
+                request_id: asked.request_id,
+            }),
+            TopicCommand::Redeliver(_) => Answer::Nothing,
+            TopicCommand::Send(_)
+            | TopicCommand::Ack(_)
+            | TopicCommand::CloseProducer(_)
+            | TopicCommand::Unsubscribe(_) => Answer::NoMemory,
         }
     }
 
