@@ -1,5 +1,5 @@
 -- A topic fails only where the device did.
-use Rattle.std.proofs.Common.{◌≡◌, ◌∙◌, ⊎_elim, ℕ, ◌<◌, ◌≤◌, Bool, true, false, Option, Some, None, is_some, Result, Ok, Err, List, [], ◌∷◌, length, get_or-set_same, refl, sym, ap, subst, arith}
+use Rattle.std.proofs.Common.{◌≡◌, ◌≢◌, ◌∙◌, ⊎_elim, ℕ, ◌<◌, ◌≤◌, Bool, true, false, Option, Some, None, is_some, Result, Ok, Err, List, [], ◌∷◌, length, get_or-set_same, refl, sym, ap, subst, arith}
 use Rattle.std.specs.List.{AllByRecursion}
 use Rattle.gated_log.specs.declared.refusal.Refusal.{Refusal}
 use Rattle.gated_log.specs.declared.refusal.Refusal.TheVariants as refusal
@@ -16,7 +16,7 @@ use Rattle.topic_core.specs.Flush.{has_no_flush, TakeStep, FinishStep, FlushIn}
 use Rattle.topic_core.specs.Crashes.{ReopenStep, ReopenIn}
 use Rattle.session.specs.Broker.{Broker, fresh, topic_at}
 use Rattle.session.specs.Client.{Play, play}
-use Rattle.node.specs.State.{State, MayRefuse, Stage, Resting, Taken, Written, place_in, place_of, is_full, verdict_for, verdict_of_flush, stage_after}
+use Rattle.node.specs.State.{State, MayRefuse, Stage, Resting, Taken, Written, stage_at, stage_in, place_in, place_of, is_full, verdict_for, verdict_of_flush, stage_after}
 use Rattle.node.specs.Steps as steps
 use Rattle.node.specs.Runs.{Run, StateCrash, Life, OpeningEnds, EventIn, HappeningStep, AllowedRun}
 use Rattle.node.specs.Cuts.{Turn, Whole, Within, cut_in, TurnStep, AllowedLife}
@@ -31,6 +31,7 @@ use Rattle.node.specs.declared.event.Output.{Output}
 use Rattle.node.specs.declared.event.Verdict.{Verdict}
 use Rattle.node.specs.declared.event.Verdict.TheVariants as verdict
 use Rattle.node.proofs.Brokers.{set_at}
+use Rattle.node.specs.Lists.{same_or_not, set_else}
 use Rattle.node.proofs.Commands.{Awaits, producer_topic, refused_topic, silent_topic, accepted_topic, subscribe_topic, ack_topic, close_topic, unsubscribe_topic, detach_topic, redeliver_topic, granted_topic, sent_topic}
 use Rattle.node.proofs.Endings.{reopen_cases, Reopened}
 use Rattle.node.proofs.Playing.{Plays, gone_each, fed, pumped}
@@ -188,17 +189,17 @@ module _ (base : ℕ) where
   -- ---- states
 
   abbrev Held : State → ℕ → Type 0
-  Held s number = Caused s.faults s.stage (topic_at s.broker number)
+  Held s number = Caused s.faults (stage_at s number) (topic_at s.broker number)
 
   same_state : (old new : State) (number : ℕ) → new ≡ old → Held old number → Held new number
   same_state old new number is h = subst (λ (s : State). Held s number) (sym is) h
 
   -- a session's step
-  talks : (old new : State) (number : ℕ) → new.stage ≡ old.stage → old.faults ≤ new.faults → Alike (topic_at old.broker number) (topic_at new.broker number) → Held old number → Held new number
+  talks : (old new : State) (number : ℕ) → new.stages ≡ old.stages → old.faults ≤ new.faults → Alike (topic_at old.broker number) (topic_at new.broker number) → Held old number → Held new number
   talks old new number stage more same h =
-      subst (λ (s : Stage). Caused new.faults s (topic_at new.broker number)) (sym stage) (still old.faults new.faults old.stage (topic_at old.broker number) (topic_at new.broker number) more same h)
+      subst (λ (s : List Stage). Caused new.faults (stage_in s number) (topic_at new.broker number)) (sym stage) (still old.faults new.faults (stage_at old number) (topic_at old.broker number) (topic_at new.broker number) more same h)
 
-  plays : (old new : State) (number : ℕ) (p q : Play) → p.broker ≡ old.broker → Plays p q → new.broker ≡ q.broker → new.stage ≡ old.stage → old.faults ≤ new.faults → Held old number → Held new number
+  plays : (old new : State) (number : ℕ) (p q : Play) → p.broker ≡ old.broker → Plays p q → new.broker ≡ q.broker → new.stages ≡ old.stages → old.faults ≤ new.faults → Held old number → Held new number
   plays old new number p q is played broker stage more h =
       let u = played.unfolds in
       let same = talked (topic_at p.broker number) _ (topic_at q.broker number) (u.each number) in
@@ -207,12 +208,18 @@ module _ (base : ℕ) where
       (subst (λ (b : Broker). Alike (topic_at p.broker number) (topic_at b number)) (sym broker) same)) h
 
   -- one topic moves
-  moved : (old : State) (at : ℕ) (t : Topic) (reached : Stage) (new : State) (number : ℕ) → steps.Moves old at t reached new → ((x : Topic) → Caused old.faults old.stage x → Caused new.faults reached x)
-      → (Caused old.faults old.stage (topic_at old.broker at) → Caused new.faults reached t) → Held old number → Held new number
-  moved old at t reached new number s others one h =
-      subst (λ (x : Stage). Caused new.faults x (topic_at new.broker number)) (sym s.stage)
-      (subst (λ (b : Broker). Caused new.faults reached (topic_at b number)) (sym s.broker)
-      (set_at (λ x y. Caused old.faults old.stage x → Caused new.faults reached y) others old.broker.topics at number t (fresh old.broker.per_ledger) one h))
+  moved : (old : State) (at : ℕ) (t : Topic) (reached : Stage) (new : State) (number : ℕ) → steps.Moves old at t reached new → ((x : Topic) → Caused old.faults (stage_at old at) x → Caused new.faults reached x)
+      → (Caused old.faults (stage_at old at) (topic_at old.broker at) → Caused new.faults reached t) → Held old number → Held new number
+  moved old at t reached new number s others one h = ⊎_elim
+      (λ (is : number ≡ at). subst (λ (n : ℕ). Held new n) (sym is)
+      (subst (λ (x : Stage). Caused new.faults x (topic_at new.broker at)) (sym s.stage)
+      (subst (λ (b : Broker). Caused new.faults reached (topic_at b at)) (sym s.broker)
+      (set_at (λ x y. Caused old.faults (stage_at old at) x → Caused new.faults reached y) others old.broker.topics at at t (fresh old.broker.per_ledger) one (subst (λ (n : ℕ). Held old n) is h)))))
+      (λ (differ : number ≢ at). subst (λ (x : Stage). Caused new.faults x (topic_at new.broker number)) (sym (s.others number differ))
+      (subst (λ (b : Broker). Caused new.faults (stage_at old number) (topic_at b number)) (sym s.broker)
+      (subst (λ (x : Topic). Caused new.faults (stage_at old number) x) (sym (set_else old.broker.topics at number t (fresh old.broker.per_ledger) differ))
+      (same_one old.faults new.faults (stage_at old number) (topic_at old.broker number) (topic_at old.broker number) s.faults refl h))))
+      (same_or_not number at)
 
   only : (answer : Verdict) (old : State) (output : Output) (new : State) (number : ℕ) → steps.Only answer old output new → Held old number → Held new number
   only answer old output new number s h = same_state old new number s.1 h
@@ -231,59 +238,59 @@ module _ (base : ℕ) where
   bytes_come : (place : Option ℕ) (old : State) (bytes : List ℕ) (output : Output) (new : State) (number : ℕ) → steps.BytesStep place old bytes output new → Held old number → Held new number
   bytes_come None old bytes output new number s h = same_state old new number s.1 h
   bytes_come (Some place) old bytes output new number s h =
-      plays old new number (play s.client old.broker []) s.played refl (fed s.client.fault (play s.client old.broker []) bytes s.result s.played s.step) s.settles.broker s.settles.stage s.settles.faults h
+      plays old new number (play s.client old.broker []) s.played refl (fed s.client.fault (play s.client old.broker []) bytes s.result s.played s.step) s.settles.broker s.settles.stages s.settles.faults h
 
   pumps : (place : Option ℕ) (old : State) (output : Output) (new : State) (number : ℕ) → steps.PumpStep place old output new → Held old number → Held new number
   pumps None old output new number s h = same_state old new number s.1 h
   pumps (Some place) old output new number s h =
-      plays old new number (play s.client old.broker []) s.played refl (pumped (MayRefuse old.stage old.faults new.faults) s.client.fault (play s.client old.broker []) s.result s.played s.step) s.settles.broker s.settles.stage s.settles.faults h
+      plays old new number (play s.client old.broker []) s.played refl (pumped (MayRefuse old.stages old.faults new.faults) s.client.fault (play s.client old.broker []) s.result s.played s.step) s.settles.broker s.settles.stages s.settles.faults h
 
   closes : (place : Option ℕ) (old : State) (output : Output) (new : State) (number : ℕ) → steps.CloseStep place old output new → Held old number → Held new number
   closes None old output new number s h = same_state old new number s.1 h
   closes (Some place) old output new number s h =
-      talks old new number s.stage s.faults
+      talks old new number s.stages s.faults
       (subst (λ (b : Broker). Alike (topic_at old.broker number) (topic_at b number)) (sym s.broker) (talked (topic_at old.broker number) [] _ (gone_each old.broker s.client.number number))) h
 
   flushes : (place : Option ℕ) (old : State) (output : Output) (new : State) (number : ℕ) → steps.FlushStep place old output new → Held old number → Held new number
   flushes None old output new number s h = same_state old new number s.1 h
   flushes (Some at) old output new number s h =
       let t = topic_at old.broker at in
-      moved old at s.flushed old.stage new number s.moves (λ x c. same_one old.faults new.faults old.stage x x s.moves.faults refl c)
-      (λ c. flush_in old.faults new.faults old.stage t.failed (has_no_flush t) t s.result s.flushed s.moves.faults s.cause s.step c) h
+      moved old at s.flushed (stage_at old at) new number s.moves (λ x c. same_one old.faults new.faults (stage_at old at) x x s.moves.faults refl c)
+      (λ c. flush_in old.faults new.faults (stage_at old at) t.failed (has_no_flush t) t s.result s.flushed s.moves.faults s.cause s.step c) h
 
   takes : (place : Option ℕ) (old : State) (output : Output) (new : State) (number : ℕ) → steps.TakeStep place old output new → Held old number → Held new number
   takes None old output new number s h = same_state old new number s.1 h
   takes (Some at) old output new number s h =
-      moved old at s.taken (stage_after s.result old.stage) new number s.moves (λ x c. untaken old.faults new.faults old.stage s.result x s.moves.faults c)
-      (λ c. take old.faults new.faults old.stage (topic_at old.broker at) s.result s.taken s.moves.faults s.step c) h
+      moved old at s.taken (stage_after s.result (stage_at old at)) new number s.moves (λ x c. untaken old.faults new.faults (stage_at old at) s.result x s.moves.faults c)
+      (λ c. take old.faults new.faults (stage_at old at) (topic_at old.broker at) s.result s.taken s.moves.faults s.step c) h
 
   writes_in : (stage : Stage) (old : State) (at : ℕ) (output : Output) (new : State) (number : ℕ) → steps.WritesIn stage old at output new → Held old number → Held new number
   writes_in Resting old at output new number s h = same_state old new number s.1 h
   writes_in Taken old at output new number s h =
-      moved old at (topic_at old.broker at) (Written s.result) new number s.moves (λ x c. wrote old.faults new.faults old.stage x s.result s.moves.faults s.cause c)
-      (λ c. wrote old.faults new.faults old.stage (topic_at old.broker at) s.result s.moves.faults s.cause c) h
+      moved old at (topic_at old.broker at) (Written s.result) new number s.moves (λ x c. wrote old.faults new.faults (stage_at old at) x s.result s.moves.faults s.cause c)
+      (λ c. wrote old.faults new.faults (stage_at old at) (topic_at old.broker at) s.result s.moves.faults s.cause c) h
   writes_in (Written result) old at output new number s h = same_state old new number s.1 h
 
   writes : (place : Option ℕ) (old : State) (output : Output) (new : State) (number : ℕ) → steps.WriteStep place old output new → Held old number → Held new number
   writes None old output new number s h = same_state old new number s.1 h
-  writes (Some at) old output new number s h = writes_in old.stage old at output new number s h
+  writes (Some at) old output new number s h = writes_in (stage_at old at) old at output new number s h
 
-  finishes_in : (stage : Stage) (old : State) (at : ℕ) (output : Output) (new : State) (number : ℕ) → old.stage ≡ stage → steps.FinishesIn stage old at output new → Held old number → Held new number
+  finishes_in : (stage : Stage) (old : State) (at : ℕ) (output : Output) (new : State) (number : ℕ) → stage_at old at ≡ stage → steps.FinishesIn stage old at output new → Held old number → Held new number
   finishes_in Resting old at output new number is s h = same_state old new number s.1 h
   finishes_in Taken old at output new number is s h = same_state old new number s.1 h
   finishes_in (Written written) old at output new number is s h =
-      moved old at s.finished Resting new number s.moves (λ x c. rests old.faults new.faults old.stage x x s.moves.faults refl c)
+      moved old at s.finished Resting new number s.moves (λ x c. rests old.faults new.faults (stage_at old at) x x s.moves.faults refl c)
       (λ c. finish old.faults new.faults (topic_at old.broker at) written s.result s.finished s.moves.faults s.handed_on s.step (subst (λ (x : Stage). Caused old.faults x (topic_at old.broker at)) is c)) h
 
   finishes : (place : Option ℕ) (old : State) (output : Output) (new : State) (number : ℕ) → steps.FinishStep place old output new → Held old number → Held new number
   finishes None old output new number s h = same_state old new number s.1 h
-  finishes (Some at) old output new number s h = finishes_in old.stage old at output new number refl s h
+  finishes (Some at) old output new number s h = finishes_in (stage_at old at) old at output new number refl s h
 
   reopens : (place : Option ℕ) (old : State) (output : Output) (new : State) (number : ℕ) → steps.ReopenStep place old output new → Held old number → Held new number
   reopens None old output new number s h = same_state old new number s.1 h
   reopens (Some at) old output new number s h =
-      moved old at s.again old.stage new number s.moves (λ x c. same_one old.faults new.faults old.stage x x s.moves.faults refl c)
-      (λ c. reopen old.faults new.faults old.stage (topic_at old.broker at) s.result s.again s.moves.faults s.step c) h
+      moved old at s.again (stage_at old at) new number s.moves (λ x c. same_one old.faults new.faults (stage_at old at) x x s.moves.faults refl c)
+      (λ c. reopen old.faults new.faults (stage_at old at) (topic_at old.broker at) s.result s.again s.moves.faults s.step c) h
 
   event_held : (old : State) (e : Event) (output : Output) (new : State) (number : ℕ) → steps.BrokerStep old e output new → Held old number → Held new number
   event_held old event.Open output new number s h = opens_session (is_full old) old output new number s h

@@ -1,6 +1,8 @@
 pub mod UnderWay
+pub mod Frames
 pub mod Ports
 pub mod Steps
+pub mod Working
 pub mod Reaching
 pub mod Opening
 pub mod Restarts

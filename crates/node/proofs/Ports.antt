@@ -1,6 +1,7 @@
--- Calls of a port, as a broker of one topic sees them.
-use Rattle.std.proofs.Common.{◌≡◌, ◌⊎◌, inl, inr, ⊎_elim, ℕ, ◌<◌, Bool, true, false, Option, None, Some, Result, Ok, Err, IfErr, IsErr, IsErrOf, refl, sym, ap, subst, ◌∙◌, arith}
+-- Calls of a port, as the broker sees them.
+use Rattle.std.proofs.Common.{◌≡◌, ◌⊎◌, inl, inr, ⊎_elim, ℕ, ◌<◌, List, [], ◌∷◌, Bool, true, false, Option, None, Some, Result, Ok, Err, IfErr, IsErr, IsErrOf, refl, sym, ap, subst, ◌∙◌}
 use Rattle.std.proofs.lemmas.Bool.{true≢false}
+use Rattle.reply_queues.specs.Replies.{due_to}
 use Rattle.commands.specs.declared.reply.Reply.{Reply}
 use Rattle.subscriptions.specs.declared.consumer.TooManyPermits.{TooManyPermits}
 use Rattle.gated_log.specs.declared.read_error.ReadError.{ReadError}
@@ -14,40 +15,45 @@ use Rattle.topic_core.specs.declared.dispatch.Outgoing.{Outgoing}
 use Rattle.topic_core.specs.State.{Topic}
 use Rattle.topic_core.specs.Dispatch.{DispatchStep}
 use Rattle.topic_core.specs.Steps.{TopicStep, Collects, GrantStep, left, collected}
-use Rattle.session.specs.Broker.{Broker, CommandStep, GrantAt, DispatchAt, CollectedAt, with_topic, left_at}
-use Rattle.node.specs.State.{Stage, Resting, Taken, Written, MayRefuse, broker_with}
+use Rattle.session.specs.Broker.{Broker, CommandStep, GrantAt, DispatchAt, CollectedAt, topic_at, with_topic, left_at}
+use Rattle.node.specs.State.{Stage, Resting, Taken, Written, MayRefuse, MayRefuseOf, stage_in}
 use Rattle.node.specs.Flights.{phase_at}
+use Rattle.node.proofs.Frames.{same_topic}
 
--- there is no other number than 0
-at_zero : (P : ℕ → Type 0) (n : ℕ) → n < 1 → P 0 → P n
-at_zero P n low here = let is : n ≡ 0 = omega (arith, low) in subst P (sym is) here
+-- the topic of a number becomes another
+module _ (old new : Broker) (number : ℕ) (t u : Topic) (was : topic_at old number ≡ t) (is : topic_at new number ≡ u) (becomes : new ≡ with_topic old number u) where
+  -- what holds of both
+  of_both : (P : Topic → Topic → Type 0) → P t u → P (topic_at old number) (topic_at new number)
+  of_both P step = subst (λ x. P x (topic_at new number)) (sym was) (subst (λ y. P t y) (sym is) step)
 
--- the topic becomes another, which has as many ids a ledger
-module _ (old new : Topic) (same : new.per_ledger ≡ old.per_ledger) (topic : ℕ) (low : topic < 1) where
-  abbrev was : Broker
-  was = broker_with old.per_ledger old
+  others : new ≡ with_topic old number (topic_at new number)
+  others = becomes ∙ ap (λ x. with_topic old number x) (sym is)
 
-  abbrev is : Broker
-  is = broker_with new.per_ledger new
+  -- it becomes what the old one does
+  becomes_as : (f : Topic → Topic) → u ≡ f t → new ≡ with_topic old number (f (topic_at old number))
+  becomes_as f same = becomes ∙ ap (λ x. with_topic old number x) (same ∙ ap f (sym was))
 
-  becomes : (t : Topic) → new ≡ t → is ≡ with_topic was 0 t
-  becomes t equal = ap (λ n. broker_with n new) same ∙ ap (λ x. broker_with old.per_ledger x) equal
+  pub commands : (who : ℕ) (c : TopicCommand) (a : Answer) → TopicStep t who c a u → CommandStep old number who c a new
+  commands who c a step = record { step = of_both (λ x y. TopicStep x who c a y) step; others = others }
 
-  pub commands : (who : ℕ) (c : TopicCommand) (a : Answer) → TopicStep old who c a new → CommandStep was topic who c a is
-  commands who c a step = at_zero (λ n. CommandStep was n who c a is) topic low (record { step = step; others = becomes new refl })
+  pub grants : (who id permits : ℕ) (result : Result (Unit {0}) TooManyPermits) → GrantStep t who id permits result u → GrantAt old number who id permits result new
+  grants who id permits result step = record { step = of_both (λ x y. GrantStep x who id permits result y) step; others = others }
 
-  pub grants : (who id permits : ℕ) (result : Result (Unit {0}) TooManyPermits) → GrantStep old who id permits result new → GrantAt was topic who id permits result is
-  grants who id permits result step = at_zero (λ n. GrantAt was n who id permits result is) topic low (record { step = step; others = becomes new refl })
+  pub dispatches : (who id : ℕ) (result : Result (Option Outgoing) ReadError) → DispatchStep t who id result u → DispatchAt old number who id result new
+  dispatches who id result step = record { step = of_both (λ x y. DispatchStep x who id result y) step; others = others }
 
-  pub dispatches : (who id : ℕ) (result : Result (Option Outgoing) ReadError) → DispatchStep old who id result new → DispatchAt was topic who id result is
-  dispatches who id result step = at_zero (λ n. DispatchAt was n who id result is) topic low (record { step = step; others = becomes new refl })
+  pub collects : (who : ℕ) (result : Option Reply) → Collects t who result u → CollectedAt old number who result new
+  collects who None step = (of_both (λ x y. due_to who x.queues ≡ []) step.0, becomes_as (λ x. x) step.1 ∙ same_topic old number)
+  collects who (Some r) step = (of_both (λ x y. due_to who x.queues ≡ r ∷ due_to who y.queues) step.0, becomes_as (λ x. collected x who r) step.1)
 
-  pub collects : (who : ℕ) (result : Option Reply) → Collects old who result new → CollectedAt was topic who result is
-  collects who None step = at_zero (λ n. CollectedAt was n who None is) topic low (step.0, becomes old step.1)
-  collects who (Some r) step = at_zero (λ n. CollectedAt was n who (Some r) is) topic low (step.0, becomes (collected old who r) step.1)
+  pub leaves : (who : ℕ) → u ≡ left t who → new ≡ left_at old number who
+  leaves who step = becomes_as (λ x. left x who) step
 
-  pub leaves : (who : ℕ) → new ≡ left old who → is ≡ left_at was topic who
-  leaves who step = at_zero (λ n. is ≡ left_at was n who) topic low (becomes (left old who) step)
+-- a topic of these refuses so
+pub refuses_at : (A B : Type 0) (stages : List Stage) (number : ℕ) (stage : Stage) (before after : ℕ) (result : Result (Option Outgoing) ReadError) → stage_in stages number ≡ stage → (B → A)
+    → IfErr result (λ why. A → MayRefuseOf stage before after why) → IfErr result (λ why. B → MayRefuse stages before after why)
+refuses_at A B stages number stage before after (Ok message) is so refused = tt
+refuses_at A B stages number stage before after (Err why) is so refused = λ b. (number, subst (λ s. MayRefuseOf s before after why) (sym is) (refused (so b)))
 
 -- a topic that works has a store that works, unless the write of a flush that isn't finished has failed
 works_unless : (failed : Bool) (stage : Stage) (t : Topic) (v : StoreView) → failed ≡ false → Remembers (phase_at failed stage) t v → (v.failed ≡ false) ⊎ (stage ≡ Written (Err write.Device))
@@ -60,7 +66,7 @@ works_unless false (Written (Err write.Device)) t v works h = inr refl
 
 -- why a topic refuses a message
 pub refusals : (Stood : Type 0) (stage : Stage) (before after : ℕ) (t new : Topic) (v : StoreView) (who id : ℕ) (result : Result (Option Outgoing) ReadError) → Match (phase_at t.failed stage) t v →
-    (IsErr result → t.failed ≡ false) → (v.failed ≡ false → IsErrOf result read.Device → before < after) → (Stood → DispatchStep t who id result new) → IfErr result (λ why. Stood → MayRefuse stage before after why)
+    (IsErr result → t.failed ≡ false) → (v.failed ≡ false → IsErrOf result read.Device → before < after) → (Stood → DispatchStep t who id result new) → IfErr result (λ why. Stood → MayRefuseOf stage before after why)
 refusals Stood stage before after t new v who id (Ok message) match works cause step = tt
 refusals Stood stage before after t new v who id (Err read.NoMemory) match works cause step = λ stood. tt
 refusals Stood stage before after t new v who id (Err read.Device) match works cause step = λ stood.

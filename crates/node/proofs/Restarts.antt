@@ -1,5 +1,5 @@
 -- The power is cut, and comes again.
-use Rattle.std.proofs.Common.{◌≡◌, ◌⊎◌, inl, ⊎_elim, ℕ, ◌≤◌, refl, subst, sym, ap, ◌∙◌, Bool, false, [], arith}
+use Rattle.std.proofs.Common.{◌≡◌, ◌⊎◌, inl, ⊎_elim, ℕ, ◌≤◌, refl, subst, sym, ap, ◌∙◌, Bool, false, List, [], map, slice_get, arith}
 use Rattle.disk.specs.Disk.{Disk, Image, Same, Advances, Leaves, Stays, Kept, Failed}
 use Rattle.disk.specs.Moments.{starts, call, joins, weaken}
 use Rattle.managed_ledger.specs.Entries.{Entries}
@@ -7,14 +7,16 @@ use Rattle.records.specs.Maps.{Kept as Cursors}
 use Rattle.topic_stores.specs.declared.store.TopicStore.{Ghosts as StoreMembers}
 use Rattle.gated_log.specs.declared.refusal.Refusal.{Refusal}
 use Rattle.gated_log.specs.declared.refusal.Refusal.TheVariants as refusal
-use Rattle.topic_core.specs.State.{Topic}
 use Rattle.session.specs.Broker.{Broker}
 use Rattle.node.specs.State.{State, broker_with}
-use Rattle.node.specs.Standing.{StandsForBroker, AtRest}
-use Rattle.node.specs.Passing.{OnlyReads}
+use Rattle.node.specs.Standing.{StandsForBroker, AtRest, Stands, state_of}
+use Rattle.node.specs.Passing.{OnlyReads, stands_so}
 use Rattle.node.specs.Runs.{Life, OpeningStep, StateCrash}
 use Rattle.node.specs.Cuts.{amid_event}
 use Rattle.node.specs.Driving.{IsServed, Holds, disk_in}
+use Rattle.node.specs.Lists.{of_one}
+use Rattle.node.specs.declared.held.Held.{Held}
+use Rattle.node.specs.declared.node.Node.{Node}
 use Rattle.node.specs.declared.event.Event.{Event}
 use Rattle.node.specs.declared.event.Output.{Output}
 use Rattle.node.specs.declared.event.Verdict.TheVariants as verdict
@@ -43,18 +45,10 @@ rests_later stands old disk r = record { honest = r.honest; left = r.left; fault
 pub served_later : (per_ledger : ℕ) (old : State) (disk : Disk) → IsServed per_ledger old → IsServed per_ledger (record old { faults = disk.faults })
 served_later per_ledger old disk served = record { topic = served.topic; broker = served.broker; numbered = served.numbered }
 
--- a node whose topic has so many entry ids a ledger id
-pub serves : (per_ledger : ℕ) (state : State) (n : ℕ) (topic : Topic) → state.broker ≡ broker_with n topic → topic.per_ledger ≡ n → n ≡ per_ledger → IsServed per_ledger state
-serves per_ledger state n topic is core numbered = record {
-  topic = topic;
-  broker = is ∙ ap (λ m. broker_with m topic) numbered;
-  numbered = core ∙ numbered;
-}
-
 -- a crash leaves the number of entry ids
-pub crash_serves : (per_ledger : ℕ) (old new : State) (n : ℕ) (topic : Topic) → IsServed per_ledger old → StateCrash old new → new.broker ≡ broker_with n topic → topic.per_ledger ≡ n → IsServed per_ledger new
-crash_serves per_ledger old new n topic served crash is core =
-    serves per_ledger new n topic is core (sym (ap (λ (b : Broker). b.per_ledger) is) ∙ crash.per_ledger ∙ ap (λ (b : Broker). b.per_ledger) served.broker)
+pub crash_serves : (per_ledger : ℕ) (old new : State) (n : ℕ) → IsServed per_ledger old → StateCrash old new → new.broker.per_ledger ≡ n → IsServed n new → IsServed per_ledger new
+crash_serves per_ledger old new n served crash is new_served =
+    subst (λ m. IsServed m new) (sym is ∙ crash.per_ledger ∙ ap (λ (b : Broker). b.per_ledger) served.broker) new_served
 
 -- a device in which nothing changed
 pub armed : (old new : Disk) → Stays old new → OnlyReads old new
@@ -91,6 +85,21 @@ down_leaves stands life event d r down =
     subst (λ (up : Bool). Leaves (StandsForBroker stands (amid_event up life.state.broker event)) d d) (sym down) (starts (StandsForBroker stands life.state.broker) d r.left)
 
 module _ {T S : Type 0} {store : StoreMembers T} (disk : S → Disk) where
+  -- a node has its one topic
+  pub node_serves : (n : Node T S store) → IsServed n.topics.per_ledger (state_of disk n)
+  node_serves n =
+      let t = n.topics in
+      let x = of_one t.held.items t.one in
+      record {
+        topic = x.0.core;
+        broker = ap (λ (l : List (Held T store)). broker_with t.per_ledger (map (λ h. h.core) l)) x.1;
+        numbered = (t.numbered 0 x.0 (ap (λ (l : List (Held T store)). slice_get l 0) x.1)).1;
+      }
+
+  -- what a crash leaves of a node that works
+  pub node_rests : (n : Node T S store) → Stands disk n → AtRest store.stands (state_of disk n) (disk n.topics.shelf)
+  node_rests n s = record { honest = s.honest; left = stands_so disk n.topics s; faults = omega arith }
+
   pub down_leaves_so : (per_ledger : ℕ) (m : Machine T S store) (shelf : S) (life : Life) (event : Event) → m ≡ machine.Down shelf → Holds disk per_ledger m life
       → Leaves (StandsForBroker store.stands (amid_event life.up life.state.broker event)) (disk_in disk m) (disk_in disk m)
   down_leaves_so per_ledger (machine.Up node) shelf life event is holds = absurd (let no : machine.Up node ≡ machine.Down shelf = is in cc)

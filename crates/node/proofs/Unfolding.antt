@@ -7,7 +7,7 @@ use Rattle.gated_log.specs.declared.refusal.Refusal.TheVariants as refusal
 use Rattle.topic_core.specs.State.{Topic}
 use Rattle.session.specs.Broker.{Broker, fresh, topic_at, with_topic}
 use Rattle.session.specs.Client.{Client, Play, play, frames_of, AreBounded}
-use Rattle.node.specs.State.{State, MayRefuse, Stage, Resting, Taken, Written, place_in, place_of, is_full}
+use Rattle.node.specs.State.{State, MayRefuse, Stage, Resting, Taken, Written, stage_at, place_in, place_of, is_full}
 use Rattle.node.specs.Steps as steps
 use Rattle.node.specs.Runs.{Run, Life, OpeningEnds, EventIn, HappeningStep, AllowedRun}
 use Rattle.node.specs.Moves.{Handed, Flush, Take, Finish, Reopen, Crash, Cut}
@@ -89,7 +89,7 @@ pumps : (who : ℕ) (place : Option ℕ) (old : State) (output : Output) (new : 
 pumps who None old output new is s = only (Some who) verdict.Unknown old output new s
 pumps who (Some place) old output new is s =
     plays_out who old new s.client s.played output.bytes (found_at old.sessions who place s.client is s.stands)
-    (pumped (MayRefuse old.stage old.faults new.faults) s.client.fault (play s.client old.broker []) s.result s.played s.step) (ap (λ (o : Output). o.bytes) s.settles.answer) s.settles.broker
+    (pumped (MayRefuse old.stages old.faults new.faults) s.client.fault (play s.client old.broker []) s.result s.played s.step) (ap (λ (o : Output). o.bytes) s.settles.answer) s.settles.broker
 
 -- a listener who is told nothing is none
 unheard : (b : Broker) (bytes : List ℕ) (c : Broker) → bytes ≡ [] → ((number : ℕ) → Course (topic_at b number) [] (topic_at c number)) → Utters None b bytes c
@@ -127,7 +127,7 @@ writes_in (Written result) old at output new s = only None verdict.Unknown old o
 
 writes : (place : Option ℕ) (old : State) (output : Output) (new : State) → steps.WriteStep place old output new → Utters None old.broker output.bytes new.broker
 writes None old output new s = only None verdict.Unknown old output new s
-writes (Some at) old output new s = writes_in old.stage old at output new s
+writes (Some at) old output new s = writes_in (stage_at old at) old at output new s
 
 finishes_in : (stage : Stage) (old : State) (at : ℕ) (output : Output) (new : State) → steps.FinishesIn stage old at output new → Utters None old.broker output.bytes new.broker
 finishes_in Resting old at output new s = only None verdict.Unknown old output new s
@@ -137,7 +137,7 @@ finishes_in (Written written) old at output new s =
 
 finishes : (place : Option ℕ) (old : State) (output : Output) (new : State) → steps.FinishStep place old output new → Utters None old.broker output.bytes new.broker
 finishes None old output new s = only None verdict.Unknown old output new s
-finishes (Some at) old output new s = finishes_in old.stage old at output new s
+finishes (Some at) old output new s = finishes_in (stage_at old at) old at output new s
 
 reopens : (place : Option ℕ) (old : State) (output : Output) (new : State) → steps.ReopenStep place old output new → Utters None old.broker output.bytes new.broker
 reopens None old output new s = only None verdict.Unknown old output new s

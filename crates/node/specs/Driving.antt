@@ -1,5 +1,5 @@
 -- A machine that is driven through events and crashes.
-use Rattle.std.specs.Prelude.{◌≡◌, ◌≢◌, ℕ, suc, Bool, true, false, Option, Some, None, Result, IfOk, List, ◌∷◌, ◌++◌, length, take}
+use Rattle.std.specs.Prelude.{◌≡◌, ◌≢◌, ℕ, suc, Bool, true, false, Option, Some, None, Result, IfOk, List, [], ◌∷◌, ◌++◌, length, take, slice_get}
 use Rattle.std.specs.declared.alloc.AllocError.{AllocError}
 use Rattle.disk.specs.declared.crash_shelf.CrashForm.{CrashForm}
 use Rattle.disk.specs.Disk.{Disk, Image, Same}
@@ -10,13 +10,14 @@ use Rattle.subscriptions.specs.Statuses.{AreStatuses}
 use Rattle.topic_core.specs.State.{Topic}
 use Rattle.topic_core.specs.Standing.{Phase, Before, Written, Lost}
 use Rattle.session.specs.Broker.{topic_at, Broker}
-use Rattle.node.specs.State.{State, broker_with}
+use Rattle.node.specs.State.{State, broker_with, place_in}
 use Rattle.node.specs.Standing.{state_of, phase_in, Stands, AtRest, StandsForBroker}
 use Rattle.managed_ledger.specs.Entries.{Entries}
 use Rattle.records.specs.Maps.{Kept}
 use Rattle.node.specs.Runs.{Life, AllowedRun}
 use Rattle.node.specs.Cuts.{Amidst}
 use Rattle.node.specs.Laws.{IsAtStart, Accounts}
+use Rattle.node.specs.declared.held.Held.{Held}
 use Rattle.node.specs.declared.event.Happening.{Happening}
 use Rattle.node.specs.declared.event.Happening.TheVariants as happening
 use Rattle.node.specs.declared.event.Output.{Output}
@@ -29,24 +30,35 @@ use Rattle.node.specs.declared.power.Machine.TheVariants as machine
 -- a state of a node with its one topic, whose ledger ids have so many entry ids
 pub record IsServed (per_ledger : ℕ) (state : State) : Type 0 where
   pub topic : Topic
-  pub broker : state.broker ≡ broker_with per_ledger topic
+  pub broker : state.broker ≡ broker_with per_ledger (topic ∷ [])
   pub numbered : topic.per_ledger ≡ per_ledger
 
--- what is told of the topic: where the node is down nothing, and else how many entries its ledger has, and the statuses of its subscriptions
-abbrev pub StatusOf : Bool → State → Option TopicStatus → Type 0
-StatusOf true state (Some status) = (status.number ≡ 0) × (status.entries ≡ length (topic_at state.broker 0).ledger) × AreStatuses (topic_at state.broker 0).subs.subs status.subscriptions.items
-StatusOf true state None = ⊥
-StatusOf false state told = told ≡ None
+-- what is told of the topic at a place: how many entries its ledger has, and the statuses of its subscriptions
+abbrev pub StatusIn : Option ℕ → State → Option TopicStatus → Type 0
+StatusIn (Some number) state (Some status) =
+    (status.number ≡ number) × (status.entries ≡ length (topic_at state.broker number).ledger) × AreStatuses (topic_at state.broker number).subs.subs status.subscriptions.items
+StatusIn (Some number) state None = ⊥
+StatusIn None state told = told ≡ None
 
--- the topic has so many segment files, by the files alone
-abbrev pub HasSegments : (ℕ → Image → List ℕ → Type 0) → Image → ℕ → Type 0
-HasSegments laid files segments = (counts : List ℕ) × laid 0 files counts × (segments ≡ length counts)
+-- where the node is down nothing is told, and nothing of a topic that isn't there
+abbrev pub StatusOf : Bool → State → ℕ → Option TopicStatus → Type 0
+StatusOf true state number told = StatusIn (place_in state.broker.topics number) state told
+StatusOf false state number told = told ≡ None
+
+-- the topic of this number has so many segment files, by the files alone
+abbrev pub HasSegments : (ℕ → Image → List ℕ → Type 0) → ℕ → Image → ℕ → Type 0
+HasSegments laid number files segments = (counts : List ℕ) × laid number files counts × (segments ≡ length counts)
 
 -- as many segments are told as there are, but where the store met a failure of the device
-abbrev pub TellsSegments : (ℕ → Image → List ℕ → Type 0) → Phase → Image → ℕ → Type 0
-TellsSegments laid Before files segments = HasSegments laid files segments
-TellsSegments laid Written files segments = HasSegments laid files segments
-TellsSegments laid Lost files segments = Unit {0}
+abbrev pub TellsSegments : (ℕ → Image → List ℕ → Type 0) → ℕ → Phase → Image → ℕ → Type 0
+TellsSegments laid number Before files segments = HasSegments laid number files segments
+TellsSegments laid number Written files segments = HasSegments laid number files segments
+TellsSegments laid number Lost files segments = Unit {0}
+
+-- so it is of the topic that has this number
+abbrev pub SegmentsAt : {T : Type 0} {store : StoreMembers T} → (ℕ → Image → List ℕ → Type 0) → ℕ → List (Held T store) → Image → Option TopicStatus → Type 0
+SegmentsAt laid number held files (Some status) = (h : Held _ _) → slice_get held number ≡ Some h → TellsSegments laid number (phase_in h) files status.segments
+SegmentsAt laid number held files None = Unit {0}
 
 -- the files stand for what a crash leaves of a broker that a front of the happenings reaches, the first opening before them
 abbrev pub StandsAmidst : (ℕ → Image → Entries → Kept → Type 0) → State → List Happening → Image → Type 0
@@ -73,10 +85,9 @@ module _ {T S : Type 0} {store : StoreMembers T} (disk : S → Disk) where
   Holds per_ledger (machine.Down shelf) life = AtRest store.stands life.state (disk shelf) × (life.up ≡ false) × IsServed per_ledger life.state
 
   -- so it is of the status of a machine
-  abbrev pub SegmentsTold : (ℕ → Image → List ℕ → Type 0) → Machine T S store → Option TopicStatus → Type 0
-  SegmentsTold laid (machine.Up node) (Some status) = TellsSegments laid (phase_in node.topics) (disk node.topics.shelf).seen status.segments
-  SegmentsTold laid (machine.Up node) None = ⊥
-  SegmentsTold laid (machine.Down shelf) told = Unit {0}
+  abbrev pub SegmentsTold : (ℕ → Image → List ℕ → Type 0) → Machine T S store → ℕ → Option TopicStatus → Type 0
+  SegmentsTold laid (machine.Up node) number told = SegmentsAt laid number node.topics.held.items (disk node.topics.shelf).seen told
+  SegmentsTold laid (machine.Down shelf) number told = Unit {0}
 
   -- what it does
   abbrev pub disk_in : Machine T S store → Disk

@@ -3,7 +3,7 @@ use Rattle.std.specs.Prelude.{◌≡◌, ◌<◌, ℕ, true, false, is_some, Err
 use Rattle.gated_log.specs.declared.refusal.Refusal.TheVariants as refusal
 use Rattle.topic_stores.specs.declared.error.WriteError.TheVariants.{Device}
 use Rattle.session.specs.Broker.{topic_at}
-use Rattle.node.specs.State.{State, Written}
+use Rattle.node.specs.State.{State, Written, stage_at}
 use Rattle.node.specs.Steps.{Flushes, Reopens}
 use Rattle.node.specs.Runs.{Run, StateCrash, Life, AllowedRun}
 use Rattle.node.specs.Cuts.{Turn, AllowedLife}
@@ -15,7 +15,7 @@ use Rattle.node.specs.declared.event.Verdict.TheVariants as verdict
 -- a topic works, and no failed write of what it handed on waits for its end
 pub record Works (s : State) (number : ℕ) : Type 0 where
   pub works : (topic_at s.broker number).failed ≡ false
-  pub sure : s.stage ≡ Written (Err Device) → is_some (topic_at s.broker number).doubt ≡ false
+  pub sure : stage_at s number ≡ Written (Err Device) → is_some (topic_at s.broker number).doubt ≡ false
 
 -- Where a topic worked and has failed since, the device has failed in between. It works behind each opening of the node, and
 -- behind its own one where it had failed; so a failed topic has a count of failures above that of its last opening.

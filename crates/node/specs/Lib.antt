@@ -1,7 +1,10 @@
 pub mod State
 pub mod Flights
 pub mod Matching
+pub mod Numbers
+pub mod Lists
 pub mod Steps
+pub mod Parts
 pub mod Standing
 pub mod Opening
 pub mod Passing

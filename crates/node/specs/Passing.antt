@@ -1,5 +1,7 @@
 -- Calls of a port, one after another.
-use Rattle.std.proofs.Common.{◌≡◌, ℕ, ◌≤◌, inl, inr, refl, sym, subst, ◌∙◌, arith}
+use Rattle.std.proofs.Common.{◌≡◌, ◌≢◌, ℕ, ◌≤◌, inl, inr, ⊎_elim, Some, List, length, map, slice_get, slice_set, refl, sym, ap, subst, ◌∙◌, arith}
+use Rattle.std.proofs.lemmas.List.{set-get_or, length-map}
+use Rattle.std.proofs.lemmas.Option.{same_Some}
 use Rattle.disk.specs.Disk.{Disk, Image, Same, Leaves, Kept as Counted}
 use Rattle.disk.specs.Moments.{starts, joins, weaken}
 use Rattle.gated_log.specs.declared.read_error.ReadError.{ReadError}
@@ -11,12 +13,14 @@ use Rattle.topic_stores.specs.Views.{StoreView, Settled}
 use Rattle.topic_stores.specs.Writing.{StandsFor}
 use Rattle.topic_core.specs.State.{Topic, entries_in_doubt, changes_in_doubt}
 use Rattle.topic_core.specs.Crashes.{IsLeft, longer, changed}
-use Rattle.topic_core.specs.Standing.{Phase, Before, Written, Lost, Match, Holds, Standing, GoesOn}
+use Rattle.topic_core.specs.Standing.{Phase, Before, Written, Lost, Holds, Standing, GoesOn}
 use Rattle.topic_core.proofs.Standings.{left_like, standing_goes_on}
+use Rattle.node.specs.declared.held.Held.{Held}
 use Rattle.node.specs.declared.topics.Topics.{Topics}
-use Rattle.node.specs.State.{Stage, MayRefuse}
-use Rattle.node.specs.Flights.{stage_of, phase_at, IsUnderWay}
-use Rattle.node.specs.Standing.{StandsForBroker, view_in, broker_of, TopicsStand, Passes, Refuses}
+use Rattle.node.specs.State.{Stage, Resting, MayRefuse, MayRefuseOf, stage_in}
+use Rattle.node.specs.Flights.{stage_of, phase_at}
+use Rattle.node.specs.Standing.{StandsForBroker, view_in, phase_in, HeldStands, broker_of, stages_of, TopicsStand, Passes, Refuses}
+use Rattle.node.specs.Lists.{get_set, map_set, get_map, at_map, got_map, got_set, got_other, same_or_not}
 
 -- what a crash leaves of a topic it left before the topic went on
 left_before : (old new : Topic) → GoesOn old new → (l : Entries) (k : Kept) → IsLeft new l k → IsLeft old l k
@@ -44,11 +48,14 @@ holds_read Written t v old new reads x = settled_read v old new (longer t) (chan
 holds_read Lost t v old new reads x = tt
 
 -- what was refused in between was refused from the first to the last
-refused_within : (first second : Stage) (a b c d : ℕ) (why : ReadError) → second ≡ first → a ≤ b → c ≤ d → MayRefuse second b c why → MayRefuse first a d why
-refused_within first second a b c d read.NoMemory same before after may = tt
-refused_within first second a b c d read.Device same before after (inl failed) = inl (omega (arith, before, after, failed))
-refused_within first second a b c d read.Device same before after (inr written) = inr (sym same ∙ written)
-refused_within first second a b c d (read.Damaged file offset) same before after may = may
+refused_of : (first second : Stage) (a b c d : ℕ) (why : ReadError) → second ≡ first → a ≤ b → c ≤ d → MayRefuseOf second b c why → MayRefuseOf first a d why
+refused_of first second a b c d read.NoMemory same before after may = tt
+refused_of first second a b c d read.Device same before after (inl failed) = inl (omega (arith, before, after, failed))
+refused_of first second a b c d read.Device same before after (inr written) = inr (sym same ∙ written)
+refused_of first second a b c d (read.Damaged file offset) same before after may = may
+
+refused_within : (first second : List Stage) (a b c d : ℕ) (why : ReadError) → second ≡ first → a ≤ b → c ≤ d → MayRefuse second b c why → MayRefuse first a d why
+refused_within first second a b c d why same before after may = (may.0, refused_of (stage_in first may.0) (stage_in second may.0) a b c d why (ap (λ ss. stage_in ss may.0) same) before after may.1)
 
 module _ (stands : ℕ → Image → Entries → Kept → Type 0) where
   -- a topic stands on a device that only read
@@ -67,14 +74,34 @@ module _ (stands : ℕ → Image → Entries → Kept → Type 0) where
   standing_on stage old new v d go h =
       subst (λ b. Standing stands (phase_at b stage) new v d) (sym go.failed) (standing_goes_on stands (phase_at old.failed stage) old new v d go h)
 
-module _ {T S : Type 0} {store : StoreMembers T} (disk : S → Disk) where
-  -- the store is of topic 0
-  pub of_broker : (t : Topics T S store) (topic : Topic) (files : Image) → StandsFor (store.stands (view_in t).topic) (IsLeft topic) files → StandsFor (store.stands 0) (IsLeft topic) files
-  of_broker t topic files s = subst (λ n. StandsFor (store.stands n) (IsLeft topic) files) t.number s
+-- ---- one topic goes on, and the others stay
 
+module _ {T : Type 0} {store : StoreMembers T} where
+  -- a topic goes on beside the same store and flush
+  held_on : (h next : Held T store) (d : Disk) → next.stores ≡ h.stores → next.flight ≡ h.flight → GoesOn h.core next.core → HeldStands h d → HeldStands next d
+  held_on h next d stores flight go s =
+      subst (λ (x : T). Standing store.stands (phase_in next) next.core (store.view x) d) (sym stores)
+      (subst (λ f. Standing store.stands (phase_at next.core.failed (stage_of f)) next.core (view_in h) d) (sym flight)
+      (standing_on store.stands (stage_of h.flight) h.core next.core (view_in h) d go s))
+
+  -- what stands of each, with another one at a place
+  pub each_with : (P : ℕ → Held T store → Type 0) (held held' : List (Held T store)) (number : ℕ) (next : Held T store) → held' ≡ slice_set held number next → P number next
+      → ((j : ℕ) (x : Held T store) → j ≢ number → slice_get held j ≡ Some x → P j x) → (j : ℕ) (x : Held T store) → slice_get held' j ≡ Some x → P j x
+  each_with P held held' number next same here others j x is = ⊎_elim
+      (λ at. subst (λ (i : ℕ). P i x) (sym at.0) (subst (λ (y : Held T store). P number y) (sym at.1) here))
+      (λ other. others j x other.0 other.1)
+      (get_set held number j next x (ap (λ l. slice_get l j) (sym same) ∙ is))
+
+pub count_is : {T S : Type 0} {store : StoreMembers T} (t : Topics T S store) → length (broker_of t).topics ≡ length t.held.items
+count_is t = length-map t.held.items (λ h. h.core)
+
+module _ {T S : Type 0} {store : StoreMembers T} (disk : S → Disk) where
   -- whatever a crash now leaves stands for the broker
   pub stands_so : (t : Topics T S store) → TopicsStand disk t → (files : Image) → (disk t.shelf).may_leave files → StandsForBroker store.stands (broker_of t) files
-  stands_so t standing files may = of_broker t t.core files (standing.left files may)
+  stands_so t standing files may number topic is =
+      let x = get_map (λ (h : Held T store). h.core) t.held.items number topic is in
+      subst (λ (u : Topic). StandsFor (store.stands number) (IsLeft u) files) (sym x.2)
+      (subst (λ n. StandsFor (store.stands n) (IsLeft x.0.core) files) (t.numbered number x.0 x.1).0 ((standing.each number x.0 x.1).left files may))
 
   -- so it is at any moment of a call that leaves the device alone
   pub untouched : (t : Topics T S store) (shelf : S) → TopicsStand disk t → shelf ≡ t.shelf → Leaves (StandsForBroker store.stands (broker_of t)) (disk t.shelf) (disk shelf)
@@ -84,10 +111,10 @@ module _ {T S : Type 0} {store : StoreMembers T} (disk : S → Disk) where
   pub passes_nothing : (t : Topics T S store) → Passes disk t t
   passes_nothing t standing = record {
     standing = standing;
-    left = λ l k is. is;
+    left = λ files is. is;
     any_moment = untouched t t.shelf standing refl;
     per_ledger = refl;
-    stage = refl;
+    stages = refl;
     faults = omega arith;
   }
 
@@ -98,12 +125,10 @@ module _ {T S : Type 0} {store : StoreMembers T} (disk : S → Disk) where
       let P = StandsForBroker store.stands (broker_of a) in
       record {
         standing = q.standing;
-        left = λ l k is. p.left l k (q.left l k is);
-        any_moment = joins P (StandsForBroker store.stands (broker_of b)) P
-            (disk a.shelf) (disk b.shelf) (disk c.shelf) p.any_moment q.any_moment
-            (λ i s. s) (λ i s. record { ledger = s.ledger; kept = s.kept; is_left = p.left s.ledger s.kept s.is_left; stands = s.stands });
+        left = λ files is. p.left files (q.left files is);
+        any_moment = joins P (StandsForBroker store.stands (broker_of b)) P (disk a.shelf) (disk b.shelf) (disk c.shelf) p.any_moment q.any_moment (λ i s. s) p.left;
         per_ledger = q.per_ledger ∙ p.per_ledger;
-        stage = q.stage ∙ p.stage;
+        stages = q.stages ∙ p.stages;
         faults = omega (arith, p.faults, q.faults);
       }
 
@@ -112,27 +137,61 @@ module _ {T S : Type 0} {store : StoreMembers T} (disk : S → Disk) where
       let p = first standing in
       let q = second p.standing in
       let r = third q.standing in
-      refused_within (stage_of a.flight) (stage_of b.flight) (disk a.shelf).faults (disk b.shelf).faults (disk c.shelf).faults (disk d.shelf).faults why p.stage p.faults r.faults (refused p.standing)
+      refused_within (stages_of a) (stages_of b) (disk a.shelf).faults (disk b.shelf).faults (disk c.shelf).faults (disk d.shelf).faults why p.stages p.faults r.faults (refused p.standing)
 
-  module _ (t : Topics T S store) (core : Topic) (number : (view_in t).topic ≡ 0) (matched : Match (phase_at core.failed (stage_of t.flight)) core (view_in t)) (under_way : IsUnderWay core t.flight) (go : GoesOn t.core core) where
-    -- only the core goes on
-    pub passes_core : Passes disk t (record { alloc = t.alloc; core = core; stores = t.stores; flight = t.flight; shelf = t.shelf; number = number; matched = matched; under_way = under_way })
-    passes_core standing = record {
-      standing = standing_on store.stands (stage_of t.flight) t.core core (view_in t) (disk t.shelf) go standing;
-      left = left_before t.core core go;
-      any_moment = untouched t t.shelf standing refl;
-      per_ledger = go.per_ledger;
-      stage = refl;
-      faults = omega arith;
+  module _ (t new : Topics T S store) (number : ℕ) (h next : Held T store) (was : slice_get t.held.items number ≡ Some h) (held : new.held.items ≡ slice_set t.held.items number next) (per_ledger : new.per_ledger ≡ t.per_ledger)
+      (stores : next.stores ≡ h.stores) (flight : next.flight ≡ h.flight) (go : GoesOn h.core next.core) where
+    each_on : (d : Disk) → ((j : ℕ) (x : Held T store) → slice_get t.held.items j ≡ Some x → HeldStands x d) → (j : ℕ) (x : Held T store) → slice_get new.held.items j ≡ Some x → HeldStands x d
+    each_on d each = each_with (λ j x. HeldStands x d) t.held.items new.held.items number next held (held_on h next d stores flight go (each number h was)) (λ j x differ is. each j x is)
+
+    -- what stands at a place of the new broker
+    got_at : (j : ℕ) (x : Held T store) → slice_get new.held.items j ≡ Some x → slice_get (broker_of new).topics j ≡ Some x.core
+    got_at j x is = got_map (λ (y : Held T store). y.core) new.held.items j x is
+
+    left_on : (files : Image) → StandsForBroker store.stands (broker_of new) files → StandsForBroker store.stands (broker_of t) files
+    left_on files stands j topic is =
+        let x = get_map (λ (y : Held T store). y.core) t.held.items j topic is in
+        ⊎_elim
+        (λ (at : j ≡ number).
+        let one : x.0 ≡ h = same_Some x.0 h (sym x.1 ∙ ap (λ i. slice_get t.held.items i) at ∙ was) in
+        let s = stands number next.core (got_at number next (ap (λ l. slice_get l number) held ∙ got_set t.held.items number h next was)) in
+        subst (λ (i : ℕ). StandsFor (store.stands i) (IsLeft topic) files) (sym at)
+        (subst (λ (u : Topic). StandsFor (store.stands number) (IsLeft u) files) (sym (x.2 ∙ ap (λ (y : Held T store). y.core) one))
+        (record { ledger = s.ledger; kept = s.kept; is_left = left_before h.core next.core go s.ledger s.kept s.is_left; stands = s.stands })))
+        (λ (differ : j ≢ number). subst (λ (u : Topic). StandsFor (store.stands j) (IsLeft u) files) (sym x.2)
+        (stands j x.0.core (got_at j x.0 (ap (λ l. slice_get l j) held ∙ got_other t.held.items number j next x.0 differ x.1))))
+        (same_or_not j number)
+
+    stages_on : stages_of new ≡ stages_of t
+    stages_on =
+        let stage : Held T store → Stage = λ y. stage_of y.flight in
+        ap (λ l. map stage l) held ∙ map_set stage stage t.held.items number next (λ j x differ is. refl)
+        ∙ ap (λ s. slice_set (map stage t.held.items) number s) (ap (λ f. stage_of f) flight ∙ sym (at_map stage t.held.items number h Resting was)) ∙ set-get_or (map stage t.held.items) number Resting
+
+    -- only a topic goes on
+    pub passes_core : new.shelf ≡ t.shelf → Passes disk t new
+    passes_core shelf standing = record {
+      standing = record {
+        honest = subst (λ (s : S). (disk s).honest) (sym shelf) standing.honest;
+        each = subst (λ (s : S). (j : ℕ) (x : Held T store) → slice_get new.held.items j ≡ Some x → HeldStands x (disk s)) (sym shelf) (each_on (disk t.shelf) standing.each);
+      };
+      left = left_on;
+      any_moment = untouched t new.shelf standing shelf;
+      per_ledger = per_ledger;
+      stages = stages_on;
+      faults = subst (λ (s : S). (disk t.shelf).faults ≤ (disk s).faults) (sym shelf) (omega arith);
     }
 
-    -- the core goes on, and the device only reads
-    pub passes_read : (shelf : S) → OnlyReads (disk t.shelf) (disk shelf) → Passes disk t (record { alloc = t.alloc; core = core; stores = t.stores; flight = t.flight; shelf = shelf; number = number; matched = matched; under_way = under_way })
-    passes_read shelf reads standing = record {
-      standing = standing_read store.stands (phase_at core.failed (stage_of t.flight)) core (view_in t) (disk t.shelf) (disk shelf) reads (standing_on store.stands (stage_of t.flight) t.core core (view_in t) (disk t.shelf) go standing);
-      left = left_before t.core core go;
-      any_moment = weaken (disk t.shelf).may_leave (StandsForBroker store.stands (broker_of t)) (disk t.shelf) (disk shelf) (reads.any_moment standing.honest) (stands_so t standing);
-      per_ledger = go.per_ledger;
-      stage = refl;
+    -- a topic goes on, and the device only reads
+    pub passes_read : OnlyReads (disk t.shelf) (disk new.shelf) → Passes disk t new
+    passes_read reads standing = record {
+      standing = record {
+        honest = reads.kept.honest standing.honest;
+        each = each_on (disk new.shelf) (λ j x is. standing_read store.stands (phase_in x) x.core (view_in x) (disk t.shelf) (disk new.shelf) reads (standing.each j x is));
+      };
+      left = left_on;
+      any_moment = weaken (disk t.shelf).may_leave (StandsForBroker store.stands (broker_of t)) (disk t.shelf) (disk new.shelf) (reads.any_moment standing.honest) (stands_so t standing);
+      per_ledger = per_ledger;
+      stages = stages_on;
       faults = reads.kept.faults;
     }

@@ -4,7 +4,7 @@ use Rattle.std.specs.declared.alloc.AllocError.{AllocError}
 use Rattle.gated_log.specs.declared.refusal.Refusal.TheVariants as refusal
 use Rattle.topic_core.specs.Crashes.{TopicCrash}
 use Rattle.session.specs.Broker.{Broker, topic_at}
-use Rattle.node.specs.State.{State, Resting}
+use Rattle.node.specs.State.{State, Resting, stage_at}
 use Rattle.node.specs.Steps.{BrokerStep, during}
 use Rattle.node.specs.declared.event.Event.{Event}
 use Rattle.node.specs.declared.event.Verdict.{Verdict}
@@ -44,7 +44,7 @@ pub record StateCrash (old new : State) : Type 0 where
   pub names : new.broker.names ≡ old.broker.names
   pub count : length new.broker.topics ≡ length old.broker.topics
   pub each : (number : ℕ) → TopicCrash (topic_at old.broker number) (topic_at new.broker number)
-  pub stage : new.stage ≡ Resting
+  pub stages : (number : ℕ) → stage_at new number ≡ Resting
   pub sessions : new.sessions ≡ []
   pub used : new.used ≡ 0
   pub faults : old.faults ≤ new.faults

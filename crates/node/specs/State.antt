@@ -1,5 +1,5 @@
 -- The abstract node.
-use Rattle.std.specs.Prelude.{◌≡◌, ◌⊎◌, ◌<◌, ℕ, ◌+◌, ◌^◌, ◌||◌, Option, Some, None, Result, Ok, Err, Bool, List, [], ◌∷◌, ◌++◌, length, nat_lt, nat_le, nat_eq, cond, remove, position, codes}
+use Rattle.std.specs.Prelude.{◌≡◌, ◌⊎◌, ◌<◌, ℕ, ◌+◌, ◌^◌, ◌||◌, Option, Some, None, Result, Ok, Err, Bool, List, [], ◌∷◌, ◌++◌, length, nat_lt, nat_le, nat_eq, cond, remove, position, codes, slice_index_or}
 use Rattle.gated_log.specs.declared.read_error.ReadError.{ReadError}
 use Rattle.gated_log.specs.declared.read_error.ReadError.TheVariants as read
 use Rattle.gated_log.specs.declared.refusal.Refusal.{Refusal}
@@ -26,18 +26,25 @@ pub data Stage : Type 0 where
 
 pub record State : Type 0 where
   pub broker : Broker
-  pub stage : Stage  -- of a flush of its topic
+  pub stages : List Stage  -- of the flushes that come in parts, by the numbers of their topics
   pub sessions : List Client  -- those that are open
   pub used : ℕ  -- how many numbers of sessions were given out
   pub faults : ℕ  -- how often the device has failed
 
--- a broker of one topic, number 0
-abbrev pub broker_with : ℕ → Topic → Broker
-broker_with per_ledger topic = record { per_ledger = per_ledger; service_url = codes "pulsar://replay"; names = codes "persistent://a/b/c" ∷ []; topics = topic ∷ [] }
+-- how far the flush of a topic is; where there is no such topic none is under way
+abbrev pub stage_in : List Stage → ℕ → Stage
+stage_in stages number = slice_index_or stages number Resting
+
+abbrev pub stage_at : State → ℕ → Stage
+stage_at s number = stage_in s.stages number
+
+-- a broker of these topics; for now there is one, of this name
+abbrev pub broker_with : ℕ → List Topic → Broker
+broker_with per_ledger topics = record { per_ledger = per_ledger; service_url = codes "pulsar://replay"; names = codes "persistent://a/b/c" ∷ []; topics = topics }
 
 -- nothing happened to it yet
 abbrev pub fresh_broker : ℕ → Broker
-fresh_broker per_ledger = broker_with per_ledger (fresh per_ledger)
+fresh_broker per_ledger = broker_with per_ledger (fresh per_ledger ∷ [])
 
 -- the place of a topic's number, where there is one
 abbrev pub place_in : List Topic → ℕ → Option ℕ
@@ -87,8 +94,12 @@ stage_after (Ok (Some batch)) stage = Taken
 stage_after (Err why) stage = stage
 
 -- A message is refused for a failure of the device only where the device failed since, or where it failed in writing the batch of a
--- flush that isn't finished. It is never refused for damage.
-abbrev pub MayRefuse : Stage → ℕ → ℕ → ReadError → Type 0
-MayRefuse stage before after read.NoMemory = Unit {0}
-MayRefuse stage before after read.Device = (before < after) ⊎ (stage ≡ Written (Err write.Device))
-MayRefuse stage before after (read.Damaged file offset) = ⊥
+-- flush of its topic that isn't finished. It is never refused for damage.
+abbrev pub MayRefuseOf : Stage → ℕ → ℕ → ReadError → Type 0
+MayRefuseOf stage before after read.NoMemory = Unit {0}
+MayRefuseOf stage before after read.Device = (before < after) ⊎ (stage ≡ Written (Err write.Device))
+MayRefuseOf stage before after (read.Damaged file offset) = ⊥
+
+-- so a topic of these refuses
+abbrev pub MayRefuse : List Stage → ℕ → ℕ → ReadError → Type 0
+MayRefuse stages before after why = (number : ℕ) × MayRefuseOf (stage_in stages number) before after why

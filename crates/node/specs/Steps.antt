@@ -1,5 +1,5 @@
 -- What each event does to the abstract node.
-use Rattle.std.specs.Prelude.{◌≡◌, ◌<◌, ◌≤◌, ℕ, Option, Some, None, is_some, Result, Err, Bool, true, false, List, [], slice_get, slice_set, remove}
+use Rattle.std.specs.Prelude.{◌≡◌, ◌≢◌, ◌<◌, ◌≤◌, ℕ, Option, Some, None, is_some, Result, Err, Bool, true, false, List, [], slice_get, slice_set, remove}
 use Rattle.gated_log.specs.declared.refusal.Refusal.{Refusal}
 use Rattle.gated_log.specs.declared.refusal.Refusal.TheVariants as refusal
 use Rattle.topic_stores.specs.declared.batch.Batch.{Batch}
@@ -15,7 +15,7 @@ use Rattle.session.specs.Broker.{Broker, topic_at, with_topic, left_all}
 use Rattle.session.specs.Client.{Client, Play, play}
 use Rattle.session.specs.Working.{FeedStep}
 use Rattle.session.specs.Pumping as pumping
-use Rattle.node.specs.State.{State, MayRefuse, Stage, Resting, Taken, Written, place_in, place_of, is_full, with_session, verdict_of, verdict_of_pump, verdict_for, verdict_of_flush, stage_after, settled}
+use Rattle.node.specs.State.{State, MayRefuse, Stage, Resting, Taken, Written, stage_at, place_in, place_of, is_full, with_session, verdict_of, verdict_of_pump, verdict_for, verdict_of_flush, stage_after, settled}
 use Rattle.node.specs.declared.event.Event.{Event}
 use Rattle.node.specs.declared.event.Event.TheVariants.{Open, Bytes, Pump, Close, Flush, Take, Write, Finish, Reopen}
 use Rattle.node.specs.declared.event.Verdict.{Verdict}
@@ -47,7 +47,7 @@ OpenStep false old output new = OpensAs output.result old output new
 pub record Settles (old : State) (place : ℕ) (played : Play) (result : Verdict) (output : Output) (new : State) : Type 0 where
   pub answer : output ≡ record { bytes = played.out; result = result }
   pub broker : new.broker ≡ played.broker
-  pub stage : new.stage ≡ old.stage
+  pub stages : new.stages ≡ old.stages
   pub sessions : new.sessions ≡ settled played.client.fault (slice_set old.sessions place played.client) place
   pub used : new.used ≡ old.used
   pub faults : old.faults ≤ new.faults
@@ -67,7 +67,7 @@ pub record Pumps (old : State) (place : ℕ) (output : Output) (new : State) : T
   pub stands : slice_get old.sessions place ≡ Some client
   pub result : Result More PumpFault
   pub played : Play
-  pub step : pumping.PumpStep (MayRefuse old.stage old.faults new.faults) (play client old.broker []) result played
+  pub step : pumping.PumpStep (MayRefuse old.stages old.faults new.faults) (play client old.broker []) result played
   pub settles : Settles old place played (verdict_of_pump result) output new
 
 -- an open session leaves each topic
@@ -76,15 +76,16 @@ pub record Closes (old : State) (place : ℕ) (output : Output) (new : State) : 
   pub stands : slice_get old.sessions place ≡ Some client
   pub answer : output ≡ record { bytes = []; result = verdict.Done }
   pub broker : new.broker ≡ left_all old.broker client.number
-  pub stage : new.stage ≡ old.stage
+  pub stages : new.stages ≡ old.stages
   pub sessions : new.sessions ≡ remove old.sessions place
   pub used : new.used ≡ old.used
   pub faults : old.faults ≤ new.faults
 
--- one topic becomes another, its flush is at this stage, and the device may have failed in between
+-- one topic becomes another, its flush is at this stage, the others stay, and the device may have failed in between
 pub record Moves (old : State) (topic : ℕ) (next : Topic) (reached : Stage) (new : State) : Type 0 where
   pub broker : new.broker ≡ with_topic old.broker topic next
-  pub stage : new.stage ≡ reached
+  pub stage : stage_at new topic ≡ reached
+  pub others : (other : ℕ) → other ≢ topic → stage_at new other ≡ stage_at old other
   pub sessions : new.sessions ≡ old.sessions
   pub used : new.used ≡ old.used
   pub faults : old.faults ≤ new.faults
@@ -95,7 +96,7 @@ pub record Flushes (old : State) (topic : ℕ) (output : Output) (new : State) :
   pub result : Result ℕ WriteError
   pub step : topics.FlushStep (topic_at old.broker topic) result flushed
   pub answer : output ≡ record { bytes = []; result = verdict_of_flush result }
-  pub moves : Moves old topic flushed old.stage new
+  pub moves : Moves old topic flushed (stage_at old topic) new
   pub cause : (topic_at old.broker topic).failed ≡ false → result ≡ Err Device → old.faults < new.faults
 
 -- a flush in parts begins: a batch is taken of all that waits, where there is something and no flush is under way
@@ -104,7 +105,7 @@ pub record Takes (old : State) (topic : ℕ) (output : Output) (new : State) : T
   pub result : Result (Option Batch) WriteError
   pub step : topics.TakeStep (topic_at old.broker topic) result taken
   pub answer : output ≡ record { bytes = []; result = verdict_of_flush result }
-  pub moves : Moves old topic taken (stage_after result old.stage) new
+  pub moves : Moves old topic taken (stage_after result (stage_at old topic)) new
 
 -- the batch is written, which changes nothing of the topic; a failure is told only where the device failed
 pub record Writes (old : State) (topic : ℕ) (output : Output) (new : State) : Type 0 where
@@ -139,7 +140,7 @@ pub record Reopens (old : State) (topic : ℕ) (output : Output) (new : State) :
   pub result : Result (Unit {0}) Refusal
   pub step : topics_again.ReopenStep (topic_at old.broker topic) result again
   pub answer : output ≡ record { bytes = []; result = verdict_for result }
-  pub moves : Moves old topic again old.stage new
+  pub moves : Moves old topic again (stage_at old topic) new
   pub cause : result ≡ Err refusal.Device → old.faults < new.faults
 
 abbrev pub BytesStep : Option ℕ → State → List ℕ → Output → State → Type 0
@@ -164,11 +165,11 @@ TakeStep (Some topic) old output new = Takes old topic output new
 
 abbrev pub WriteStep : Option ℕ → State → Output → State → Type 0
 WriteStep None old output new = Only verdict.Unknown old output new
-WriteStep (Some topic) old output new = WritesIn old.stage old topic output new
+WriteStep (Some topic) old output new = WritesIn (stage_at old topic) old topic output new
 
 abbrev pub FinishStep : Option ℕ → State → Output → State → Type 0
 FinishStep None old output new = Only verdict.Unknown old output new
-FinishStep (Some topic) old output new = FinishesIn old.stage old topic output new
+FinishStep (Some topic) old output new = FinishesIn (stage_at old topic) old topic output new
 
 abbrev pub ReopenStep : Option ℕ → State → Output → State → Type 0
 ReopenStep None old output new = Only verdict.Unknown old output new

@@ -5,12 +5,15 @@
 
 mod event;
 mod flight;
+mod held;
 mod laws;
 mod node;
 mod octets;
 mod open;
+mod parts;
 mod port;
 mod power;
+mod serving;
 mod status;
 mod topics;
 

@@ -1,15 +1,14 @@
 ghost use Rattle.std.specs.Prelude.{◌≡◌, ◌<◌, ◌≤◌, [], length, IfSome, vec_len};
 ghost use Rattle.disk.specs.Disk.{Leaves};
-ghost use Rattle.session.specs.Broker.{Broker};
+ghost use Rattle.session.specs.Broker.{Broker, topic_at};
 ghost use Rattle.node.specs.State.{is_full, place_in, place_of, verdict_of, verdict_of_pump, verdict_for, verdict_of_flush, settled};
-ghost use Rattle.node.specs.Standing.{state_of, disk_of, Stands, StandsForBroker, Passes};
+ghost use Rattle.node.specs.Standing.{state_of, disk_of, broker_of, Stands, StandsForBroker, Passes};
 ghost use Rattle.node.specs.Steps.{OpenStep, BytesStep, PumpStep, CloseStep, FlushStep, TakeStep, WriteStep, FinishStep, ReopenStep, BrokerStep, during};
 ghost use Rattle.node.specs.Opening.{ReopenTells, TellsIn};
 ghost use Rattle.node.specs.Runs.{Ran, Reached};
 ghost use Rattle.node.specs.declared.event.Event.TheVariants as event;
 
 use crate::event::{Event, Output, Verdict};
-use crate::flight::Flight;
 use crate::octets::Octets;
 use crate::topics::Topics;
 use disk::Shelf;
@@ -177,18 +176,13 @@ impl<T: TopicStore, S: Shelf> Node<T, S> {
         ensures stands { Stands S.disk self.old → Stands S.disk self.new }
         ensures any_moment { Stands S.disk self.old →
             Leaves (StandsForBroker T.stands (during (state_of S.disk self.old).broker (event.Flush topic))) (disk_of S.disk self.old) (disk_of S.disk self.new) }
-        ensures numbered { self.new.topics.core.per_ledger ≡ self.old.topics.core.per_ledger }
+        ensures numbered { self.new.topics.per_ledger ≡ self.old.topics.per_ledger }
     {
-        if topic != 0 {
+        if topic >= self.topics.count() {
             return only(self.alloc, Verdict::Unknown);
         }
-        let Topics {
-            core,
-            stores,
-            shelf,
-            ..
-        } = &mut self.topics;
-        let flushed = core.flush(stores, shelf);
+        let Topics { held, shelf, .. } = &mut self.topics;
+        let flushed = held[topic as usize].flush(shelf);
         only(self.alloc, verdict_of_flush(&flushed))
     }
 
@@ -197,20 +191,13 @@ impl<T: TopicStore, S: Shelf> Node<T, S> {
             TakeStep (place_in (state_of S.disk self.old).broker.topics topic) (state_of S.disk self.old) result (state_of S.disk self.new) }
         ensures stands { Stands S.disk self.old → Stands S.disk self.new }
         ensures shelf { self.new.topics.shelf ≡ self.old.topics.shelf }
-        ensures numbered { self.new.topics.core.per_ledger ≡ self.old.topics.core.per_ledger }
+        ensures numbered { self.new.topics.per_ledger ≡ self.old.topics.per_ledger }
     {
-        if topic != 0 {
+        if topic >= self.topics.count() {
             return only(self.alloc, Verdict::Unknown);
         }
-        let Topics { core, flight, .. } = &mut self.topics;
-        match core.take_batch() {
-            Ok(Some(batch)) => {
-                *flight = Some(Flight::Taken(batch));
-                only(self.alloc, Verdict::Done)
-            }
-            Ok(None) => only(self.alloc, Verdict::Done),
-            Err(why) => only(self.alloc, Verdict::Refused(why.into())),
-        }
+        let taken = self.topics.held[topic as usize].take();
+        only(self.alloc, verdict_of_flush(&taken))
     }
 
     fn write(&mut self, topic: u64) -> Output
@@ -219,28 +206,15 @@ impl<T: TopicStore, S: Shelf> Node<T, S> {
         ensures stands { Stands S.disk self.old → Stands S.disk self.new }
         ensures any_moment { Stands S.disk self.old →
             Leaves (StandsForBroker T.stands (state_of S.disk self.old).broker) (disk_of S.disk self.old) (disk_of S.disk self.new) }
-        ensures numbered { self.new.topics.core.per_ledger ≡ self.old.topics.core.per_ledger }
+        ensures numbered { self.new.topics.per_ledger ≡ self.old.topics.per_ledger }
     {
-        if topic != 0 {
+        if topic >= self.topics.count() {
             return only(self.alloc, Verdict::Unknown);
         }
-        let Topics {
-            stores,
-            flight,
-            shelf,
-            ..
-        } = &mut self.topics;
-        match flight.take() {
-            Some(Flight::Taken(batch)) => {
-                let written = stores.write(shelf, &batch);
-                let verdict = verdict_of_flush(&written);
-                *flight = Some(Flight::Written(batch, written));
-                only(self.alloc, verdict)
-            }
-            other => {
-                *flight = other;
-                only(self.alloc, Verdict::Unknown)
-            }
+        let Topics { held, shelf, .. } = &mut self.topics;
+        match held[topic as usize].write(shelf) {
+            Some(written) => only(self.alloc, verdict_of_flush(&written)),
+            None => only(self.alloc, Verdict::Unknown),
         }
     }
 
@@ -249,21 +223,14 @@ impl<T: TopicStore, S: Shelf> Node<T, S> {
             FinishStep (place_in (state_of S.disk self.old).broker.topics topic) (state_of S.disk self.old) result (state_of S.disk self.new) }
         ensures stands { Stands S.disk self.old → Stands S.disk self.new }
         ensures shelf { self.new.topics.shelf ≡ self.old.topics.shelf }
-        ensures numbered { self.new.topics.core.per_ledger ≡ self.old.topics.core.per_ledger }
+        ensures numbered { self.new.topics.per_ledger ≡ self.old.topics.per_ledger }
     {
-        if topic != 0 {
+        if topic >= self.topics.count() {
             return only(self.alloc, Verdict::Unknown);
         }
-        let Topics { core, flight, .. } = &mut self.topics;
-        match flight.take() {
-            Some(Flight::Written(batch, written)) => {
-                let finished = core.finish(batch, written);
-                only(self.alloc, verdict_of_flush(&finished))
-            }
-            other => {
-                *flight = other;
-                only(self.alloc, Verdict::Unknown)
-            }
+        match self.topics.held[topic as usize].finish() {
+            Some(finished) => only(self.alloc, verdict_of_flush(&finished)),
+            None => only(self.alloc, Verdict::Unknown),
         }
     }
 
@@ -271,21 +238,16 @@ impl<T: TopicStore, S: Shelf> Node<T, S> {
         ensures step { Stands S.disk self.old →
             ReopenStep (place_in (state_of S.disk self.old).broker.topics topic) (state_of S.disk self.old) result (state_of S.disk self.new) }
         ensures stands { Stands S.disk self.old → Stands S.disk self.new }
-        ensures tells { ReopenTells T.stands T.faulty self.old.topics.core self.new.topics.core (disk_of S.disk self.old) (disk_of S.disk self.new) result.result }
+        ensures tells { ReopenTells T.stands T.faulty topic (topic_at (broker_of self.old.topics) topic) (topic_at (broker_of self.new.topics) topic) (disk_of S.disk self.old) (disk_of S.disk self.new) result.result }
         ensures any_moment { Stands S.disk self.old →
             Leaves (StandsForBroker T.stands (state_of S.disk self.old).broker) (disk_of S.disk self.old) (disk_of S.disk self.new) }
-        ensures numbered { self.new.topics.core.per_ledger ≡ self.old.topics.core.per_ledger }
+        ensures numbered { self.new.topics.per_ledger ≡ self.old.topics.per_ledger }
     {
-        if topic != 0 {
+        if topic >= self.topics.count() {
             return only(self.alloc, Verdict::Unknown);
         }
-        let Topics {
-            core,
-            stores,
-            shelf,
-            ..
-        } = &mut self.topics;
-        let reopened = core.reopen(stores, shelf);
+        let Topics { held, shelf, .. } = &mut self.topics;
+        let reopened = held[topic as usize].reopen(shelf);
         only(self.alloc, verdict_for(reopened))
     }
 
@@ -296,10 +258,10 @@ impl<T: TopicStore, S: Shelf> Node<T, S> {
             BrokerStep (state_of S.disk self.old) event result (state_of S.disk self.new) }
         ensures stands { Stands S.disk self.old → Stands S.disk self.new }
         // Whatever the device holds, this is what the opening of a topic tells.
-        ensures tells { TellsIn T.stands T.faulty event self.old.topics.core self.new.topics.core (disk_of S.disk self.old) (disk_of S.disk self.new) result.result }
+        ensures tells { TellsIn T.stands T.faulty event (broker_of self.old.topics) (broker_of self.new.topics) (disk_of S.disk self.old) (disk_of S.disk self.new) result.result }
         ensures any_moment { Stands S.disk self.old →
             Leaves (StandsForBroker T.stands (during (state_of S.disk self.old).broker event)) (disk_of S.disk self.old) (disk_of S.disk self.new) }
-        ensures numbered { Stands S.disk self.old → self.new.topics.core.per_ledger ≡ self.old.topics.core.per_ledger }
+        ensures numbered { Stands S.disk self.old → self.new.topics.per_ledger ≡ self.old.topics.per_ledger }
     {
         match event {
             Event::Open => self.open_session(),

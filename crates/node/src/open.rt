@@ -8,6 +8,7 @@ ghost use Rattle.node.specs.Opening.{IsJustOpened, disk_after};
 ghost use Rattle.node.specs.Driving.{IsServed};
 ghost use Rattle.node.specs.Runs.{StateCrash};
 
+use crate::held::Held;
 use crate::node::Node;
 use crate::topics::Topics;
 use disk::Shelf;
@@ -39,7 +40,7 @@ impl<T: TopicStore, S: Shelf + Drop> Node<T, S> {
         requires numbered { 1 ≤ per_ledger }
         ensures opened { (old : State) → AtRest T.stands old (S.disk shelf) → IsServed per_ledger old →
             IfOk result (λ node. Stands S.disk node × StateCrash old (state_of S.disk node)) }
-        ensures refused { (old : State) → AtRest T.stands old (S.disk shelf) →
+        ensures refused { (old : State) → AtRest T.stands old (S.disk shelf) → IsServed per_ledger old →
             IfErr result (λ e. AtRest T.stands old (S.disk e.1) × ((e.0 ≡ NoMemory) ⊎ ((e.0 ≡ Device) × Failed (S.disk shelf) (S.disk e.1)))) }
 
         // Whatever the files hold, a node has what they stand for, or the first fault that stands in them is told.
@@ -55,17 +56,20 @@ impl<T: TopicStore, S: Shelf + Drop> Node<T, S> {
         ensures any_moment { (S.disk shelf).honest → Leaves (S.disk shelf).may_leave (S.disk shelf) (disk_after S.disk result) }
         ensures kept { Kept (S.disk shelf) (disk_after S.disk result) }
     {
+        let Ok(mut held) = Vec::with_capacity(alloc, 1) else {
+            return Err((Refusal::NoMemory, shelf));
+        };
         let (core, stores) = match TopicCore::open(alloc, &mut shelf, SERVED, per_ledger) {
             Ok(opened) => opened,
             Err(why) => return Err((why, shelf)),
         };
+        held.push(Held::at_rest(core, stores)).unwrap();
         Ok(Node {
             alloc,
             topics: Topics {
                 alloc,
-                core,
-                stores,
-                flight: None,
+                per_ledger,
+                held,
                 shelf,
             },
             sessions: Vec::new(alloc),

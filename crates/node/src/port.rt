@@ -1,4 +1,4 @@
-ghost use Rattle.std.specs.Prelude.{◌≡◌};
+ghost use Rattle.std.specs.Prelude.{◌≡◌, length};
 
 use crate::topics::Topics;
 use commands::Reply;
@@ -14,7 +14,7 @@ impl<T: TopicStore, S: Shelf> Port for Topics<T, S> {
 
     ghost broker = { broker_of };
 
-    ghost count = { λ _. 1 };
+    ghost count = { λ t. length t.held.items };
 
     ghost sole = { TopicsStand S.disk };
 
@@ -27,55 +27,58 @@ impl<T: TopicStore, S: Shelf> Port for Topics<T, S> {
     }
 
     fn topics(&self) -> u64 {
-        1
+        self.held.len() as u64
     }
 
-    fn has_producer(&self, _topic: u64, who: u64, producer_id: u64) -> bool {
-        self.core.has_producer(who, producer_id)
+    fn has_producer(&self, topic: u64, who: u64, producer_id: u64) -> bool {
+        self.held[topic as usize]
+            .core
+            .has_producer(who, producer_id)
     }
 
-    fn has_consumer(&self, _topic: u64, who: u64, consumer_id: u64) -> bool {
-        self.core.has_consumer(who, consumer_id)
+    fn has_consumer(&self, topic: u64, who: u64, consumer_id: u64) -> bool {
+        self.held[topic as usize]
+            .core
+            .has_consumer(who, consumer_id)
     }
 
     fn find(&mut self, _name: &str) -> Found {
         Found::Topic(0)
     }
 
-    fn command(&mut self, _topic: u64, who: u64, command: TopicCommand) -> Answer {
-        self.core.command(who, command)
+    fn command(&mut self, topic: u64, who: u64, command: TopicCommand) -> Answer {
+        self.held[topic as usize].command(who, command)
     }
 
     fn grant(
         &mut self,
-        _topic: u64,
+        topic: u64,
         who: u64,
         consumer_id: u64,
         permits: u32,
     ) -> Result<(), TooManyPermits> {
-        self.core.grant(who, consumer_id, permits)
+        self.held[topic as usize].grant(who, consumer_id, permits)
     }
 
     fn dispatch(
         &mut self,
-        _topic: u64,
+        topic: u64,
         who: u64,
         consumer_id: u64,
     ) -> Result<Option<Outgoing>, ReadError> {
-        self.core
-            .dispatch(&self.stores, &mut self.shelf, who, consumer_id)
+        self.held[topic as usize].dispatch(&mut self.shelf, who, consumer_id)
     }
 
-    fn collect(&mut self, _topic: u64, who: u64) -> Option<Reply> {
-        self.core.collect(who)
+    fn collect(&mut self, topic: u64, who: u64) -> Option<Reply> {
+        self.held[topic as usize].collect(who)
     }
 
-    fn leave(&mut self, _topic: u64, who: u64) {
-        self.core.leave(who)
+    fn leave(&mut self, topic: u64, who: u64) {
+        self.held[topic as usize].leave(who)
     }
 
-    ghost use Rattle.std.proofs.Common.{refl, lit≤};
-    ghost use Rattle.node.specs.Passing.{passes_nothing, passes_both, refuses_within};
+    ghost use Rattle.std.proofs.Common.{sym, arith};
+    ghost use Rattle.node.specs.Passing.{passes_nothing, passes_both, refuses_within, count_is};
 
     ghost passes_nothing = { passes_nothing S.disk };
 
@@ -85,7 +88,7 @@ impl<T: TopicStore, S: Shelf> Port for Topics<T, S> {
 
     ghost refuses_within = { refuses_within S.disk };
 
-    ghost passes_count = { λ a b h. lit≤ tt };
+    ghost passes_count = { λ a b h. omega (arith, a.one, b.one) };
 
-    ghost counts_topics = { λ port s. refl };
+    ghost counts_topics = { λ port s. sym (count_is port) };
 }

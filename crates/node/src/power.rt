@@ -94,13 +94,13 @@ impl<T: TopicStore, S: CrashShelf + Drop> Machine<T, S> {
         }
     }
 
-    /// What the topic has. A node that is down tells nothing, and an error is want of memory.
-    pub fn status(&self) -> Result<Option<TopicStatus>, AllocError>
-        ensures files { (per_ledger : ℕ) (life : Life) → Holds S.disk per_ledger self.now life → IfOk result (SegmentsTold S.disk T.laid self.now) }
-        ensures status { (per_ledger : ℕ) (life : Life) → Holds S.disk per_ledger self.now life → IfOk result (StatusOf life.up life.state) }
+    /// What the topic of a number has; none where there is no such topic, or the node is down. An error is want of memory.
+    pub fn status(&self, topic: u64) -> Result<Option<TopicStatus>, AllocError>
+        ensures files { (per_ledger : ℕ) (life : Life) → Holds S.disk per_ledger self.now life → IfOk result (SegmentsTold S.disk T.laid self.now topic) }
+        ensures status { (per_ledger : ℕ) (life : Life) → Holds S.disk per_ledger self.now life → IfOk result (StatusOf life.up life.state topic) }
     {
         match self {
-            Machine::Up(node) => Ok(Some(node.status()?)),
+            Machine::Up(node) => node.status(topic),
             Machine::Down(_) => Ok(None),
         }
     }

@@ -1,9 +1,11 @@
-// What a node tells of its topic.
+// What a node tells of its topics.
 ghost use Rattle.std.specs.Prelude.{◌≡◌, length, IfOk};
 ghost use Rattle.subscriptions.specs.Statuses.{AreStatuses};
-ghost use Rattle.node.specs.Standing.{phase_in, Stands};
-ghost use Rattle.node.specs.Driving.{TellsSegments};
+ghost use Rattle.node.specs.Standing.{state_of, phase_in, HeldStands, Stands};
+ghost use Rattle.node.specs.Driving.{StatusIn, SegmentsAt, TellsSegments};
+ghost use Rattle.node.specs.State.{place_in};
 
+use crate::held::Held;
 use crate::node::Node;
 use disk::Shelf;
 use std::alloc::AllocError;
@@ -22,20 +24,33 @@ pub struct TopicStatus {
     pub subscriptions: Vec<SubscriptionStatus>,
 }
 
-impl<T: TopicStore, S: Shelf> Node<T, S> {
-    /// What the topic has. An error is want of memory.
-    pub(crate) fn status(&self) -> Result<TopicStatus, AllocError>
-        ensures number { IfOk result (λ status. status.number ≡ 0) }
-        ensures entries { IfOk result (λ status. status.entries ≡ self.now.topics.core.committed) }
-        ensures segments { IfOk result (λ status. status.segments ≡ length (T.view self.now.topics.stores).counts) }
-        ensures files { Stands S.disk self.now → IfOk result (λ status. TellsSegments T.laid (phase_in self.now.topics) (S.disk self.now.topics.shelf).seen status.segments) }
-        ensures subscriptions { IfOk result (λ status. AreStatuses self.now.topics.core.subs.subs status.subscriptions.items) }
+impl<T: TopicStore> Held<T> {
+    /// What the topic, which has this number, tells. An error is want of memory.
+    fn status(&self, number: u64) -> Result<TopicStatus, AllocError>
+        ensures number { IfOk result (λ status. status.number ≡ number) }
+        ensures entries { IfOk result (λ status. status.entries ≡ self.now.core.committed) }
+        ensures segments { IfOk result (λ status. status.segments ≡ length (T.view self.now.stores).counts) }
+        ensures subscriptions { IfOk result (λ status. AreStatuses self.now.core.subs.subs status.subscriptions.items) }
     {
         Ok(TopicStatus {
-            number: 0,
-            entries: self.topics.core.committed(),
-            segments: self.topics.stores.segments(),
-            subscriptions: self.topics.core.statuses()?,
+            number,
+            entries: self.core.committed(),
+            segments: self.stores.segments(),
+            subscriptions: self.core.statuses()?,
         })
+    }
+}
+
+impl<T: TopicStore, S: Shelf> Node<T, S> {
+    /// What the topic of a number has; none where there is no such topic. An error is want of memory.
+    pub(crate) fn status(&self, topic: u64) -> Result<Option<TopicStatus>, AllocError>
+        ensures status { Stands S.disk self.now → IfOk result (StatusIn (place_in (state_of S.disk self.now).broker.topics topic) (state_of S.disk self.now)) }
+        ensures files { Stands S.disk self.now → IfOk result (SegmentsAt T.laid topic self.now.topics.held.items (S.disk self.now.topics.shelf).seen) }
+    {
+        if topic >= self.topics.count() {
+            return Ok(None);
+        }
+        let status = self.topics.held[topic as usize].status(topic)?;
+        Ok(Some(status))
     }
 }

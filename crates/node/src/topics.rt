@@ -1,22 +1,27 @@
-ghost use Rattle.std.specs.Prelude.{◌≡◌};
-ghost use Rattle.topic_core.specs.Standing.{Match};
-ghost use Rattle.node.specs.Flights.{stage_of, phase_at, IsUnderWay};
-ghost use Rattle.node.specs.Matching.{Match-prop, IsUnderWay-prop};
+ghost use Rattle.std.specs.Prelude.{◌≡◌, length};
+ghost use Rattle.node.specs.Numbers.{AreNumbered, AreNumbered-prop};
 
-use crate::flight::Flight;
+use crate::held::Held;
 use std::alloc::Global;
-use topic_core::{TopicCore, TopicStore};
+use topic_core::TopicStore;
 
-/// The topic of a node, number 0, its store, a flush of it that comes in parts, and the device. Core and store remember the
-/// same.
+/// The topics of a node, by their numbers, which count from 0, and the device. A ledger id of each has `per_ledger` entry ids.
+/// For now there is one.
 #[derive(Drop)]
 pub(crate) struct Topics<T: TopicStore, S> {
     pub(crate) alloc: Global,
-    pub(crate) core: TopicCore,
-    pub(crate) stores: T,
-    pub(crate) flight: Option<Flight>,
+    pub(crate) per_ledger: u32,
+    pub(crate) held: Vec<Held<T>>,
     pub(crate) shelf: S,
-    pub ghost number: { (T.view stores).topic ≡ 0 },
-    pub ghost matched: { Match (phase_at core.failed (stage_of flight)) core (T.view stores) } by { Match-prop (phase_at core.failed (stage_of flight)) core (T.view stores) },
-    pub ghost under_way: { IsUnderWay core flight } by { IsUnderWay-prop core flight },
+    pub ghost numbered: { AreNumbered per_ledger held.items } by { AreNumbered-prop per_ledger held.items },
+    pub ghost one: { length held.items ≡ 1 },
+}
+
+impl<T: TopicStore, S> Topics<T, S> {
+    /// How many topics there are.
+    pub(crate) fn count(&self) -> u64
+        ensures { result ≡ length self.now.held.items }
+    {
+        self.held.len() as u64
+    }
 }

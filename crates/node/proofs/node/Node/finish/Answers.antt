@@ -1,63 +1,83 @@
-use Rattle.std.proofs.Common.{◌≡◌, Some, sym, ap, subst, rules, arith}
-use Rattle.std.specs.Prelude.{Option}
-use Rattle.topic_core.specs.Standing.{Match, Standing}
-use Rattle.topic_core.proofs.Standings.{finish_match, finish_standing}
-use Rattle.node.specs.Flights.{stage_of, phase_at, IsUnderWay}
-use Rattle.node.specs.declared.flight.Flight.{Flight}
-use Rattle.node.specs.declared.flight.Flight.TheVariants as flight
-use Rattle.node.proofs.Steps.{finishes}
-use Rattle.node.proofs.UnderWay.{works, hands_on, fits, finish_numbers}
+use Rattle.std.proofs.Common.{◌<◌, length, refl, subst, ◌∙◌, arith}
+use Rattle.std.proofs.lemmas.List.{length-set}
+use Rattle.std.proofs.lemmas.Option.{slice_get_read}
+use Rattle.node.proofs.Frames.{keep_numbers, stand_beside, finish_stands, held_same}
+use Rattle.std.specs.Prelude.{IfSome}
+use Rattle.node.specs.Flights.{stage_of}
+use Rattle.node.specs.Parts.{FinishesPart}
+use Rattle.node.proofs.Working as working
 use Rattle.node.proofs.node.Node.finish.Goals as goal
 
 pub invariant_of-self : goal.invariant_of-self
 invariant_of-self g c =
-    let t = c.args.self.now.topics in
-    let u = c.finish-finished.new.self in
-    let v = g.T.TopicStore.view t.stores in
-    let batch = c.in-Some-Written.batch in
-    let written = c.in-Some-Written.written in
-    let is : t.flight ≡ Some (flight.Written batch written) = search rules in
-    let is_for = (subst (λ (f : Option Flight). IsUnderWay t.core f) is t.under_way) in
-    record {
-      number = t.number;
-      matched = subst (λ (f : Option Flight). Match (phase_at u.failed (stage_of f)) u v) (sym c.take.ensures.after)
-          (finish_match g.T.TopicStore.stands t.core (works t.core batch is_for) v written c.finish-finished.result u (c.finish-finished.ensures.step is_for.awaited)
-          (subst (λ (f : Option Flight). Match (phase_at t.core.failed (stage_of f)) t.core v) is t.matched));
-      under_way = subst (λ (f : Option Flight). IsUnderWay u f) (sym c.take.ensures.after) tt;
-    }
-
-pub returns-in-Some-Written-clause-step : goal.returns-in-Some-Written-clause-step
-returns-in-Some-Written-clause-step g c =
     let n = c.args.self.now in
     let t = n.topics in
-    let u = c.finish-finished.new.self in
-    let f = (g.S.Shelf.disk t.shelf).faults in
-    let written = c.in-Some-Written.written in
-    let is : t.flight ≡ Some (flight.Written c.in-Some-Written.batch written) = search rules in
-    let is_for = (subst (λ (k : Option Flight). IsUnderWay t.core k) is t.under_way) in
-    let step = c.finish-finished.ensures.step is_for.awaited in
-    λ _. rw (c.only-in-Some-Written.ensures, c.verdict_of_flush.ensures, c.take.ensures.after)
-    (finishes t.core.per_ledger u.per_ledger t.core u (stage_of t.flight) n.sessions.items n.used f f c.args.topic (omega (arith, c.if-topic-ne0.false)) (finish_numbers t.core written c.finish-finished.result u step) (omega arith)
-    written c.finish-finished.result (hands_on t.core c.in-Some-Written.batch is_for) (ap (λ (f : Option Flight). stage_of f) is) step)
+    let k = c.args.topic in
+    let low : k < length t.held.items = omega (arith, c.if-topic-count.false, c.count.ensures) in
+    let h = c.index_mut.result.now in
+    let was = slice_get_read t.held.items (length t.held.items) k h refl low c.index_mut.ensures.value in
+    let next = c.finish.new.self in
+    record {
+      numbered = keep_numbers t.per_ledger t.held.items k h next was t.per_ledger t.numbered c.finish.ensures.numbered;
+      one = length-set t.held.items k next ∙ t.one;
+    }
 
-pub returns-in-Some-Written-clause-stands : goal.returns-in-Some-Written-clause-stands
-returns-in-Some-Written-clause-stands g c =
-    let t = c.args.self.now.topics in
-    let u = c.finish-finished.new.self in
-    let stands = g.T.TopicStore.stands in
-    let v = g.T.TopicStore.view t.stores in
-    let d = g.S.Shelf.disk t.shelf in
-    let batch = c.in-Some-Written.batch in
-    let written = c.in-Some-Written.written in
-    let is : t.flight ≡ Some (flight.Written batch written) = search rules in
-    let is_for = (subst (λ (f : Option Flight). IsUnderWay t.core f) is t.under_way) in
-    λ h. subst (λ (f : Option Flight). Standing stands (phase_at u.failed (stage_of f)) u v d) (sym c.take.ensures.after)
-    (finish_standing stands t.core (works t.core batch is_for) v d (g.met.T.TopicStore.laws t.stores) (fits t.core batch is_for) written c.finish-finished.result u (c.finish-finished.ensures.step is_for.awaited)
-    (subst (λ (f : Option Flight). Standing stands (phase_at t.core.failed (stage_of f)) t.core v d) is h))
+pub returns-in-Some-clause-step : goal.returns-in-Some-clause-step
+returns-in-Some-clause-step g c =
+    let n = c.args.self.now in
+    let t = n.topics in
+    let k = c.args.topic in
+    let low : k < length t.held.items = omega (arith, c.if-topic-count.false, c.count.ensures) in
+    let h = c.index_mut.result.now in
+    let was = slice_get_read t.held.items (length t.held.items) k h refl low c.index_mut.ensures.value in
+    let next = c.finish.new.self in
+    let part = subst (λ r. IfSome r (λ ended. FinishesPart h.core (stage_of h.flight) ended next.core (stage_of next.flight))) c.in-Some.is c.finish.ensures.finished in
+    λ _. rw (c.only-in-Some.ensures, c.verdict_of_flush.ensures)
+    (working.finished t.per_ledger t.held.items k h next was low n.sessions.items n.used (g.S.Shelf.disk t.shelf).faults c.in-Some.finished part)
 
-pub returns-in-Some-Written-clause-numbered : goal.returns-in-Some-Written-clause-numbered
-returns-in-Some-Written-clause-numbered g c =
-    let t = c.args.self.now.topics in
-    let is : t.flight ≡ Some (flight.Written c.in-Some-Written.batch c.in-Some-Written.written) = search rules in
-    let is_for = (subst (λ (f : Option Flight). IsUnderWay t.core f) is t.under_way) in
-    finish_numbers t.core c.in-Some-Written.written c.finish-finished.result c.finish-finished.new.self (c.finish-finished.ensures.step is_for.awaited)
+pub returns-in-Some-clause-stands : goal.returns-in-Some-clause-stands
+returns-in-Some-clause-stands g c =
+    let n = c.args.self.now in
+    let t = n.topics in
+    let k = c.args.topic in
+    let low : k < length t.held.items = omega (arith, c.if-topic-count.false, c.count.ensures) in
+    let h = c.index_mut.result.now in
+    let was = slice_get_read t.held.items (length t.held.items) k h refl low c.index_mut.ensures.value in
+    let next = c.finish.new.self in
+    let disk = g.S.Shelf.disk in
+    let e = c.finish.ensures in
+    let part = subst (λ r. IfSome r (λ ended. FinishesPart h.core (stage_of h.flight) ended next.core (stage_of next.flight))) c.in-Some.is e.finished in
+    λ s. record {
+      honest = s.honest;
+      each = stand_beside disk t k h next was s (finish_stands g.met.T.TopicStore.laws h next (disk t.shelf) c.in-Some.finished e.stores part (s.each k h was));
+    }
+
+pub returns-in-None-clause-step : goal.returns-in-None-clause-step
+returns-in-None-clause-step g c =
+    let n = c.args.self.now in
+    let t = n.topics in
+    let k = c.args.topic in
+    let low : k < length t.held.items = omega (arith, c.if-topic-count.false, c.count.ensures) in
+    let h = c.index_mut.result.now in
+    let was = slice_get_read t.held.items (length t.held.items) k h refl low c.index_mut.ensures.value in
+    let next = c.finish.new.self in
+    let e = c.finish.ensures in
+    let same = e.same c.in-None.is in
+    λ _. rw c.only-in-None.ensures (working.none_finished t.per_ledger t.held.items k h next was low n.sessions.items n.used (g.S.Shelf.disk t.shelf).faults (e.unknown c.in-None.is) same.0 same.1)
+
+pub returns-in-None-clause-stands : goal.returns-in-None-clause-stands
+returns-in-None-clause-stands g c =
+    let n = c.args.self.now in
+    let t = n.topics in
+    let k = c.args.topic in
+    let low : k < length t.held.items = omega (arith, c.if-topic-count.false, c.count.ensures) in
+    let h = c.index_mut.result.now in
+    let was = slice_get_read t.held.items (length t.held.items) k h refl low c.index_mut.ensures.value in
+    let next = c.finish.new.self in
+    let disk = g.S.Shelf.disk in
+    let e = c.finish.ensures in
+    let same = e.same c.in-None.is in
+    λ s. record {
+      honest = s.honest;
+      each = stand_beside disk t k h next was s (held_same h next (disk t.shelf) e.stores same.0 same.1 (s.each k h was));
+    }

@@ -1,47 +1,95 @@
-use Rattle.std.proofs.Common.{subst, arith}
-use Rattle.disk.specs.Moments.{weaken}
-use Rattle.topic_core.specs.Standing.{Standing}
-use Rattle.node.specs.Standing.{phase_in, broker_of, StandsForBroker}
-use Rattle.node.specs.Flights.{stage_of}
-use Rattle.node.specs.Passing.{stands_so}
-use Rattle.node.proofs.Opening.{unknown_tells, reopen_tells}
-use Rattle.node.proofs.Steps.{reopens}
-use Rattle.node.proofs.UnderWay.{reopen_keeps}
+use Rattle.std.proofs.Common.{◌<◌, length, refl, ◌∙◌, arith}
+use Rattle.std.proofs.lemmas.List.{length-set}
+use Rattle.std.proofs.lemmas.Option.{slice_get_read}
+use Rattle.node.proofs.Frames.{keep_numbers, topic_was, topic_now, of_number, stand_then, of_number_within, leaves_same}
+use Rattle.session.specs.Broker.{topic_at}
+use Rattle.node.specs.State.{verdict_for}
+use Rattle.node.specs.Standing.{broker_of}
+use Rattle.node.specs.Opening.{ReopenTells}
+use Rattle.node.specs.Passing.{untouched}
+use Rattle.node.proofs.Opening.{unknown_tells, tells_at}
+use Rattle.node.proofs.Working as working
 use Rattle.node.proofs.node.Node.reopen.Goals as goal
+
+pub invariant_of-self : goal.invariant_of-self
+invariant_of-self g c =
+    let n = c.args.self.now in
+    let t = n.topics in
+    let k = c.args.topic in
+    let low : k < length t.held.items = omega (arith, c.if-topic-count.false, c.count.ensures) in
+    let h = c.index_mut.result.now in
+    let was = slice_get_read t.held.items (length t.held.items) k h refl low c.index_mut.ensures.value in
+    let next = c.reopen-reopened.new.self in
+    record {
+      numbered = keep_numbers t.per_ledger t.held.items k h next was t.per_ledger t.numbered c.reopen-reopened.ensures.numbered;
+      one = length-set t.held.items k next ∙ t.one;
+    }
 
 pub returns-clause-step : goal.returns-clause-step
 returns-clause-step g c =
     let n = c.args.self.now in
     let t = n.topics in
-    let disk = g.S.Shelf.disk in
+    let k = c.args.topic in
+    let low : k < length t.held.items = omega (arith, c.if-topic-count.false, c.count.ensures) in
+    let h = c.index_mut.result.now in
+    let was = slice_get_read t.held.items (length t.held.items) k h refl low c.index_mut.ensures.value in
+    let next = c.reopen-reopened.new.self in
     let e = c.reopen-reopened.ensures in
-    λ h. rw (c.only-2.ensures, c.verdict_for.ensures)
-    (reopens t.core.per_ledger c.reopen-reopened.new.self.per_ledger t.core c.reopen-reopened.new.self (stage_of t.flight) n.sessions.items n.used (disk t.shelf).faults (disk c.reopen-reopened.new.shelf).faults c.args.topic
-    (omega (arith, c.if-topic-ne0.false)) e.per_ledger e.kept.faults c.reopen-reopened.result (e.step (phase_in t) h) e.cause)
+    λ s. rw (c.only-2.ensures, c.verdict_for.ensures)
+    (working.reopened t.per_ledger t.held.items k h next was low n.sessions.items n.used (g.S.Shelf.disk t.shelf).faults (g.S.Shelf.disk c.reopen-reopened.new.shelf).faults e.kept.faults c.reopen-reopened.result (e.step (s.each k h was)) e.stage e.cause)
 
 pub returns-clause-stands : goal.returns-clause-stands
 returns-clause-stands g c =
-    let t = c.args.self.now.topics in
+    let n = c.args.self.now in
+    let t = n.topics in
+    let k = c.args.topic in
+    let low : k < length t.held.items = omega (arith, c.if-topic-count.false, c.count.ensures) in
+    let h = c.index_mut.result.now in
+    let was = slice_get_read t.held.items (length t.held.items) k h refl low c.index_mut.ensures.value in
+    let next = c.reopen-reopened.new.self in
+    let disk = g.S.Shelf.disk in
+    let d1 = disk c.reopen-reopened.new.shelf in
     let e = c.reopen-reopened.ensures in
-    let new = c.reopen-reopened.new.self in
-    λ h. subst (λ p. Standing g.T.TopicStore.stands p new (g.T.TopicStore.view c.reopen-reopened.new.stores) (g.S.Shelf.disk c.reopen-reopened.new.shelf)) (reopen_keeps t.core new t.flight t.under_way e.works).phase (e.standing (phase_in t) h)
+    λ s. let here = e.stands (s.each k h was) in record {
+      honest = here.honest;
+      each = stand_then disk g.met.T.TopicStore.laws g.met.T.TopicStore.stands_local t k h next was _ d1 (of_number_within t k h was _ _ _ (e.within (s.each k h was))) here s;
+    }
 
 pub returns-clause-any_moment : goal.returns-clause-any_moment
 returns-clause-any_moment g c =
-    let t = c.args.self.now.topics in
+    let n = c.args.self.now in
+    let t = n.topics in
+    let k = c.args.topic in
+    let low : k < length t.held.items = omega (arith, c.if-topic-count.false, c.count.ensures) in
+    let h = c.index_mut.result.now in
+    let was = slice_get_read t.held.items (length t.held.items) k h refl low c.index_mut.ensures.value in
+    let next = c.reopen-reopened.new.self in
     let disk = g.S.Shelf.disk in
-    λ h. weaken (disk t.shelf).may_leave (StandsForBroker g.T.TopicStore.stands (broker_of t)) (disk t.shelf) (disk c.reopen-reopened.new.shelf) (c.reopen-reopened.ensures.any_moment h.honest) (stands_so disk t h)
+    let d1 = disk c.reopen-reopened.new.shelf in
+    λ s. leaves_same disk g.met.T.TopicStore.laws g.met.T.TopicStore.stands_local t k h next was d1 (of_number_within t k h was _ _ _ (c.reopen-reopened.ensures.within (s.each k h was))) s
 
-pub returns-then-topic-ne0-clause-tells : goal.returns-then-topic-ne0-clause-tells
-returns-then-topic-ne0-clause-tells g c =
+pub returns-then-topic-count-clause-any_moment : goal.returns-then-topic-count-clause-any_moment
+returns-then-topic-count-clause-any_moment g c = λ s. untouched g.S.Shelf.disk c.args.self.now.topics _ s refl
+
+pub returns-then-topic-count-clause-tells : goal.returns-then-topic-count-clause-tells
+returns-then-topic-count-clause-tells g c =
     let t = c.args.self.now.topics in
-    let disk = g.S.Shelf.disk in
-    rw c.only.ensures (unknown_tells g.T.TopicStore.stands g.T.TopicStore.faulty t.core t.core (disk t.shelf) (disk t.shelf))
+    let d = g.S.Shelf.disk t.shelf in
+    rw c.only.ensures (unknown_tells g.T.TopicStore.stands g.T.TopicStore.faulty c.args.topic (topic_at (broker_of t) c.args.topic) (topic_at (broker_of t) c.args.topic) d d)
 
 pub returns-clause-tells : goal.returns-clause-tells
 returns-clause-tells g c =
-    let t = c.args.self.now.topics in
-    let disk = g.S.Shelf.disk in
-    let e = c.reopen-reopened.ensures in
+    let n = c.args.self.now in
+    let t = n.topics in
+    let k = c.args.topic in
+    let low : k < length t.held.items = omega (arith, c.if-topic-count.false, c.count.ensures) in
+    let h = c.index_mut.result.now in
+    let was = slice_get_read t.held.items (length t.held.items) k h refl low c.index_mut.ensures.value in
+    let next = c.reopen-reopened.new.self in
+    let d0 = g.S.Shelf.disk t.shelf in
+    let d1 = g.S.Shelf.disk c.reopen-reopened.new.shelf in
+    let stands = g.T.TopicStore.stands in
+    let faulty = g.T.TopicStore.faulty in
     rw (c.only-2.ensures, c.verdict_for.ensures)
-    (reopen_tells g.T.TopicStore.stands g.T.TopicStore.faulty t.core c.reopen-reopened.new.self (disk t.shelf) (disk c.reopen-reopened.new.shelf) (g.T.TopicStore.view t.stores).topic t.number c.reopen-reopened.result e.cause e.found e.told)
+    (tells_at stands faulty k h.core next.core _ _ (topic_was t.per_ledger t.held.items k h next was) (topic_now t.per_ledger t.held.items k h next was) d0 d1 (verdict_for c.reopen-reopened.result)
+    (of_number t k h was (λ i. ReopenTells stands faulty i h.core next.core d0 d1 (verdict_for c.reopen-reopened.result)) c.reopen-reopened.ensures.tells))

@@ -1,42 +1,48 @@
-use Rattle.std.proofs.Common.{◌≡◌, Ok, Err, Some, None, sym, subst, rules, arith}
-use Rattle.topic_core.specs.State.{Topic}
-use Rattle.topic_core.specs.Flush as topics
-use Rattle.topic_core.specs.Standing.{Before, Standing}
-use Rattle.topic_core.proofs.Standings.{standing_handed_on}
-use Rattle.node.specs.Flights.{stage_of}
-use Rattle.node.proofs.Steps.{takes}
-use Rattle.node.proofs.UnderWay.{takes_before}
+use Rattle.std.proofs.Common.{◌<◌, length, refl, ◌∙◌, arith}
+use Rattle.std.proofs.lemmas.List.{length-set}
+use Rattle.std.proofs.lemmas.Option.{slice_get_read}
+use Rattle.node.proofs.Frames.{keep_numbers, stand_beside, take_stands}
+use Rattle.node.proofs.Working as working
 use Rattle.node.proofs.node.Node.take.Goals as goal
 
-pub returns-in-Ok-Some-clause-step : goal.returns-in-Ok-Some-clause-step
-returns-in-Ok-Some-clause-step g c =
+pub invariant_of-self : goal.invariant_of-self
+invariant_of-self g c =
     let n = c.args.self.now in
     let t = n.topics in
-    λ _. rw c.only-in-Ok-Some.ensures
-    (takes t.core c.take_batch.new.self (stage_of t.flight) n.sessions.items n.used (g.S.Shelf.disk t.shelf).faults c.args.topic (omega (arith, c.if-topic-ne0.false)) c.take_batch.result (Ok (Some c.in-Ok-Some.batch)) (search rules) c.take_batch.ensures.step)
+    let k = c.args.topic in
+    let low : k < length t.held.items = omega (arith, c.if-topic-count.false, c.count.ensures) in
+    let h = c.index_mut.result.now in
+    let was = slice_get_read t.held.items (length t.held.items) k h refl low c.index_mut.ensures.value in
+    let next = c.take-taken.new.self in
+    record {
+      numbered = keep_numbers t.per_ledger t.held.items k h next was t.per_ledger t.numbered c.take-taken.ensures.numbered;
+      one = length-set t.held.items k next ∙ t.one;
+    }
 
-pub returns-in-Ok-Some-clause-stands : goal.returns-in-Ok-Some-clause-stands
-returns-in-Ok-Some-clause-stands g c =
-    let t = c.args.self.now.topics in
-    let u = c.take_batch.new.self in
-    let stands = g.T.TopicStore.stands in
-    let v = g.T.TopicStore.view t.stores in
-    let d = g.S.Shelf.disk t.shelf in
-    let is : c.take_batch.result ≡ Ok (Some c.in-Ok-Some.batch) = search rules in
-    let taken = subst (λ r. topics.TakeStep t.core r u) is c.take_batch.ensures.step in
-    λ h. subst (λ (k : Topic). Standing stands Before k v d) (sym taken.2)
-    (standing_handed_on stands t.core v d (g.met.T.TopicStore.laws t.stores) (subst (λ p. Standing stands p t.core v d) (takes_before t.core t.flight t.under_way taken.0 taken.1) h))
-
-pub returns-in-Ok-None-clause-step : goal.returns-in-Ok-None-clause-step
-returns-in-Ok-None-clause-step g c =
+pub returns-clause-step : goal.returns-clause-step
+returns-clause-step g c =
     let n = c.args.self.now in
     let t = n.topics in
-    λ _. rw c.only-in-Ok-None.ensures
-    (takes t.core c.take_batch.new.self (stage_of t.flight) n.sessions.items n.used (g.S.Shelf.disk t.shelf).faults c.args.topic (omega (arith, c.if-topic-ne0.false)) c.take_batch.result (Ok None) (search rules) c.take_batch.ensures.step)
+    let k = c.args.topic in
+    let low : k < length t.held.items = omega (arith, c.if-topic-count.false, c.count.ensures) in
+    let h = c.index_mut.result.now in
+    let was = slice_get_read t.held.items (length t.held.items) k h refl low c.index_mut.ensures.value in
+    let next = c.take-taken.new.self in
+    λ _. rw (c.only-2.ensures, c.verdict_of_flush.ensures)
+    (working.taken t.per_ledger t.held.items k h next was low n.sessions.items n.used (g.S.Shelf.disk t.shelf).faults c.take-taken.result c.take-taken.ensures.step)
 
-pub returns-in-Err-clause-step : goal.returns-in-Err-clause-step
-returns-in-Err-clause-step g c =
+pub returns-clause-stands : goal.returns-clause-stands
+returns-clause-stands g c =
     let n = c.args.self.now in
     let t = n.topics in
-    λ _. rw (c.only-in-Err.ensures, c.into.ensures)
-    (takes t.core c.take_batch.new.self (stage_of t.flight) n.sessions.items n.used (g.S.Shelf.disk t.shelf).faults c.args.topic (omega (arith, c.if-topic-ne0.false)) c.take_batch.result (Err c.in-Err.why) (search rules) c.take_batch.ensures.step)
+    let k = c.args.topic in
+    let low : k < length t.held.items = omega (arith, c.if-topic-count.false, c.count.ensures) in
+    let h = c.index_mut.result.now in
+    let was = slice_get_read t.held.items (length t.held.items) k h refl low c.index_mut.ensures.value in
+    let next = c.take-taken.new.self in
+    let disk = g.S.Shelf.disk in
+    let e = c.take-taken.ensures in
+    λ s. record {
+      honest = s.honest;
+      each = stand_beside disk t k h next was s (take_stands g.met.T.TopicStore.laws h next (disk t.shelf) c.take-taken.result e.stores e.step (s.each k h was));
+    }

@@ -1,73 +1,116 @@
-use Rattle.std.proofs.Common.{◌≡◌, ◌++◌, Some, ap, subst, rules, arith}
-use Rattle.std.specs.Prelude.{Option, OnOk}
-use Rattle.disk.specs.Disk.{Leaves}
-use Rattle.disk.specs.Areas.{OfTopic, own_files}
-use Rattle.records.specs.Records.{after_all}
-use Rattle.topic_stores.specs.Views.{Settled}
-use Rattle.topic_stores.specs.Writing.{StandsFor}
-use Rattle.topic_core.specs.Crashes.{IsLeft}
-use Rattle.topic_core.specs.Standing.{Match, Standing}
-use Rattle.topic_core.proofs.Standings.{batch_fits, written_standing, within_is}
-use Rattle.node.specs.Flights.{stage_of, phase_at, IsUnderWay}
-use Rattle.node.specs.declared.flight.Flight.{Flight}
-use Rattle.node.specs.declared.flight.Flight.TheVariants as flight
-use Rattle.node.proofs.Steps.{writes}
-use Rattle.node.proofs.UnderWay.{fits}
+use Rattle.std.proofs.Common.{◌≡◌, ◌<◌, length, Some, refl, ap, subst, ◌∙◌, arith}
+use Rattle.std.proofs.lemmas.List.{length-set}
+use Rattle.std.proofs.lemmas.Option.{slice_get_read}
+use Rattle.node.proofs.Frames.{keep_numbers, stand_then, of_number_within, leaves_same}
+use Rattle.std.specs.Prelude.{IfSome, Result}
+use Rattle.topic_stores.specs.declared.error.WriteError.{WriteError}
+use Rattle.node.specs.Flights.{stage_of}
+use Rattle.node.specs.State.{Taken, Written}
+use Rattle.node.specs.Passing.{untouched}
+use Rattle.node.proofs.Working as working
 use Rattle.node.proofs.node.Node.write.Goals as goal
 
-pub write-written-requires : goal.write-written-requires
-write-written-requires g c =
-    let t = c.args.self.now.topics in
-    let v = g.T.TopicStore.view t.stores in
-    let batch = c.in-Some-Taken.batch in
-    let is : t.flight ≡ Some (flight.Taken batch) = search rules in
-    let is_for = (subst (λ (f : Option Flight). IsUnderWay t.core f) is t.under_way) in
-    record { fits = batch_fits g.T.TopicStore.stands t.core batch is_for (fits t.core batch is_for) v (subst (λ (f : Option Flight). Match (phase_at t.core.failed (stage_of f)) t.core v) is t.matched) }
-
-pub returns-in-Some-Taken-clause-step : goal.returns-in-Some-Taken-clause-step
-returns-in-Some-Taken-clause-step g c =
+pub invariant_of-self : goal.invariant_of-self
+invariant_of-self g c =
     let n = c.args.self.now in
     let t = n.topics in
-    let v = g.T.TopicStore.view t.stores in
+    let k = c.args.topic in
+    let low : k < length t.held.items = omega (arith, c.if-topic-count.false, c.count.ensures) in
+    let h = c.index_mut.result.now in
+    let was = slice_get_read t.held.items (length t.held.items) k h refl low c.index_mut.ensures.value in
+    let next = c.write.new.self in
+    record {
+      numbered = keep_numbers t.per_ledger t.held.items k h next was t.per_ledger t.numbered c.write.ensures.numbered;
+      one = length-set t.held.items k next ∙ t.one;
+    }
+
+pub returns-in-Some-clause-step : goal.returns-in-Some-clause-step
+returns-in-Some-clause-step g c =
+    let n = c.args.self.now in
+    let t = n.topics in
+    let k = c.args.topic in
+    let low : k < length t.held.items = omega (arith, c.if-topic-count.false, c.count.ensures) in
+    let h = c.index_mut.result.now in
+    let was = slice_get_read t.held.items (length t.held.items) k h refl low c.index_mut.ensures.value in
+    let next = c.write.new.self in
+    let e = c.write.ensures in
+    let stages = subst (λ r. IfSome r (λ (ended : Result (Unit {0}) WriteError). (stage_of h.flight ≡ Taken) × (stage_of next.flight ≡ Written ended))) c.in-Some.is e.written in
+    λ _. rw (c.only-in-Some.ensures, c.verdict_of_flush.ensures)
+    (working.written t.per_ledger t.held.items k h next was low n.sessions.items n.used (g.S.Shelf.disk t.shelf).faults (g.S.Shelf.disk c.write.new.shelf).faults e.kept.faults c.in-Some.written e.core stages.0 stages.1
+    (λ failed. e.cause (c.in-Some.is ∙ ap (λ r. Some r) failed)))
+
+pub returns-in-Some-clause-stands : goal.returns-in-Some-clause-stands
+returns-in-Some-clause-stands g c =
+    let n = c.args.self.now in
+    let t = n.topics in
+    let k = c.args.topic in
+    let low : k < length t.held.items = omega (arith, c.if-topic-count.false, c.count.ensures) in
+    let h = c.index_mut.result.now in
+    let was = slice_get_read t.held.items (length t.held.items) k h refl low c.index_mut.ensures.value in
+    let next = c.write.new.self in
     let disk = g.S.Shelf.disk in
-    let e = c.write-written.ensures in
-    let is : t.flight ≡ Some (flight.Taken c.in-Some-Taken.batch) = search rules in
-    let m = subst (λ (f : Option Flight). Match (phase_at t.core.failed (stage_of f)) t.core v) is t.matched in
-    λ _. rw (c.only-in-Some-Taken.ensures, c.verdict_of_flush-verdict.ensures)
-    (writes t.core.per_ledger t.core (stage_of t.flight) n.sessions.items n.used (disk t.shelf).faults (disk c.write-written.new.shelf).faults c.args.topic (omega (arith, c.if-topic-ne0.false)) e.kept.faults
-    c.write-written.result (ap (λ (f : Option Flight). stage_of f) is) (e.cause m.remembers.works))
+    let d1 = disk c.write.new.shelf in
+    let e = c.write.ensures in
+    λ s. let here = e.stands (s.each k h was) in record {
+      honest = here.honest;
+      each = stand_then disk g.met.T.TopicStore.laws g.met.T.TopicStore.stands_local t k h next was _ d1 (of_number_within t k h was _ _ _ (e.within (s.each k h was))) here s;
+    }
 
-pub returns-in-Some-Taken-clause-stands : goal.returns-in-Some-Taken-clause-stands
-returns-in-Some-Taken-clause-stands g c =
-    let t = c.args.self.now.topics in
-    let stands = g.T.TopicStore.stands in
-    let v = g.T.TopicStore.view t.stores in
-    let w = g.T.TopicStore.view c.write-written.new.self in
-    let d0 = g.S.Shelf.disk t.shelf in
-    let d1 = g.S.Shelf.disk c.write-written.new.shelf in
-    let batch = c.in-Some-Taken.batch in
-    let e = c.write-written.ensures in
-    let is : t.flight ≡ Some (flight.Taken batch) = search rules in
-    let is_for = (subst (λ (f : Option Flight). IsUnderWay t.core f) is t.under_way) in
-    λ h.
-    let now = subst (λ (f : Option Flight). Standing stands (phase_at t.core.failed (stage_of f)) t.core v d0) is h in
-    written_standing stands t.core batch is_for (fits t.core batch is_for) v w d0 d1 e.topic c.write-written.result now e.kept e.remembers
-    (λ done ok. subst (λ r. OnOk r (Settled w d1 (t.core.ledger ++ batch.entries.items) (after_all batch.changes.items t.core.kept))) ok (e.written t.core.ledger t.core.kept now.holds))
-    (λ none. e.unwritten t.core.ledger t.core.kept now.holds none) (e.within t.core.ledger t.core.kept now.holds)
+pub returns-in-Some-clause-any_moment : goal.returns-in-Some-clause-any_moment
+returns-in-Some-clause-any_moment g c =
+    let n = c.args.self.now in
+    let t = n.topics in
+    let k = c.args.topic in
+    let low : k < length t.held.items = omega (arith, c.if-topic-count.false, c.count.ensures) in
+    let h = c.index_mut.result.now in
+    let was = slice_get_read t.held.items (length t.held.items) k h refl low c.index_mut.ensures.value in
+    let next = c.write.new.self in
+    let disk = g.S.Shelf.disk in
+    let d1 = disk c.write.new.shelf in
+    λ s. leaves_same disk g.met.T.TopicStore.laws g.met.T.TopicStore.stands_local t k h next was d1 (of_number_within t k h was _ _ _ (c.write.ensures.within (s.each k h was))) s
 
-pub returns-in-Some-Taken-clause-any_moment : goal.returns-in-Some-Taken-clause-any_moment
-returns-in-Some-Taken-clause-any_moment g c =
-    let t = c.args.self.now.topics in
-    let stands = g.T.TopicStore.stands in
-    let v = g.T.TopicStore.view t.stores in
-    let w = g.T.TopicStore.view c.write-written.new.self in
-    let d0 = g.S.Shelf.disk t.shelf in
-    let d1 = g.S.Shelf.disk c.write-written.new.shelf in
-    let batch = c.in-Some-Taken.batch in
-    let e = c.write-written.ensures in
-    let is : t.flight ≡ Some (flight.Taken batch) = search rules in
-    let is_for = (subst (λ (f : Option Flight). IsUnderWay t.core f) is t.under_way) in
-    λ h.
-    let now = subst (λ (f : Option Flight). Standing stands (phase_at t.core.failed (stage_of f)) t.core v d0) is h in
-    subst (λ k. Leaves (StandsFor (stands k) (IsLeft t.core)) d0 d1) t.number
-    (own_files (OfTopic v.topic) (StandsFor (stands v.topic) (IsLeft t.core)) d0 d1 (within_is stands t.core batch is_for (fits t.core batch is_for) v w d0 d1 e.topic (e.within t.core.ledger t.core.kept now.holds)))
+pub returns-in-None-clause-step : goal.returns-in-None-clause-step
+returns-in-None-clause-step g c =
+    let n = c.args.self.now in
+    let t = n.topics in
+    let k = c.args.topic in
+    let low : k < length t.held.items = omega (arith, c.if-topic-count.false, c.count.ensures) in
+    let h = c.index_mut.result.now in
+    let was = slice_get_read t.held.items (length t.held.items) k h refl low c.index_mut.ensures.value in
+    let next = c.write.new.self in
+    let e = c.write.ensures in
+    let same = e.same c.in-None.is in
+    λ _. rw c.only-in-None.ensures (working.none_written t.per_ledger t.held.items k h next was low n.sessions.items n.used (g.S.Shelf.disk t.shelf).faults (e.unknown c.in-None.is) e.core same.0 (g.S.Shelf.disk c.write.new.shelf).faults (ap (λ s. (g.S.Shelf.disk s).faults) same.1))
+
+pub returns-in-None-clause-stands : goal.returns-in-None-clause-stands
+returns-in-None-clause-stands g c =
+    let n = c.args.self.now in
+    let t = n.topics in
+    let k = c.args.topic in
+    let low : k < length t.held.items = omega (arith, c.if-topic-count.false, c.count.ensures) in
+    let h = c.index_mut.result.now in
+    let was = slice_get_read t.held.items (length t.held.items) k h refl low c.index_mut.ensures.value in
+    let next = c.write.new.self in
+    let disk = g.S.Shelf.disk in
+    let d1 = disk c.write.new.shelf in
+    let e = c.write.ensures in
+    λ s. let here = e.stands (s.each k h was) in record {
+      honest = here.honest;
+      each = stand_then disk g.met.T.TopicStore.laws g.met.T.TopicStore.stands_local t k h next was _ d1 (of_number_within t k h was _ _ _ (e.within (s.each k h was))) here s;
+    }
+
+pub returns-in-None-clause-any_moment : goal.returns-in-None-clause-any_moment
+returns-in-None-clause-any_moment g c =
+    let n = c.args.self.now in
+    let t = n.topics in
+    let k = c.args.topic in
+    let low : k < length t.held.items = omega (arith, c.if-topic-count.false, c.count.ensures) in
+    let h = c.index_mut.result.now in
+    let was = slice_get_read t.held.items (length t.held.items) k h refl low c.index_mut.ensures.value in
+    let next = c.write.new.self in
+    let disk = g.S.Shelf.disk in
+    let d1 = disk c.write.new.shelf in
+    λ s. leaves_same disk g.met.T.TopicStore.laws g.met.T.TopicStore.stands_local t k h next was d1 (of_number_within t k h was _ _ _ (c.write.ensures.within (s.each k h was))) s
+
+pub returns-then-topic-count-clause-any_moment : goal.returns-then-topic-count-clause-any_moment
+returns-then-topic-count-clause-any_moment g c = λ s. untouched g.S.Shelf.disk c.args.self.now.topics _ s refl

@@ -1,11 +1,25 @@
+use Rattle.std.proofs.Common.{length, refl, ap, ◌∙◌}
+use Rattle.std.proofs.lemmas.List.{length-set}
+use Rattle.std.proofs.lemmas.Option.{slice_get_read}
 use Rattle.node.specs.Passing.{passes_core}
-use Rattle.node.proofs.Ports.{collects}
+use Rattle.node.proofs.Frames.{keep_numbers}
 use Rattle.node.proofs.port.TopicsPort.collect.Goals as goal
 
-pub returns-clause-step : goal.returns-clause-step
-returns-clause-step g c =
+pub invariant_of-self : goal.invariant_of-self
+invariant_of-self g c =
+    let t = c.args.self.now in
+    let h = c.index_mut.result.now in
+    let was = slice_get_read t.held.items (length t.held.items) c.args.topic h refl c.requires c.index_mut.ensures.value in
     let e = c.collect.ensures in
-    λ _. collects c.args.self.now.core c.collect.new.self e.goes_on.per_ledger c.args._topic c.requires c.args.who c.collect.result e.step
+    record {
+      numbered = keep_numbers t.per_ledger t.held.items c.args.topic h c.collect.new.self was t.per_ledger t.numbered (ap (λ s. (g.T.TopicStore.view s).topic) e.rest.0, e.goes_on.per_ledger);
+      one = length-set t.held.items c.args.topic c.collect.new.self ∙ t.one;
+    }
 
 pub returns-clause-passes : goal.returns-clause-passes
-returns-clause-passes g c = passes_core g.S.Shelf.disk c.args.self.now c.collect.new.self _ _ _ c.collect.ensures.goes_on
+returns-clause-passes g c =
+    let t = c.args.self.now in
+    let h = c.index_mut.result.now in
+    let was = slice_get_read t.held.items (length t.held.items) c.args.topic h refl c.requires c.index_mut.ensures.value in
+    let e = c.collect.ensures in
+    passes_core g.S.Shelf.disk t _ c.args.topic h c.collect.new.self was refl refl e.rest.0 e.rest.1 e.goes_on refl

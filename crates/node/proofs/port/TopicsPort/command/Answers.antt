@@ -1,11 +1,25 @@
+use Rattle.std.proofs.Common.{length, refl, ap, ◌∙◌}
+use Rattle.std.proofs.lemmas.List.{length-set}
+use Rattle.std.proofs.lemmas.Option.{slice_get_read}
 use Rattle.node.specs.Passing.{passes_core}
-use Rattle.node.proofs.Ports.{commands}
+use Rattle.node.proofs.Frames.{keep_numbers}
 use Rattle.node.proofs.port.TopicsPort.command.Goals as goal
 
-pub returns-clause-step : goal.returns-clause-step
-returns-clause-step g c =
+pub invariant_of-self : goal.invariant_of-self
+invariant_of-self g c =
+    let t = c.args.self.now in
+    let h = c.index_mut.result.now in
+    let was = slice_get_read t.held.items (length t.held.items) c.args.topic h refl c.requires c.index_mut.ensures.value in
     let e = c.command.ensures in
-    λ _. commands c.args.self.now.core c.command.new.self e.goes_on.per_ledger c.args._topic c.requires c.args.who c.args.command c.command.result e.step
+    record {
+      numbered = keep_numbers t.per_ledger t.held.items c.args.topic h c.command.new.self was t.per_ledger t.numbered (ap (λ s. (g.T.TopicStore.view s).topic) e.rest.0, e.goes_on.per_ledger);
+      one = length-set t.held.items c.args.topic c.command.new.self ∙ t.one;
+    }
 
 pub returns-clause-passes : goal.returns-clause-passes
-returns-clause-passes g c = passes_core g.S.Shelf.disk c.args.self.now c.command.new.self _ _ _ c.command.ensures.goes_on
+returns-clause-passes g c =
+    let t = c.args.self.now in
+    let h = c.index_mut.result.now in
+    let was = slice_get_read t.held.items (length t.held.items) c.args.topic h refl c.requires c.index_mut.ensures.value in
+    let e = c.command.ensures in
+    passes_core g.S.Shelf.disk t _ c.args.topic h c.command.new.self was refl refl e.rest.0 e.rest.1 e.goes_on refl

@@ -1,22 +1,47 @@
-use Rattle.node.specs.Flights.{stage_of}
-use Rattle.node.specs.Standing.{TopicsStand, phase_in}
+use Rattle.std.proofs.Common.{length, refl, ap, ◌∙◌}
+use Rattle.std.proofs.lemmas.List.{length-set}
+use Rattle.std.proofs.lemmas.Option.{slice_get_read}
 use Rattle.node.specs.Passing.{passes_read}
-use Rattle.node.proofs.Ports.{dispatches, refusals}
+use Rattle.node.proofs.Frames.{keep_numbers, topic_was, topic_now, becomes, stage_was}
+use Rattle.node.proofs.Ports.{dispatches, refuses_at}
+use Rattle.node.specs.Flights.{stage_of}
+use Rattle.node.specs.Standing.{TopicsStand, HeldStands, stages_of}
 use Rattle.node.proofs.port.TopicsPort.dispatch.Goals as goal
 
-pub returns-clause-step : goal.returns-clause-step
-returns-clause-step g c =
+pub invariant_of-self : goal.invariant_of-self
+invariant_of-self g c =
     let t = c.args.self.now in
+    let h = c.index_mut.result.now in
+    let was = slice_get_read t.held.items (length t.held.items) c.args.topic h refl c.requires c.index_mut.ensures.value in
     let e = c.dispatch.ensures in
-    λ h. dispatches t.core c.dispatch.new.self e.goes_on.per_ledger c.args._topic c.requires c.args.who c.args.consumer_id c.dispatch.result (e.step (phase_in t) h)
+    record {
+      numbered = keep_numbers t.per_ledger t.held.items c.args.topic h c.dispatch.new.self was t.per_ledger t.numbered (ap (λ s. (g.T.TopicStore.view s).topic) e.rest.0, e.goes_on.per_ledger);
+      one = length-set t.held.items c.args.topic c.dispatch.new.self ∙ t.one;
+    }
 
 pub returns-clause-passes : goal.returns-clause-passes
 returns-clause-passes g c =
+    let t = c.args.self.now in
+    let h = c.index_mut.result.now in
+    let was = slice_get_read t.held.items (length t.held.items) c.args.topic h refl c.requires c.index_mut.ensures.value in
     let e = c.dispatch.ensures in
-    passes_read g.S.Shelf.disk c.args.self.now c.dispatch.new.self _ _ _ e.goes_on c.dispatch.new.shelf (record { seen = e.seen; any_moment = e.any_moment; kept = e.kept })
+    passes_read g.S.Shelf.disk t _ c.args.topic h c.dispatch.new.self was refl refl e.rest.0 e.rest.1 e.goes_on (record { seen = e.seen; any_moment = e.any_moment; kept = e.kept })
+
+pub returns-clause-step : goal.returns-clause-step
+returns-clause-step g c = λ stands.
+    let t = c.args.self.now in
+    let k = c.args.topic in
+    let h = c.index_mut.result.now in
+    let next = c.dispatch.new.self in
+    let was = slice_get_read t.held.items (length t.held.items) k h refl c.requires c.index_mut.ensures.value in
+    dispatches _ _ k h.core next.core (topic_was t.per_ledger t.held.items k h next was) (topic_now t.per_ledger t.held.items k h next was) (becomes t.per_ledger t.held.items k h next was) c.args.who c.args.consumer_id c.dispatch.result
+    (c.dispatch.ensures.step (stands.each k h was))
 
 pub returns-clause-refused : goal.returns-clause-refused
 returns-clause-refused g c =
     let t = c.args.self.now in
-    let e = c.dispatch.ensures in
-    refusals (TopicsStand g.S.Shelf.disk t) (stage_of t.flight) _ _ t.core c.dispatch.new.self _ c.args.who c.args.consumer_id c.dispatch.result t.matched e.works e.cause (e.step (phase_in t))
+    let k = c.args.topic in
+    let h = c.index_mut.result.now in
+    let was = slice_get_read t.held.items (length t.held.items) k h refl c.requires c.index_mut.ensures.value in
+    let disk = g.S.Shelf.disk in
+    refuses_at (HeldStands h (disk t.shelf)) (TopicsStand disk t) (stages_of t) k (stage_of h.flight) _ _ c.dispatch.result (stage_was t.per_ledger t.held.items k h c.dispatch.new.self was) (λ stands. stands.each k h was) c.dispatch.ensures.refused

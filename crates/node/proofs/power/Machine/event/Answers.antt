@@ -3,10 +3,10 @@ use Rattle.session.specs.Broker.{Broker}
 use Rattle.disk.specs.Disk.{Leaves}
 use Rattle.node.specs.Standing.{state_of, StandsForBroker}
 use Rattle.node.specs.Cuts.{amid_event}
-use Rattle.node.specs.Driving.{Holds, disk_in}
+use Rattle.node.specs.Driving.{Holds, IsServed, disk_in}
 use Rattle.node.specs.Runs.{Life, EventIn}
 use Rattle.node.specs.declared.power.Machine.TheVariants as machine
-use Rattle.node.proofs.Restarts.{serves, down_leaves_so}
+use Rattle.node.proofs.Restarts.{node_serves, down_leaves_so}
 use Rattle.node.proofs.power.Machine.event.Goals as goal
 
 pub returns-in-Up-clause-step : goal.returns-in-Up-clause-step
@@ -17,7 +17,7 @@ returns-in-Up-clause-step g c = λ n old holds.
     let numbered = c.step.ensures.numbered h.0 ∙ ap (λ (l : Life). l.state.broker.per_ledger) (sym h.1) ∙ ap (λ (b : Broker). b.per_ledger) h.2.broker in (
       life,
       subst (λ (l : Life). EventIn l.up l c.args.event c.step.result life) (sym h.1) (refl, c.step.ensures.step h.0),
-      (c.step.ensures.stands h.0, refl, serves n next c.step.new.self.topics.core.per_ledger c.step.new.self.topics.core refl refl numbered),
+      (c.step.ensures.stands h.0, refl, subst (λ m. IsServed m next) numbered (node_serves g.S.Shelf.disk c.step.new.self)),
     )
 
 pub returns-in-Up-clause-any_moment : goal.returns-in-Up-clause-any_moment

@@ -1,6 +1,6 @@
 use Rattle.std.proofs.Common.{refl, true}
 use Rattle.node.specs.Standing.{state_of}
-use Rattle.node.proofs.Restarts.{down, refused_opening, rests_later, served_later, crash_serves, start_leaves}
+use Rattle.node.proofs.Restarts.{down, refused_opening, rests_later, served_later, crash_serves, node_serves, start_leaves}
 use Rattle.node.proofs.power.Machine.start.Goals as goal
 
 pub returns-in-Ok-clause-step : goal.returns-in-Ok-clause-step
@@ -9,12 +9,12 @@ returns-in-Ok-clause-step g c = λ old rest served.
     let state = state_of g.S.Shelf.disk c.in-Ok.node in (
       record { up = true; state = state },
       rw c.only.ensures (refl, record { up = refl; crash = h.1 }),
-      (h.0, refl, crash_serves c.args.per_ledger old state c.in-Ok.node.topics.core.per_ledger c.in-Ok.node.topics.core served h.1 refl refl),
+      (h.0, refl, crash_serves c.args.per_ledger old state c.in-Ok.node.topics.per_ledger served h.1 refl (node_serves g.S.Shelf.disk c.in-Ok.node)),
     )
 
 pub returns-in-Err-clause-step : goal.returns-in-Err-clause-step
 returns-in-Err-clause-step g c = λ old rest served.
-    let h = c.in-Err.ensures.refused old rest in
+    let h = c.in-Err.ensures.refused old rest served in
     let d0 = g.S.Shelf.disk c.args.shelf in
     let d = g.S.Shelf.disk c.in-Err.shelf in (
       down old d,
