@@ -196,7 +196,7 @@ fn crashed(alloc: Global, machine: MemMachine) -> (MemMachine, Output) {
 
 /// How many entries the topic has, where the node is up.
 fn entries(machine: &MemMachine) -> Result<Option<u64>, Refusal> {
-    match machine.status()? {
+    match machine.status(0)? {
         Some(status) => Ok(Some(status.entries)),
         None => Ok(None),
     }

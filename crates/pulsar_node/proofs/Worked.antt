@@ -11,7 +11,8 @@ use Rattle.disk.specs.declared.crash_shelf.Fuse.{Fuse}
 use Rattle.disk.specs.Laid.{after_arm}
 use Rattle.disk_mem.specs.declared.shelf.MemShelf.{MemShelf}
 use Rattle.disk_mem.specs.Device.{laid, LeftAs}
-use Rattle.node.specs.State.{State}
+use Rattle.session.specs.Broker.{Broker}
+use Rattle.node.specs.State.{State, place_in}
 use Rattle.node.specs.Driving as node
 use Rattle.node.specs.declared.status.TopicStatus.{TopicStatus}
 use Rattle.script.specs.declared.line.Line.{Line}
@@ -133,25 +134,32 @@ module _ (old : Moment) (before device : MemShelf) (is : old.device ≡ before) 
 abbrev pub lines_of : TopicStatus → List ℕ
 lines_of status = status_lines status.number status.entries status.segments status.subscriptions.items
 
-told_lines : (up : Bool) (state : State) (status : TopicStatus) → node.StatusOf up state (Some status) → StatusOf up state (lines_of status)
-told_lines true state status h = (
-  status.segments,
-  status.subscriptions.items,
-  h.2,
-  (λ i. status_lines (h.0 i) (h.1 i) status.segments status.subscriptions.items),
-)
-told_lines false state status h = absurd (let no : ⊥ = cc in no)
+-- where topic 0 is there
+module _ (state : State) (at : place_in state.broker.topics 0 ≡ Some 0) where
+  told_lines : (up : Bool) (status : TopicStatus) → node.StatusOf up state 0 (Some status) → StatusOf up state (lines_of status)
+  told_lines true status told =
+      let h : node.StatusIn (Some 0) state (Some status) = subst (λ (o : Option ℕ). node.StatusIn o state (Some status)) at told in (
+        status.segments,
+        status.subscriptions.items,
+        h.2,
+        (λ i. status_lines (h.0 i) (h.1 i) status.segments status.subscriptions.items),
+      )
+  told_lines false status told = absurd (let no : ⊥ = cc in no)
 
-pub tells : (old : Moment) (status : TopicStatus) → node.StatusOf old.life.up old.life.state (Some status) → Tells old (lines_of status) old
-tells old status h = record { same = refl; printed = told_lines old.life.up old.life.state status h }
+  no_lines : (up : Bool) → node.StatusOf up state 0 None → StatusOf up state []
+  no_lines true told = let h : node.StatusIn (Some 0) state None = subst (λ (o : Option ℕ). node.StatusIn o state None) at told in absurd h
+  no_lines false told = refl
 
-no_lines : (up : Bool) (state : State) → node.StatusOf up state None → StatusOf up state []
-no_lines true state h = absurd h
-no_lines false state h = refl
+-- a node that is served has topic 0
+pub topic_there : (per_ledger : ℕ) (state : State) → node.IsServed per_ledger state → place_in state.broker.topics 0 ≡ Some 0
+topic_there per_ledger state served = ap (λ (b : Broker). place_in b.topics 0) served.broker
 
-pub tells_nothing : (old : Moment) (told : Option TopicStatus) → told ≡ None → node.StatusOf old.life.up old.life.state told → Tells old [] old
-tells_nothing old told none h =
-    record { same = refl; printed = no_lines old.life.up old.life.state (subst (λ (o : Option TopicStatus). node.StatusOf old.life.up old.life.state o) none h) }
+pub tells : (old : Moment) (status : TopicStatus) → place_in old.life.state.broker.topics 0 ≡ Some 0 → node.StatusOf old.life.up old.life.state 0 (Some status) → Tells old (lines_of status) old
+tells old status at told = record { same = refl; printed = told_lines old.life.state at old.life.up status told }
+
+pub tells_nothing : (old : Moment) (told : Option TopicStatus) → told ≡ None → place_in old.life.state.broker.topics 0 ≡ Some 0 → node.StatusOf old.life.up old.life.state 0 told → Tells old [] old
+tells_nothing old told none at is =
+    record { same = refl; printed = no_lines old.life.state at old.life.up (subst (λ (o : Option TopicStatus). node.StatusOf old.life.up old.life.state 0 o) none is) }
 
 -- the lines that were worked, the next one and the others are the whole
 pub next_of_whole : (yielded rest after lines : List Line) (line : Line) → yielded ++ rest ≡ lines → rest ≡ line ∷ after → (yielded ++ line ∷ []) ++ after ≡ lines

@@ -143,7 +143,7 @@ impl Replay {
         ensures per_ledger { IfOk result (λ replay. replay.per_ledger ≡ self.per_ledger) }
         ensures cause { DeviceOnlyIf W.can_fail result }
     {
-        let Some(status) = self.machine.status()? else {
+        let Some(status) = self.machine.status(0)? else {
             return Ok(self);
         };
         let text = status_text(self.alloc, &status)?;
