@@ -10,6 +10,6 @@ use Rattle.node.specs.Driving.{TellsSegments}
 
 pub tells_segments : (stands : ℕ → Image → Entries → Kept → Type 0) (laid : ℕ → Image → List ℕ → Type 0) (phase : Phase) (core : Topic) (v : StoreView) (disk : Disk) (segments : ℕ)
     → ((files : Image) (ledger : Entries) (kept : Kept) → v.holds files ledger kept → laid v.topic files v.counts) → v.topic ≡ 0 → segments ≡ length v.counts → Standing stands phase core v disk → TellsSegments laid phase disk.seen segments
-tells_segments stands laid Before core v disk segments law number counted s = (v.counts, subst (λ t. laid t disk.seen v.counts) number (law disk.seen _ _ s.holds.now), counted)
-tells_segments stands laid Written core v disk segments law number counted s = (v.counts, subst (λ t. laid t disk.seen v.counts) number (law disk.seen _ _ s.holds.now), counted)
+tells_segments stands laid Before core v disk segments law number counted s = (v.counts, subst (λ t. laid t disk.seen v.counts) number (law disk.seen _ _ s.holds.settled.now), counted)
+tells_segments stands laid Written core v disk segments law number counted s = (v.counts, subst (λ t. laid t disk.seen v.counts) number (law disk.seen _ _ s.holds.settled.now), counted)
 tells_segments stands laid Lost core v disk segments law number counted s = tt

@@ -4,7 +4,7 @@ ghost use Rattle.disk.specs.Disk.{Image, Kept as Counted, Failed};
 ghost use Rattle.disk.specs.Areas.{Within};
 ghost use Rattle.managed_ledger.specs.Entries.{Entries, AreEntries};
 ghost use Rattle.managed_ledger.specs.Shape.{total};
-ghost use Rattle.disk.specs.Contents.{Settled, Steady, Appends};
+ghost use Rattle.disk.specs.Contents.{Settled, Steady, Appends, StaysSo};
 ghost use Rattle.records.specs.declared.record.Record.{Record};
 ghost use Rattle.records.specs.Maps.{Kept};
 ghost use Rattle.records.specs.Records.{AreFormed, after_all};
@@ -31,7 +31,7 @@ pub(crate) fn prepare_entries<E: EntryStore>(
     ensures prepared { IfOk result (λ prepared. PreparedFor E.is_for prepared entries.now) }
     ensures some { IfOk result (λ prepared. IfSome prepared (λ p. 0 < length entries.now)) }
     ensures has_room { IfOk result (λ prepared. IfSome prepared (E.has_room store.new)) }
-    ensures unchanged { entries_stores.StaysSo (E.holds store.old) (E.holds store.new) (E.content store.old) (E.content store.new) }
+    ensures unchanged { StaysSo (E.holds store.old) (E.holds store.new) (E.content store.old) (E.content store.new) }
     ensures topic { E.topic_of store.new ≡ E.topic_of store.old }
     ensures counts { E.counts store.new ≡ E.counts store.old }
     ensures per_ledger { E.per_ledger store.new ≡ E.per_ledger store.old }
