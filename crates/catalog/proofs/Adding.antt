@@ -1,5 +1,5 @@
 -- A name more.
-use Rattle.std.proofs.Common.{◌≡◌, ◌⊎◌, ⊎_elim, inl, inr, ℕ, ◌<◌, true, false, List, [], ◌∷◌, ◌++◌, length, refl, sym, ◌∙◌, ap, subst, arith, Result, IsErrAnd}
+use Rattle.std.proofs.Common.{◌≡◌, ⊎_elim, inl, inr, ℕ, ◌<◌, true, false, List, [], ◌∷◌, ◌++◌, length, refl, sym, ◌∙◌, ap, subst, arith, Result, IsErrAnd}
 use Rattle.disk.specs.declared.file_id.FileId.{FileId}
 use Rattle.disk.specs.declared.file_id.FileId.TheVariants.{Catalog as catalog_file}
 use Rattle.disk.specs.Disk.{Disk, Image}

@@ -1,7 +1,6 @@
 // The two parts of an append to each store of a topic.
-ghost use Rattle.std.specs.Prelude.{◌≡◌, ◌⊎◌, ◌+◌, ◌<◌, ◌≤◌, ◌^◌, ◌++◌, [], List, ℕ, true, false, length, sum_by, All, IfOk, IfSome, OnOk, IsErr};
+ghost use Rattle.std.specs.Prelude.{◌≡◌, ◌+◌, ◌<◌, ◌≤◌, ◌^◌, ◌++◌, [], List, ℕ, true, false, length, sum_by, All, IfOk, IfSome, OnOk, IsErr};
 ghost use Rattle.disk.specs.Disk.{Image, Kept as Counted, Failed};
-ghost use Rattle.disk.specs.Areas.{Within};
 ghost use Rattle.managed_ledger.specs.Entries.{Entries, AreEntries};
 ghost use Rattle.managed_ledger.specs.Shape.{total};
 ghost use Rattle.disk.specs.Contents.{Settled, Steady, Appends, StaysSo};

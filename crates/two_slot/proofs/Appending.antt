@@ -14,7 +14,7 @@ use Rattle.gated_log.specs.Logs.{StandsFor, LogHolds, log_id, log_content}
 use Rattle.two_slot.specs.declared.spare.Spare.{Spare}
 use Rattle.two_slot.specs.declared.two_slot.TwoSlot.{TwoSlot}
 use Rattle.two_slot.specs.Slots.{SlotsOf, other_of, Stands}
-use Rattle.two_slot.specs.TwoSlots.{Holds, IsSpare, content, generation_of}
+use Rattle.two_slot.specs.TwoSlots.{Holds, IsSpare, generation_of}
 use Rattle.two_slot.specs.Local.{spare_yields}
 
 -- two files
