@@ -1,23 +1,25 @@
 -- A name more.
-use Rattle.std.proofs.Common.{◌≡◌, ◌⊎◌, ⊎_elim, inl, inr, ℕ, ◌<◌, true, false, List, [], ◌∷◌, ◌++◌, length, refl, sym, ◌∙◌, ap, subst, arith}
+use Rattle.std.proofs.Common.{◌≡◌, ⊎_elim, inl, inr, ℕ, ◌<◌, true, false, List, [], ◌∷◌, ◌++◌, length, refl, sym, ◌∙◌, ap, subst, arith, Result, IsErrAnd}
 use Rattle.disk.specs.declared.file_id.FileId.{FileId}
 use Rattle.disk.specs.declared.file_id.FileId.TheVariants.{Catalog as catalog_file}
 use Rattle.disk.specs.Disk.{Disk, Image}
-use Rattle.disk.specs.Areas.{Within, weaken_within}
-use Rattle.disk.specs.Contents.{Settled, InDoubt, StaysSo}
+use Rattle.disk.specs.Areas.{Within, weaken_within, stays_within}
+use Rattle.disk.specs.Contents.{Settled, InDoubt, Appends, BeforeOrAfter, at_err, StaysSo}
 use Rattle.gated_log.specs.declared.log.GatedLog.{GatedLog}
 use Rattle.gated_log.specs.declared.log_id.LogId.{LogId}
-use Rattle.gated_log.specs.Batches.{BeforeOrAfter, IsLog}
+use Rattle.gated_log.specs.Batches.{IsLog}
 use Rattle.gated_log.specs.declared.prepare_error.PrepareError.{PrepareError}
 use Rattle.gated_log.specs.declared.prepare_error.PrepareError.TheVariants as prepare
 use Rattle.gated_log.specs.declared.refusal.Refusal.TheVariants as refusal
 use Rattle.gated_log.specs.Refusals.{unprepared}
+use Rattle.gated_log.specs.Content.{held_content}
 use Rattle.gated_log.specs.Logs.{LogHolds, StandsFor as LogStands, log_id, log_content}
 use Rattle.names.specs.Names.{is_topic_name}
 use Rattle.names.proofs.Parts.{name_is_short}
 use Rattle.catalog.specs.declared.catalog.Catalog.{Catalog}
 use Rattle.catalog.specs.Names.{Names, AreNames, IsPerLedger, has_name}
 use Rattle.catalog.specs.Growing.{IsNext, names_more}
+use Rattle.catalog.specs.Laws.{holds_stands}
 use Rattle.catalog.specs.Catalogs.{Own, Holds, StandsFor, content, remembered, per_ledger}
 
 -- the body that was built is the name
@@ -60,7 +62,7 @@ added old new name d0 d1 names keys s log =
 
 -- without the name, or with it
 either : (old : Catalog) (id : LogId) (c : Image) (names : Names) (name : List ℕ) → id ≡ log_id old.log → remembered old ≡ names → IsNext (remembered old) name
-    → LogStands id c names ⊎ LogStands id c (names ++ name ∷ []) → StandsFor (per_ledger old) c names ⊎ StandsFor (per_ledger old) c (names ++ name ∷ [])
+    → BeforeOrAfter (LogStands id) names (names ++ name ∷ []) c → BeforeOrAfter (StandsFor (per_ledger old)) names (names ++ name ∷ []) c
 either old id c names name same kept next which =
     let are = held_names old names kept in
     ⊎_elim
@@ -81,11 +83,24 @@ in_doubt old log log' name d0 d1 names next id s doubt = record {
 }
 
 pub within : (old : Catalog) (log : GatedLog) (name : List ℕ) (d0 d1 : Disk) (names : Names) → IsNext (remembered old) name → log_id log ≡ log_id old.log → Settled (Holds old) d0 names
-    → Within (λ f. f ≡ (log_id log).file) (λ c. BeforeOrAfter (LogStands (log_id log) c) names name) d0 d1 → Within Own (λ c. BeforeOrAfter (StandsFor (per_ledger old) c) names name) d0 d1
+    → Within (λ f. f ≡ (log_id log).file) (BeforeOrAfter (LogStands (log_id log)) names (names ++ name ∷ [])) d0 d1 → Within Own (BeforeOrAfter (StandsFor (per_ledger old)) names (names ++ name ∷ [])) d0 d1
 within old log name d0 d1 names next id s w =
-    weaken_within Own (λ (c : Image). BeforeOrAfter (LogStands (log_id log) c) names name) (λ (c : Image). BeforeOrAfter (StandsFor (per_ledger old) c) names name) d0 d1
+    weaken_within Own (BeforeOrAfter (LogStands (log_id log)) names (names ++ name ∷ [])) (BeforeOrAfter (StandsFor (per_ledger old)) names (names ++ name ∷ [])) d0 d1
     (λ c which. either old (log_id log) c names name id s.now.same next which)
-    (subst (λ (file : FileId). Within (λ f. f ≡ file) (λ (c : Image). BeforeOrAfter (LogStands (log_id log) c) names name) d0 d1) (ap (λ (i : LogId). i.file) id ∙ old.file) w)
+    (subst (λ (file : FileId). Within (λ f. f ≡ file) (BeforeOrAfter (LogStands (log_id log)) names (names ++ name ∷ [])) d0 d1) (ap (λ (i : LogId). i.file) id ∙ old.file) w)
+
+-- an append that failed before the device was asked
+pub unasked : {T E : Type 0} {works : Disk → Names → Type 0} (result : Result T E) (Q : E → Type 0) → IsErrAnd result Q → (old : Catalog) (d : Disk) (names new : Names) → Settled (Holds old) d names
+    → Appends result works (content old) Own (StandsFor (per_ledger old)) d d names new
+unasked result Q is old d names new s =
+    at_err result Q is
+    (record {
+      honest = s.honest;
+      now = held_content old.log d.seen names s.now.log;
+      same = λ c may. held_content old.log c names (s.left c may).log;
+      left = λ c may. inl (holds_stands old c names (s.left c may));
+    })
+    (stays_within Own (BeforeOrAfter (StandsFor (per_ledger old)) names new) d (λ c may. inl (holds_stands old c names (s.left c may))))
 
 pub others : (old : Catalog) (log : GatedLog) (d0 d1 : Disk) → log_id log ≡ log_id old.log → Within (λ f. f ≡ (log_id log).file) (λ c. Unit {0}) d0 d1 → Within Own (λ c. Unit {0}) d0 d1
 others old log d0 d1 id w = subst (λ (file : FileId). Within (λ f. f ≡ file) (λ c. Unit {0}) d0 d1) (ap (λ (i : LogId). i.file) id ∙ old.file) w

@@ -28,8 +28,7 @@ impl Catalog {
     ghost use Rattle.std.specs.Prelude.{◌≡◌, ◌⊎◌, ◌<◌, ◌++◌, ℕ, [], ◌∷◌, true, false, length, IsErr, IsErrOf, IfOk, IfErr, OnOk};
     ghost use Rattle.disk.specs.Disk.{Kept, Failed};
     ghost use Rattle.disk.specs.Areas.{Within};
-    ghost use Rattle.disk.specs.Contents.{Settled, InDoubt, StaysSo};
-    ghost use Rattle.gated_log.specs.Batches.{BeforeOrAfter};
+    ghost use Rattle.disk.specs.Contents.{Settled, Appends, StaysSo};
     ghost use Rattle.catalog.specs.Names.{Names, has_name};
     ghost use Rattle.catalog.specs.Catalogs.{Own, Holds, StandsFor, content, remembered, per_ledger, failed};
 
@@ -39,15 +38,12 @@ impl Catalog {
     pub fn add<S: Shelf>(&mut self, shelf: &mut S, name: TopicName) -> Result<u16, Refusal>
         requires new { has_name (remembered self.old) name ≡ false }
         requires room { length (remembered self.old) < 64 }
-        ensures added { (names : Names) → Settled (Holds self.old) (S.disk shelf.old) names → OnOk result (Settled (Holds self.new) (S.disk shelf.new) (names ++ name ∷ [])) }
+        // A crash at any moment of the call leaves the name or not, and other files as they were.
+        ensures appends { (names : Names) → Settled (Holds self.old) (S.disk shelf.old) names →
+            Appends result (Settled (Holds self.new)) (content self.new) Own (StandsFor (per_ledger self.old)) (S.disk shelf.old) (S.disk shelf.new) names (names ++ name ∷ []) }
+
         ensures number { IfOk result (λ number. number ≡ length (remembered self.old)) }
         ensures grown { OnOk result (remembered self.new ≡ remembered self.old ++ name ∷ []) }
-        ensures in_doubt { (names : Names) → Settled (Holds self.old) (S.disk shelf.old) names → IsErrOf result Refusal.Device →
-            InDoubt (content self.new) (StandsFor (per_ledger self.old)) (S.disk shelf.new) names (names ++ name ∷ []) }
-
-        // A crash at any moment of the call leaves the name or not, and other files as they were.
-        ensures within { (names : Names) → Settled (Holds self.old) (S.disk shelf.old) names →
-            Within Own (λ c. BeforeOrAfter (StandsFor (per_ledger self.old) c) names name) (S.disk shelf.old) (S.disk shelf.new) }
         ensures others { (S.disk shelf.old).honest → Within Own (λ c. Unit {0}) (S.disk shelf.old) (S.disk shelf.new) }
 
         ensures per_ledger { per_ledger self.new ≡ per_ledger self.old }

@@ -1,10 +1,10 @@
 -- Records more.
-use Rattle.std.proofs.Common.{◌≡◌, ◌⊎◌, ⊎_elim, inl, inr, ℕ, List, [], ◌∷◌, ◌++◌, refl, ◌∙◌, ap}
+use Rattle.std.proofs.Common.{◌≡◌, ⊎_elim, inl, inr, ℕ, List, [], ◌∷◌, ◌++◌, refl, ◌∙◌, ap}
 use Rattle.std.specs.FinMap as map
 use Rattle.disk.specs.Disk.{Disk, Image}
 use Rattle.disk.specs.Areas.{Within, weaken_within}
-use Rattle.gated_log.specs.Batches.{Bodies, BeforeOrAfter}
-use Rattle.disk.specs.Contents.{Settled as SlotsSettled, InDoubt as SlotsInDoubt}
+use Rattle.gated_log.specs.Batches.{Bodies}
+use Rattle.disk.specs.Contents.{Settled, Steady, InDoubt, BeforeOrAfter}
 use Rattle.two_slot.specs.declared.two_slot.TwoSlot.{TwoSlot}
 use Rattle.two_slot.specs.Slots.{SlotsOf, Stands}
 use Rattle.two_slot.specs.TwoSlots.{Holds as SlotsHold, content as slots_content}
@@ -15,7 +15,6 @@ use Rattle.records.specs.Bytes.{body_of, IsBody, Means}
 use Rattle.records.specs.Meaning.{means_more}
 use Rattle.cursor_store.specs.declared.cursor_store.CursorStore.{CursorStore}
 use Rattle.cursor_store.specs.declared.cursor_store.PreparedRecords.{PreparedRecords}
-use Rattle.cursor_store.specs.Stores.{Settled, InDoubt}
 use Rattle.cursor_store.specs.Cursors.{Holds, StandsFor, IsFor, written, topic_of}
 use Rattle.cursor_store.specs.Laws.{InBodies, settled_in}
 
@@ -27,7 +26,7 @@ more : (entries : ℕ) (bodies : Bodies) (kept : Kept) (records : List Record) �
 more entries bodies kept records means formed = means_more entries map.empty bodies kept (body_of records) (after_all records kept) means (its_body entries kept records formed)
 
 pub added : (old new : CursorStore) (prepared : PreparedRecords) (entries : ℕ) (d0 d1 : Disk) (kept : Kept) (records : List Record) (bodies : Bodies) → new.kept ≡ prepared.kept → IsFor old prepared records → AreFormed entries kept records
-    → InBodies old entries d0 kept bodies → SlotsSettled (SlotsHold new.slots) d1 (bodies ++ body_of records ∷ []) → Settled (Holds new entries) (written new) d1 (after_all records kept)
+    → InBodies old entries d0 kept bodies → Settled (SlotsHold new.slots) d1 (bodies ++ body_of records ∷ []) → Steady (Holds new entries) (written new) d1 (after_all records kept)
 added old new prepared entries d0 d1 kept records bodies swapped is_for formed is grown =
     settled_in new entries d1 (after_all records kept) (bodies ++ body_of records ∷ []) (record {
       slots = grown;
@@ -36,20 +35,21 @@ added old new prepared entries d0 d1 kept records bodies swapped is_for formed i
     })
 
 -- the bodies of a crash image, as subscriptions
-either : (topic entries : ℕ) (c : Image) (kept : Kept) (records : List Record) (bodies : Bodies) → Means entries map.empty bodies kept → AreFormed entries kept records → BeforeOrAfter (Stands topic c) bodies (body_of records)
-    → StandsFor topic entries c kept ⊎ StandsFor topic entries c (after_all records kept)
+either : (topic entries : ℕ) (c : Image) (kept : Kept) (records : List Record) (bodies : Bodies) → Means entries map.empty bodies kept → AreFormed entries kept records → BeforeOrAfter (Stands topic) bodies (bodies ++ body_of records ∷ []) c
+    → BeforeOrAfter (StandsFor topic entries) kept (after_all records kept) c
 either topic entries c kept records bodies means formed which =
     ⊎_elim (λ is. inl (record { bodies = bodies; stands = is; means = means })) (λ is. inr (record { bodies = bodies ++ body_of records ∷ []; stands = is; means = more entries bodies kept records means formed })) which
 
 pub in_doubt : (old : CursorStore) (new : TwoSlot) (entries : ℕ) (d0 d1 : Disk) (kept : Kept) (records : List Record) (bodies : Bodies) → AreFormed entries kept records → InBodies old entries d0 kept bodies
-    → SlotsInDoubt (slots_content new) (Stands (topic_of old)) d1 bodies (bodies ++ body_of records ∷ []) → InDoubt old.kept (StandsFor (topic_of old) entries) d1 kept records
+    → InDoubt (slots_content new) (Stands (topic_of old)) d1 bodies (bodies ++ body_of records ∷ []) → InDoubt (λ c. old.kept) (StandsFor (topic_of old) entries) d1 kept (after_all records kept)
 in_doubt old new entries d0 d1 kept records bodies formed is doubt = record {
   honest = doubt.honest;
-  same = is.same;
+  now = is.same;
+  same = λ c may. is.same;
   left = λ c may. either (topic_of old) entries c kept records bodies is.means formed (doubt.left c may);
 }
 
 pub within : (old : CursorStore) (entries : ℕ) (d0 d1 : Disk) (kept : Kept) (records : List Record) (bodies : Bodies) → AreFormed entries kept records → InBodies old entries d0 kept bodies
-    → Within (SlotsOf (topic_of old)) (λ c. BeforeOrAfter (Stands (topic_of old) c) bodies (body_of records)) d0 d1
-    → Within (SlotsOf (topic_of old)) (λ c. StandsFor (topic_of old) entries c kept ⊎ StandsFor (topic_of old) entries c (after_all records kept)) d0 d1
+    → Within (SlotsOf (topic_of old)) (BeforeOrAfter (Stands (topic_of old)) bodies (bodies ++ body_of records ∷ [])) d0 d1
+    → Within (SlotsOf (topic_of old)) (BeforeOrAfter (StandsFor (topic_of old) entries) kept (after_all records kept)) d0 d1
 within old entries d0 d1 kept records bodies formed is w = weaken_within (SlotsOf (topic_of old)) _ _ d0 d1 (λ c which. either (topic_of old) entries c kept records bodies is.means formed which) w

@@ -8,14 +8,13 @@ use Rattle.two_slot.specs.Slots.{SlotsOf}
 use Rattle.two_slot.specs.Local.{stands_local_lem as slots_local, holds_local_lem as slots_hold_local, content_local_lem, holds_stand as slots_stand}
 use Rattle.two_slot.specs.TwoSlots.{Holds as SlotsHold}
 use Rattle.gated_log.specs.Content.{held_content}
-use Rattle.disk.specs.Contents.{Settled as SlotsSettled}
+use Rattle.disk.specs.Contents.{Settled, Steady}
 use Rattle.two_slot.specs.One.{slots_one}
 use Rattle.records.specs.Maps.{Kept}
 use Rattle.records.specs.Bytes.{Means}
 use Rattle.records.specs.Meaning.{means_one, means_longer}
 use Rattle.cursor_store.specs.declared.cursor_store.CursorStore.{CursorStore}
 use Rattle.cursor_store.specs.Cursors.{Holds, StandsFor, topic_of, written}
-use Rattle.cursor_store.specs.Stores.{Settled}
 
 pub holds_stand : (store : CursorStore) (entries : ℕ) (image : Image) (kept : Kept) → Holds store entries image kept → StandsFor (topic_of store) entries image kept
 holds_stand store entries image kept holds = record { bodies = holds.bodies; stands = slots_stand store.slots image holds.bodies holds.slots; means = holds.means }
@@ -44,7 +43,7 @@ written_local store a b same = content_local_lem store.slots a b same
 
 -- all that the store holds, in one list of bodies
 pub record InBodies (store : CursorStore) (entries : ℕ) (disk : Disk) (kept : Kept) (bodies : Bodies) : Type 0 where
-  pub slots : SlotsSettled (SlotsHold store.slots) disk bodies
+  pub slots : Settled (SlotsHold store.slots) disk bodies
   pub means : Means entries map.empty bodies kept
   pub same : store.kept ≡ kept
 
@@ -52,23 +51,25 @@ slots_hold : (store : CursorStore) (entries : ℕ) (image seen : Image) (kept : 
 slots_hold store entries image seen kept holds bodies is =
     subst (λ (b : Bodies). SlotsHold store.slots image b) (sym (held_content store.slots.log image holds.bodies holds.slots.log) ∙ is) holds.slots
 
-pub in_bodies : (store : CursorStore) (entries : ℕ) (disk : Disk) (kept : Kept) (s : Settled (Holds store entries) (written store) disk kept) → InBodies store entries disk kept s.now.bodies
+pub in_bodies : (store : CursorStore) (entries : ℕ) (disk : Disk) (kept : Kept) (s : Steady (Holds store entries) (written store) disk kept) → InBodies store entries disk kept s.settled.now.bodies
 in_bodies store entries disk kept s =
-    let there = held_content store.slots.log disk.seen s.now.bodies s.now.slots.log in
+    let there = held_content store.slots.log disk.seen s.settled.now.bodies s.settled.now.slots.log in
     record {
       slots = record {
-        honest = s.honest;
-        now = s.now.slots;
-        left = λ c may. slots_hold store entries c disk.seen kept (s.left c may) s.now.bodies (s.steady c may ∙ there);
+        honest = s.settled.honest;
+        now = s.settled.now.slots;
+        left = λ c may. slots_hold store entries c disk.seen kept (s.settled.left c may) s.settled.now.bodies (s.steady c may ∙ there);
       };
-      means = s.now.means;
-      same = s.now.same;
+      means = s.settled.now.means;
+      same = s.settled.now.same;
     }
 
-pub settled_in : (store : CursorStore) (entries : ℕ) (disk : Disk) (kept : Kept) (bodies : Bodies) → InBodies store entries disk kept bodies → Settled (Holds store entries) (written store) disk kept
+pub settled_in : (store : CursorStore) (entries : ℕ) (disk : Disk) (kept : Kept) (bodies : Bodies) → InBodies store entries disk kept bodies → Steady (Holds store entries) (written store) disk kept
 settled_in store entries disk kept bodies is = record {
-  honest = is.slots.honest;
-  now = record { bodies = bodies; slots = is.slots.now; means = is.means; same = is.same };
-  left = λ c may. record { bodies = bodies; slots = is.slots.left c may; means = is.means; same = is.same };
+  settled = record {
+    honest = is.slots.honest;
+    now = record { bodies = bodies; slots = is.slots.now; means = is.means; same = is.same };
+    left = λ c may. record { bodies = bodies; slots = is.slots.left c may; means = is.means; same = is.same };
+  };
   steady = λ c may. held_content store.slots.log c bodies (is.slots.left c may).log ∙ sym (held_content store.slots.log disk.seen bodies is.slots.now.log);
 }

@@ -1,4 +1,3 @@
-pub mod Stores
 pub mod Cursors
 pub mod Folded
 pub mod Laws

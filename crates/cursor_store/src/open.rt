@@ -3,7 +3,7 @@ ghost use Rattle.std.specs.Prelude.{◌≡◌, ◌⊎◌, ◌≤◌, ◌^◌, fa
 ghost use Rattle.disk.specs.Disk.{Same, Leaves, Kept as Counted, Failed};
 ghost use Rattle.disk.specs.Areas.{Agree};
 ghost use Rattle.two_slot.specs.Slots.{SlotsOf};
-ghost use Rattle.cursor_store.specs.Stores.{Settled};
+ghost use Rattle.disk.specs.Contents.{Steady};
 ghost use Rattle.cursor_store.specs.Cursors.{Holds, content, written, topic_of, failed};
 ghost use Rattle.cursor_store.specs.Folded.{IsFault};
 
@@ -26,7 +26,7 @@ impl CursorStore {
         entries: u64,
     ) -> Result<CursorStore, Refusal>
         requires { entries ≤ 2 ^ 62 }
-        ensures opened { (S.disk shelf.old).honest → IfOk result (λ store. Settled (Holds store entries) (written store) (S.disk shelf.new) (content store)) }
+        ensures opened { (S.disk shelf.old).honest → IfOk result (λ store. Steady (Holds store entries) (written store) (S.disk shelf.new) (content store)) }
         // Or the first fault that stands in the slots is told.
         ensures refused { (S.disk shelf.old).honest → IfErr result (λ e. (e ≡ Refusal.NoMemory) ⊎ ((e ≡ Refusal.Device) ⊎ IsFault topic entries (S.disk shelf.old).seen e)) }
         ensures topic { IfOk result (λ store. topic_of store ≡ topic) }

@@ -14,7 +14,7 @@ ghost use Rattle.records.specs.Bytes.{body_of};
 ghost use Rattle.gated_log.specs.declared.refusal.Refusal.{Refusal};
 ghost use Rattle.gated_log.specs.Batches.{Bodies};
 ghost use Rattle.two_slot.specs.Slots.{SlotsOf};
-ghost use Rattle.cursor_store.specs.Stores.{Settled, InDoubt};
+ghost use Rattle.disk.specs.Contents.{Steady, Appends};
 
 use disk::{DeviceError, Shelf};
 use gated_log::{PrepareError, Refusal};
@@ -58,7 +58,7 @@ pub trait SubStore: Drop {
     /// Makes a store without subscriptions, whatever was in its files, with eight device calls. Takes no memory. Until the
     /// `Ok` a crash may leave anything of these files.
     fn create<S: Shelf>(alloc: Global, shelf: &mut S, topic: u16) -> Result<Self, DeviceError>
-        ensures created { (entries : ℕ) → (S.disk shelf.old).honest → IfOk result (λ store. Settled (holds store entries) (written store) (S.disk shelf.new) map.empty) }
+        ensures created { (entries : ℕ) → (S.disk shelf.old).honest → IfOk result (λ store. Steady (holds store entries) (written store) (S.disk shelf.new) map.empty) }
         ensures topic { IfOk result (λ store. topic_of store ≡ topic) }
         ensures works { IfOk result (λ store. failed store ≡ false) }
         ensures others { (S.disk shelf.old).honest → Within (area topic) (λ c. Unit {0}) (S.disk shelf.old) (S.disk shelf.new) }
@@ -74,7 +74,7 @@ pub trait SubStore: Drop {
         entries: u64,
     ) -> Result<Self, Refusal>
         requires { entries ≤ 2 ^ 62 }
-        ensures opened { (S.disk shelf.old).honest → IfOk result (λ store. Settled (holds store entries) (written store) (S.disk shelf.new) (content store)) }
+        ensures opened { (S.disk shelf.old).honest → IfOk result (λ store. Steady (holds store entries) (written store) (S.disk shelf.new) (content store)) }
         // Or the first fault that stands in the files is told.
         ensures refused { (S.disk shelf.old).honest → IfErr result (λ e. (e ≡ Refusal.NoMemory) ⊎ ((e ≡ Refusal.Device) ⊎ faulty topic entries (S.disk shelf.old).seen e)) }
         ensures topic { IfOk result (λ store. topic_of store ≡ topic) }
@@ -126,14 +126,9 @@ pub trait SubStore: Drop {
         shelf: &mut S,
         prepared: Self::Prepared,
     ) -> Result<(), DeviceError>
-        ensures added { (entries : ℕ) (kept : Kept) (records : List Record) → is_for self.old prepared records → AreFormed entries kept records → Settled (holds self.old entries) (written self.old) (S.disk shelf.old) kept →
-            OnOk result (Settled (holds self.new entries) (written self.new) (S.disk shelf.new) (after_all records kept)) }
-        ensures in_doubt { (entries : ℕ) (kept : Kept) (records : List Record) → is_for self.old prepared records → AreFormed entries kept records → Settled (holds self.old entries) (written self.old) (S.disk shelf.old) kept →
-            IsErr result → InDoubt (content self.new) (stands (topic_of self.old) entries) (S.disk shelf.new) kept records }
-
         // A crash at any moment of the call leaves all the records or none, and other files as they were.
-        ensures within { (entries : ℕ) (kept : Kept) (records : List Record) → is_for self.old prepared records → AreFormed entries kept records → Settled (holds self.old entries) (written self.old) (S.disk shelf.old) kept →
-            Within (area (topic_of self.old)) (λ c. stands (topic_of self.old) entries c kept ⊎ stands (topic_of self.old) entries c (after_all records kept)) (S.disk shelf.old) (S.disk shelf.new) }
+        ensures appends { (entries : ℕ) (kept : Kept) (records : List Record) → is_for self.old prepared records → AreFormed entries kept records → Steady (holds self.old entries) (written self.old) (S.disk shelf.old) kept →
+            Appends result (Steady (holds self.new entries) (written self.new)) (λ c. content self.new) (area (topic_of self.old)) (stands (topic_of self.old) entries) (S.disk shelf.old) (S.disk shelf.new) kept (after_all records kept) }
 
         ensures content { (records : List Record) → is_for self.old prepared records → OnOk result (content self.new ≡ after_all records (content self.old)) }
         ensures topic { topic_of self.new ≡ topic_of self.old }

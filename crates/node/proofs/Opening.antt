@@ -45,7 +45,7 @@ module _ (stands : ℕ → Image → Entries → Kept → Type 0) (n : ℕ) (t :
   pub opened_stands : (topic : ℕ) (before d : Disk) → AreLaws stands v → v.topic ≡ topic → Same before.seen d.seen → Settled v d t.ledger v.kept → stands topic before.seen t.ledger t.kept
   opened_stands topic before d laws number same hold =
       subst (λ (i : Image). stands topic i t.ledger t.kept) same
-      (subst (λ m. stands m d.seen t.ledger t.kept) number (subst (λ k. stands v.topic d.seen t.ledger k) (sym is_kept) (laws.stands d.seen t.ledger v.kept hold.now)))
+      (subst (λ m. stands m d.seen t.ledger t.kept) number (subst (λ k. stands v.topic d.seen t.ledger k) (sym is_kept) (laws.stands d.seen t.ledger v.kept hold.settled.now)))
 
   pub opened_broker : broker_with n (t ∷ []) ≡ broker_with n (opened n t.ledger (each slot_of_entry t.ledger) t.kept ∷ [])
   opened_broker = ap (λ (x : Topic). broker_with n (x ∷ [])) is_new

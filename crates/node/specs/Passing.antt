@@ -36,10 +36,12 @@ pub record OnlyReads (old new : Disk) : Type 0 where
 -- a settled store stays so
 settled_read : (v : StoreView) (old new : Disk) (ledger : Entries) (kept : Kept) → OnlyReads old new → Settled v old ledger kept → Settled v new ledger kept
 settled_read v old new ledger kept reads x = record {
-  honest = reads.kept.honest x.honest;
-  now = subst (λ (i : Image). v.holds i ledger kept) (sym (reads.seen x.honest)) x.now;
-  left = λ c may. x.left c ((reads.any_moment x.honest).now c may);
-  steady = λ c may. subst (λ (i : Image). v.written c ≡ v.written i) (sym (reads.seen x.honest)) (x.steady c ((reads.any_moment x.honest).now c may));
+  settled = record {
+    honest = reads.kept.honest x.settled.honest;
+    now = subst (λ (i : Image). v.holds i ledger kept) (sym (reads.seen x.settled.honest)) x.settled.now;
+    left = λ c may. x.settled.left c ((reads.any_moment x.settled.honest).now c may);
+  };
+  steady = λ c may. subst (λ (i : Image). v.written c ≡ v.written i) (sym (reads.seen x.settled.honest)) (x.steady c ((reads.any_moment x.settled.honest).now c may));
 }
 
 holds_read : (phase : Phase) (t : Topic) (v : StoreView) (old new : Disk) → OnlyReads old new → Holds phase t v old → Holds phase t v new

@@ -27,14 +27,14 @@ same_error e is = cc
 module _ {T : Type 0} (bytes : T → List ℕ) (stands : ℕ → Image → Entries → Kept → Type 0) (t : Topic) (v : StoreView) (d : Disk) (position : ℕ) (within : position < t.committed) where
   pub reads_entry : (phase : Phase) (r : Result T ReadError) → Standing stands phase t v d
       → ((ledger : Entries) (kept : Kept) → d.honest → v.holds d.seen ledger kept → IfOk r (λ e. slice_get ledger position ≡ Some (bytes e))) → (v.failed ≡ true → IsErrOf r Device) → IfOk r (λ e. slice_get t.ledger position ≡ Some (bytes e))
-  reads_entry Before (Ok e) h entry failed = entry t.ledger t.kept h.honest h.holds.now
-  reads_entry Written (Ok e) h entry failed = first_part t.ledger (entries_in_doubt t) position (bytes e) (omega (arith, within, h.counted)) (entry (longer t) (changed t) h.honest h.holds.now)
+  reads_entry Before (Ok e) h entry failed = entry t.ledger t.kept h.honest h.holds.settled.now
+  reads_entry Written (Ok e) h entry failed = first_part t.ledger (entries_in_doubt t) position (bytes e) (omega (arith, within, h.counted)) (entry (longer t) (changed t) h.honest h.holds.settled.now)
   reads_entry Lost (Ok e) h entry failed = absurd (not_refused e (failed h.matched.remembers.failed))
   reads_entry phase (Err e) h entry failed = tt
 
   pub reads_refused : (phase : Phase) (r : Result T ReadError) → Standing stands phase t v d
       → ((ledger : Entries) (kept : Kept) → d.honest → v.holds d.seen ledger kept → position < length ledger → IfErr r (λ e. (e ≡ NoMemory) ⊎ (e ≡ Device))) → (v.failed ≡ true → IsErrOf r Device) → IfErr r (λ e. (e ≡ NoMemory) ⊎ (e ≡ Device))
   reads_refused phase (Ok e) h refused failed = tt
-  reads_refused Before (Err e) h refused failed = refused t.ledger t.kept h.honest h.holds.now (omega (arith, within, h.counted))
-  reads_refused Written (Err e) h refused failed = refused (longer t) (changed t) h.honest h.holds.now (omega (arith, within, h.counted, length-append t.ledger (entries_in_doubt t)))
+  reads_refused Before (Err e) h refused failed = refused t.ledger t.kept h.honest h.holds.settled.now (omega (arith, within, h.counted))
+  reads_refused Written (Err e) h refused failed = refused (longer t) (changed t) h.honest h.holds.settled.now (omega (arith, within, h.counted, length-append t.ledger (entries_in_doubt t)))
   reads_refused Lost (Err e) h refused failed = inr (same_error e (failed h.matched.remembers.failed))

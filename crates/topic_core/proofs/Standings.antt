@@ -57,10 +57,10 @@ module _ (stands : ℕ → Image → Entries → Kept → Type 0) where
   pub standing_before : (t : Topic) (v : StoreView) (d : Disk) → AreLaws stands v → Match Before t v → length t.ledger ≡ t.committed → t.subs.slots ≡ map slot_of_entry (t.ledger ++ t.waiting) → Settled v d t.ledger t.kept → Standing stands Before t v d
   standing_before t v d laws m counted slots x = record {
     matched = m;
-    honest = x.honest;
+    honest = x.settled.honest;
     counted = counted;
     slots = slots;
-    left = λ c may. record { ledger = t.ledger; kept = t.kept; is_left = inl (refl, refl); stands = laws.stands c t.ledger t.kept (x.left c may) };
+    left = λ c may. record { ledger = t.ledger; kept = t.kept; is_left = inl (refl, refl); stands = laws.stands c t.ledger t.kept (x.settled.left c may) };
     holds = x;
   }
 
@@ -278,7 +278,7 @@ left_more t ledger kept (inr (inr is)) = omega (arith, ap (λ (l : Entries). len
 module _ (stands : ℕ → Image → Entries → Kept → Type 0) (v v1 : StoreView) (old new : Disk) (topic : ℕ) (ledger : Entries) (laws : AreLaws stands v1) (held : Settled v1 new ledger v1.kept) (topic_is : v1.topic ≡ topic) (same_topic : topic ≡ v.topic) (same : new.seen ≡ old.seen) where
   -- a store that was opened again has what the files stand for
   pub again_stands : stands v.topic old.seen ledger v1.kept
-  again_stands = subst (λ (n : ℕ). stands n old.seen ledger v1.kept) (topic_is ∙ same_topic) (subst (λ (i : Image). stands v1.topic i ledger v1.kept) same (laws.stands new.seen ledger v1.kept held.now))
+  again_stands = subst (λ (n : ℕ). stands n old.seen ledger v1.kept) (topic_is ∙ same_topic) (subst (λ (i : Image). stands v1.topic i ledger v1.kept) same (laws.stands new.seen ledger v1.kept held.settled.now))
 
   -- which is what was left of the topic
   pub again_left : ((n : ℕ) (files : Image) (one other : Entries) (k j : Kept) → length one ≤ 2 ^ 62 → stands n files one k → stands n files other j → (one ≡ other) × (k ≡ j))

@@ -16,10 +16,13 @@ use Rattle.topic_stores.specs.Views.{StoreView, EntryView, SubView, Settled, Are
 -- a store stays settled where the files of its topic are left alone
 pub settled_stays : (stands : ℕ → Image → Entries → Kept → Type 0) (v : StoreView) → AreLaws stands v → (old new : Disk) (ledger : Entries) (kept : Kept) → Undisturbed (OfTopic v.topic) old new → Settled v old ledger kept → Settled v new ledger kept
 settled_stays stands v laws old new ledger kept u x = record {
-  honest = u.honest x.honest;
-  now = laws.local old.seen new.seen ledger kept u.seen x.now;
-  left = λ c may. let d = u.left c may in laws.local d.0 c ledger kept d.2 (x.left d.0 d.1);
-  steady = λ c may. let d = u.left c may in laws.written_local d.0 c ledger kept d.2 (x.left d.0 d.1) ∙ x.steady d.0 d.1 ∙ sym (laws.written_local old.seen new.seen ledger kept u.seen x.now);
+  settled = record {
+    honest = u.honest x.settled.honest;
+    now = laws.local old.seen new.seen ledger kept u.seen x.settled.now;
+    left = λ c may. let d = u.left c may in laws.local d.0 c ledger kept d.2 (x.settled.left d.0 d.1);
+  };
+  steady = λ c may. let d = u.left c may in
+      laws.written_local d.0 c ledger kept d.2 (x.settled.left d.0 d.1) ∙ x.steady d.0 d.1 ∙ sym (laws.written_local old.seen new.seen ledger kept u.seen x.settled.now);
 }
 
 -- ---- two stores, each with files of its own

@@ -2,6 +2,7 @@
 use Rattle.std.specs.Prelude.{◌≡◌, ◌⊎◌, ℕ, Bool, false, ◌||◌, List, length}
 use Rattle.disk.specs.Disk.{Disk, Image}
 use Rattle.disk.specs.Areas.{Agree, OfTopic}
+use Rattle.disk.specs.Contents.{Steady}
 use Rattle.gated_log.specs.declared.refusal.Refusal.{Refusal}
 use Rattle.gated_log.specs.Batches.{Bodies}
 use Rattle.managed_ledger.specs.Entries.{Entries}
@@ -18,13 +19,9 @@ pub record StoreView : Type 1 where
   pub holds : Image → Entries → Kept → Type 0  -- it works, and the files have these entries and subscriptions just as it remembers them
   pub written : Image → Bodies  -- the bodies of changes in its files, as many as it remembers
 
--- The store works, with these entries and subscriptions: what reads give holds them, and so does whatever a crash now leaves,
--- in the same bodies.
-pub record Settled (v : StoreView) (disk : Disk) (ledger : Entries) (kept : Kept) : Type 0 where
-  pub honest : disk.honest
-  pub now : v.holds disk.seen ledger kept
-  pub left : (c : Image) → disk.may_leave c → v.holds c ledger kept
-  pub steady : (c : Image) → disk.may_leave c → v.written c ≡ v.written disk.seen
+-- The store works, with these entries and subscriptions, in the same bodies.
+abbrev pub Settled : StoreView → Disk → Entries → Kept → Type 0
+Settled v disk ledger kept = Steady (λ files (content : Entries × Kept). v.holds files content.0 content.1) v.written disk (ledger, kept)
 
 -- What holds of a store at any time, where these are what files of a topic stand for.
 pub record AreLaws (files_stand : ℕ → Image → Entries → Kept → Type 0) (v : StoreView) : Type 0 where

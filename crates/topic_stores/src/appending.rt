@@ -1,14 +1,12 @@
 // The two parts of an append to each store of a topic.
-ghost use Rattle.std.specs.Prelude.{◌≡◌, ◌⊎◌, ◌+◌, ◌<◌, ◌≤◌, ◌^◌, ◌++◌, [], List, ℕ, true, false, length, sum_by, All, IfOk, IfSome, OnOk, IsErr};
+ghost use Rattle.std.specs.Prelude.{◌≡◌, ◌+◌, ◌<◌, ◌≤◌, ◌^◌, ◌++◌, [], List, ℕ, true, false, length, sum_by, All, IfOk, IfSome, OnOk, IsErr};
 ghost use Rattle.disk.specs.Disk.{Image, Kept as Counted, Failed};
-ghost use Rattle.disk.specs.Areas.{Within};
 ghost use Rattle.managed_ledger.specs.Entries.{Entries, AreEntries};
 ghost use Rattle.managed_ledger.specs.Shape.{total};
-ghost use Rattle.disk.specs.Contents as entries_stores;
+ghost use Rattle.disk.specs.Contents.{Settled, Steady, Appends, StaysSo};
 ghost use Rattle.records.specs.declared.record.Record.{Record};
 ghost use Rattle.records.specs.Maps.{Kept};
 ghost use Rattle.records.specs.Records.{AreFormed, after_all};
-ghost use Rattle.cursor_store.specs.Stores as subscription_stores;
 ghost use Rattle.topic_stores.specs.Appends.{PreparedFor};
 ghost use Rattle.topic_stores.specs.Writing.{counts_with};
 
@@ -32,7 +30,7 @@ pub(crate) fn prepare_entries<E: EntryStore>(
     ensures prepared { IfOk result (λ prepared. PreparedFor E.is_for prepared entries.now) }
     ensures some { IfOk result (λ prepared. IfSome prepared (λ p. 0 < length entries.now)) }
     ensures has_room { IfOk result (λ prepared. IfSome prepared (E.has_room store.new)) }
-    ensures unchanged { entries_stores.StaysSo (E.holds store.old) (E.holds store.new) (E.content store.old) (E.content store.new) }
+    ensures unchanged { StaysSo (E.holds store.old) (E.holds store.new) (E.content store.old) (E.content store.new) }
     ensures topic { E.topic_of store.new ≡ E.topic_of store.old }
     ensures counts { E.counts store.new ≡ E.counts store.old }
     ensures per_ledger { E.per_ledger store.new ≡ E.per_ledger store.old }
@@ -81,19 +79,14 @@ pub(crate) fn append_entries<E: EntryStore, S: Shelf>(
     prepared: Option<E::Prepared>,
 ) -> Result<(), DeviceError>
     requires { IfSome prepared (E.has_room store.old) }
-    ensures added { (entries batch : Entries) → PreparedFor E.is_for prepared batch → entries_stores.Settled (E.holds store.old) (S.disk shelf.old) entries →
-        OnOk result (entries_stores.Settled (E.holds store.new) (S.disk shelf.new) (entries ++ batch)) }
+    // A crash at any moment of the call leaves all the entries or none, and other files as they were.
+    ensures appends { (entries batch : Entries) → PreparedFor E.is_for prepared batch → Settled (E.holds store.old) (S.disk shelf.old) entries →
+        Appends result (Settled (E.holds store.new)) (E.content store.new) (E.area (E.topic_of store.old)) (E.stands (E.topic_of store.old)) (S.disk shelf.old) (S.disk shelf.new) entries (entries ++ batch) }
+
     ensures counts { (batch : Entries) → PreparedFor E.is_for prepared batch → OnOk result (total (E.counts store.new) ≡ total (E.counts store.old) + length batch) }
     ensures segments { (batch : Entries) → PreparedFor E.is_for prepared batch → IfSome prepared (λ p. 0 < length batch) → OnOk result (E.counts store.new ≡ counts_with (E.per_ledger store.old) batch (E.counts store.old)) }
     ensures per_ledger { E.per_ledger store.new ≡ E.per_ledger store.old }
     ensures total_stays { IsErr result → total (E.counts store.new) ≡ total (E.counts store.old) }
-    ensures in_doubt { (entries batch : Entries) → PreparedFor E.is_for prepared batch → entries_stores.Settled (E.holds store.old) (S.disk shelf.old) entries →
-        IsErr result → entries_stores.InDoubt (E.content store.new) (E.stands (E.topic_of store.old)) (S.disk shelf.new) entries (entries ++ batch) }
-
-    // A crash at any moment of the call leaves all the entries or none, and other files as they were.
-    ensures within { (entries batch : Entries) → PreparedFor E.is_for prepared batch → entries_stores.Settled (E.holds store.old) (S.disk shelf.old) entries →
-        Within (E.area (E.topic_of store.old)) (λ c. E.stands (E.topic_of store.old) c entries ⊎ E.stands (E.topic_of store.old) c (entries ++ batch)) (S.disk shelf.old) (S.disk shelf.new) }
-
     ensures topic { E.topic_of store.new ≡ E.topic_of store.old }
     ensures works { E.failed store.old ≡ false → OnOk result (E.failed store.new ≡ false) }
     ensures fails { IsErr result → E.failed store.new ≡ true }
@@ -113,15 +106,10 @@ pub(crate) fn append_changes<C: SubStore, S: Shelf>(
     shelf: &mut S,
     prepared: Option<C::Prepared>,
 ) -> Result<(), DeviceError>
-    ensures added { (entries : ℕ) (kept : Kept) (changes : List Record) → PreparedFor (C.is_for store.old) prepared changes → AreFormed entries kept changes →
-        subscription_stores.Settled (C.holds store.old entries) (C.written store.old) (S.disk shelf.old) kept → OnOk result (subscription_stores.Settled (C.holds store.new entries) (C.written store.new) (S.disk shelf.new) (after_all changes kept)) }
-    ensures in_doubt { (entries : ℕ) (kept : Kept) (changes : List Record) → PreparedFor (C.is_for store.old) prepared changes → AreFormed entries kept changes →
-        subscription_stores.Settled (C.holds store.old entries) (C.written store.old) (S.disk shelf.old) kept → IsErr result → subscription_stores.InDoubt (C.content store.new) (C.stands (C.topic_of store.old) entries) (S.disk shelf.new) kept changes }
-
     // A crash at any moment of the call leaves all the changes or none, and other files as they were.
-    ensures within { (entries : ℕ) (kept : Kept) (changes : List Record) → PreparedFor (C.is_for store.old) prepared changes → AreFormed entries kept changes →
-        subscription_stores.Settled (C.holds store.old entries) (C.written store.old) (S.disk shelf.old) kept →
-        Within (C.area (C.topic_of store.old)) (λ c. C.stands (C.topic_of store.old) entries c kept ⊎ C.stands (C.topic_of store.old) entries c (after_all changes kept)) (S.disk shelf.old) (S.disk shelf.new) }
+    ensures appends { (entries : ℕ) (kept : Kept) (changes : List Record) → PreparedFor (C.is_for store.old) prepared changes → AreFormed entries kept changes →
+        Steady (C.holds store.old entries) (C.written store.old) (S.disk shelf.old) kept →
+        Appends result (Steady (C.holds store.new entries) (C.written store.new)) (λ c. C.content store.new) (C.area (C.topic_of store.old)) (C.stands (C.topic_of store.old) entries) (S.disk shelf.old) (S.disk shelf.new) kept (after_all changes kept) }
 
     ensures content { (changes : List Record) → PreparedFor (C.is_for store.old) prepared changes → OnOk result (C.content store.new ≡ after_all changes (C.content store.old)) }
     ensures remembered { IsErr result → C.content store.new ≡ C.content store.old }

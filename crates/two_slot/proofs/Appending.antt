@@ -8,13 +8,13 @@ use Rattle.disk.specs.Disk.{Disk, Image}
 use Rattle.disk.specs.Areas.{Within, widen_within}
 use Rattle.gated_log.specs.declared.log.GatedLog.{GatedLog}
 use Rattle.gated_log.specs.declared.log_id.LogId.{LogId}
-use Rattle.gated_log.specs.Batches.{Bodies, IsLog, BeforeOrAfter}
-use Rattle.disk.specs.Contents.{Settled, InDoubt}
+use Rattle.gated_log.specs.Batches.{Bodies, IsLog}
+use Rattle.disk.specs.Contents.{Settled, InDoubt, BeforeOrAfter}
 use Rattle.gated_log.specs.Logs.{StandsFor, LogHolds, log_id, log_content}
 use Rattle.two_slot.specs.declared.spare.Spare.{Spare}
 use Rattle.two_slot.specs.declared.two_slot.TwoSlot.{TwoSlot}
 use Rattle.two_slot.specs.Slots.{SlotsOf, other_of, Stands}
-use Rattle.two_slot.specs.TwoSlots.{Holds, IsSpare, content, generation_of}
+use Rattle.two_slot.specs.TwoSlots.{Holds, IsSpare, generation_of}
 use Rattle.two_slot.specs.Local.{spare_yields}
 
 -- two files
@@ -53,18 +53,18 @@ log_stands slots image bodies small spare is = record {
 
 -- what a crash leaves of the slots, where the log's file alone is worked on
 either : (slots : TwoSlot) (d0 : Disk) (bodies : Bodies) (body : List ℕ) (c : Image) → Settled (Holds slots) d0 bodies → (from : Image) → d0.may_leave from → c (Slot slots.topic (other_of slots.counts)) ≡ from (Slot slots.topic (other_of slots.counts))
-    → BeforeOrAfter (StandsFor (log_id slots.log) c) bodies body → BeforeOrAfter (Stands slots.topic c) bodies body
+    → BeforeOrAfter (StandsFor (log_id slots.log)) bodies (bodies ++ body ∷ []) c → BeforeOrAfter (Stands slots.topic) bodies (bodies ++ body ∷ []) c
 either slots d0 bodies body c s from left same which =
     let spare = spare_same slots.spare (generation_of slots) (generation_of slots) _ (c (Slot slots.topic (other_of slots.counts))) refl same (s.left from left).spare in
     ⊎_elim (λ is. inl (log_stands slots c bodies s.now.in_range spare is)) (λ is. inr (log_stands slots c (bodies ++ body ∷ []) s.now.in_range spare is)) which
 
 pub append_within : (slots : TwoSlot) (d0 d1 : Disk) (bodies : Bodies) (body : List ℕ) → Settled (Holds slots) d0 bodies
-    → Within (λ f. f ≡ (log_id slots.log).file) (λ c. BeforeOrAfter (StandsFor (log_id slots.log) c) bodies body) d0 d1 → Within (SlotsOf slots.topic) (λ c. BeforeOrAfter (Stands slots.topic c) bodies body) d0 d1
+    → Within (λ f. f ≡ (log_id slots.log).file) (BeforeOrAfter (StandsFor (log_id slots.log)) bodies (bodies ++ body ∷ [])) d0 d1 → Within (SlotsOf slots.topic) (BeforeOrAfter (Stands slots.topic) bodies (bodies ++ body ∷ [])) d0 d1
 append_within slots d0 d1 bodies body s w =
-    widen_within _ (SlotsOf slots.topic) _ (λ c. BeforeOrAfter (Stands slots.topic c) bodies body) d0 d1 (own slots) (λ c out. either slots d0 bodies body c s out.from out.left (out.elsewhere _ (away slots)) out.own) w
+    widen_within _ (SlotsOf slots.topic) _ (BeforeOrAfter (Stands slots.topic) bodies (bodies ++ body ∷ [])) d0 d1 (own slots) (λ c out. either slots d0 bodies body c s out.from out.left (out.elsewhere _ (away slots)) out.own) w
 
 pub append_doubt : (slots : TwoSlot) (log : GatedLog) (d0 d1 : Disk) (bodies : Bodies) (body : List ℕ) → Settled (Holds slots) d0 bodies
-    → Within (λ f. f ≡ (log_id slots.log).file) (λ c. BeforeOrAfter (StandsFor (log_id slots.log) c) bodies body) d0 d1
+    → Within (λ f. f ≡ (log_id slots.log).file) (BeforeOrAfter (StandsFor (log_id slots.log)) bodies (bodies ++ body ∷ [])) d0 d1
     → InDoubt (log_content log) (StandsFor (log_id slots.log)) d1 bodies (bodies ++ body ∷ []) → InDoubt (log_content log) (Stands slots.topic) d1 bodies (bodies ++ body ∷ [])
 append_doubt slots log d0 d1 bodies body s w doubt = record {
   honest = doubt.honest;

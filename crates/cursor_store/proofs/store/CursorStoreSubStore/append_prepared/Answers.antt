@@ -1,29 +1,28 @@
 use Rattle.std.proofs.Common.{refl}
+use Rattle.disk.specs.Contents.{at_ok, at_err}
 use Rattle.records.specs.Bytes.{body_of}
 use Rattle.cursor_store.specs.Laws.{in_bodies}
 use Rattle.cursor_store.proofs.Appending.{added, in_doubt, within}
 use Rattle.cursor_store.proofs.store.CursorStoreSubStore.append_prepared.Goals as goal
 
-pub returns-in_err-append_prepared-clause-in_doubt : goal.returns-in_err-append_prepared-clause-in_doubt
-returns-in_err-append_prepared-clause-in_doubt g c = λ entries kept records is_for formed s _.
-    let is = in_bodies c.args.self.now entries (g.S.Shelf.disk c.args.shelf.now) kept s in
-    in_doubt c.args.self.now c.append_prepared.new.self entries (g.S.Shelf.disk c.args.shelf.now) (g.S.Shelf.disk c.append_prepared.new.shelf) kept records s.now.bodies formed is
-    (c.in_err-append_prepared.ensures.in_doubt s.now.bodies (body_of records) is_for.batch is.slots refl)
+pub returns-in_err-append_prepared-clause-appends : goal.returns-in_err-append_prepared-clause-appends
+returns-in_err-append_prepared-clause-appends g c = λ entries kept records is_for formed s.
+    let d0 = g.S.Shelf.disk c.args.shelf.now in
+    let d1 = g.S.Shelf.disk c.append_prepared.new.shelf in
+    let bodies = s.settled.now.bodies in
+    let is = in_bodies c.args.self.now entries d0 kept s in
+    let slots = c.in_err-append_prepared.ensures.appends bodies (body_of records) is_for.batch is.slots in
+    at_err c.from_residual.result _ c.from_residual.ensures.1
+    (in_doubt c.args.self.now c.append_prepared.new.self entries d0 d1 kept records bodies formed is (slots.in_doubt refl))
+    (within c.args.self.now entries d0 d1 kept records bodies formed is slots.within)
 
-pub returns-in_err-append_prepared-clause-within : goal.returns-in_err-append_prepared-clause-within
-returns-in_err-append_prepared-clause-within g c = λ entries kept records is_for formed s.
-    let is = in_bodies c.args.self.now entries (g.S.Shelf.disk c.args.shelf.now) kept s in
-    within c.args.self.now entries (g.S.Shelf.disk c.args.shelf.now) (g.S.Shelf.disk c.append_prepared.new.shelf) kept records s.now.bodies formed is
-    (c.append_prepared.ensures.within s.now.bodies (body_of records) is_for.batch is.slots)
-
-pub returns-clause-added : goal.returns-clause-added
-returns-clause-added g c = λ entries kept records is_for formed s.
-    let is = in_bodies c.args.self.now entries (g.S.Shelf.disk c.args.shelf.now) kept s in
-    added c.args.self.now _ c.args.prepared entries (g.S.Shelf.disk c.args.shelf.now) (g.S.Shelf.disk c.append_prepared.new.shelf) kept records s.now.bodies refl is_for formed is
-    (c.in_ok-append_prepared.ensures.added s.now.bodies (body_of records) is_for.batch is.slots)
-
-pub returns-clause-within : goal.returns-clause-within
-returns-clause-within g c = λ entries kept records is_for formed s.
-    let is = in_bodies c.args.self.now entries (g.S.Shelf.disk c.args.shelf.now) kept s in
-    within c.args.self.now entries (g.S.Shelf.disk c.args.shelf.now) (g.S.Shelf.disk c.append_prepared.new.shelf) kept records s.now.bodies formed is
-    (c.append_prepared.ensures.within s.now.bodies (body_of records) is_for.batch is.slots)
+pub returns-clause-appends : goal.returns-clause-appends
+returns-clause-appends g c = λ entries kept records is_for formed s.
+    let d0 = g.S.Shelf.disk c.args.shelf.now in
+    let d1 = g.S.Shelf.disk c.append_prepared.new.shelf in
+    let bodies = s.settled.now.bodies in
+    let is = in_bodies c.args.self.now entries d0 kept s in
+    let slots = c.in_ok-append_prepared.ensures.appends bodies (body_of records) is_for.batch is.slots in
+    at_ok
+    (added c.args.self.now _ c.args.prepared entries d0 d1 kept records bodies refl is_for formed is slots.added)
+    (within c.args.self.now entries d0 d1 kept records bodies formed is slots.within)

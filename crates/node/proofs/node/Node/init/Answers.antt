@@ -14,12 +14,12 @@ returns-clause-made g c = λ honest.
       state,
       refl,
       record {
-        honest = hold.honest;
+        honest = hold.settled.honest;
         left = λ files may. rests_one g.T.TopicStore.stands c.args.per_ledger (fresh c.args.per_ledger) files (record {
           ledger = [];
           kept = map.empty;
           is_left = inl (refl, refl);
-          stands = subst (λ n. g.T.TopicStore.stands n files [] map.empty) c.in_ok-_stores.ensures.topic ((g.met.T.TopicStore.laws store).stands files [] map.empty (hold.left files may));
+          stands = subst (λ n. g.T.TopicStore.stands n files [] map.empty) c.in_ok-_stores.ensures.topic ((g.met.T.TopicStore.laws store).stands files [] map.empty (hold.settled.left files may));
         });
         faults = omega arith;
       },
