@@ -35,7 +35,13 @@ SENDS_IN_PARTS = send(0) + "".join(PARTS.format(send(n)) for n in range(1, 4))
 # The changes in a flush that comes in parts, beside a message that is sent and a subscription that is made between these.
 CHANGES_IN_PARTS = CHANGES[:-len(END)] + PARTS.format(send(2) + f"bytes 0 {'00000027000000230804221f0a1270657273697374656e743a2f2f612f622f63120175180020042809' + '6801'}\n")
 
+# A message of the first topic, and another topic is made; and a new session that has it made or found.
+OTHER = "bytes 0 000000200000001c08052a180a1270657273697374656e743a2f2f612f622f6410021808\n"
+MAKES = f"{send(0)}{END}{OTHER}status\n"
+MAKES_AGAIN = f"status\nopen\n{CONNECT}{OTHER}status\n"
+
 RECEIPT, MESSAGE, ACK_RESPONSE = "08073a", "08094a", "0000000d000000090826b2"
+OTHER_IS_MADE = "08118a01090808120573302d7032"
 SUCCESS_OF_SUBSCRIBE, SUCCESS_OF_UNSUBSCRIBE = "0000000a00000006080d6a020808", "0000000a00000006080d6a02080a"
 
 
@@ -67,12 +73,27 @@ def changed_is_found(said):
     return "an answered change is lost" if left != (0, 1, 0) and removed else None
 
 
+def made_or_not(said):
+    """A topic that was told is there, and one that was refused is there or isn't; the other one stays, and the next search settles it."""
+    told = [re.findall(r"^T +(\d+) +(\d+) +1 (\S+)$", lines, re.M) for lines in re.split(r"^\d+ .*\n", said, flags=re.M) if lines]
+    if len(told) != 3:
+        return "it was not opened"
+    first = ("0", "1", "persistent://a/b/c") if RECEIPT in said else told[1][0]
+    if first not in (("0", "0", "persistent://a/b/c"), ("0", "1", "persistent://a/b/c")):
+        return "the first topic is lost"
+    with_other = [first, ("1", "0", "persistent://a/b/d")]
+    if told[1] != with_other and (told[1] != [first] or said.count(OTHER_IS_MADE) > 1):
+        return "a topic that was told is lost, or another one is there"
+    return None if told[2] == with_other else "the topic is neither found nor made"
+
+
 # What is done, what is done after the crash, the judge, up to which call, and the forms of crash behind a stop. A single failure is followed by `old`.
 SWEEPS = {
     "receipted": (SENDS, "status\n", receipted_is_found, 20, ("old", "new", "fill 01", "fill 07")),
     "acknowledged": (CONSUMES, CONSUMES_AGAIN, acknowledged_stays_so, 18, ("old", "new", "fill 01", "fill 07")),
     "receipted_in_parts": (SENDS_IN_PARTS, "status\n", receipted_is_found, 20, ("old", "new", "fill 01", "fill 07")),
     "changed_in_parts": (CHANGES_IN_PARTS, "status\n", changed_is_found, 13, ("old", "new", "fill 01", "fill 07")),
+    "made": (MAKES, MAKES_AGAIN, made_or_not, 22, ("old", "new", "fill 01", "fill 07")),
     "changed": (CHANGES, "status\n", changed_is_found, 13, ("old", "new", "fill 01", "fill 07")),
 }
 

@@ -1,10 +1,11 @@
 -- The file of a catalog stands for one thing, or has one fault.
-use Rattle.std.proofs.Common.{◌≡◌, ℕ, List, sym, subst, refl}
+use Rattle.std.proofs.Common.{◌≡◌, ℕ, List, sym, subst, refl, ◌∙◌}
 use Rattle.disk.specs.declared.file_id.FileId.TheVariants.{Catalog as catalog_file}
 use Rattle.disk.specs.Disk.{Image}
 use Rattle.disk.specs.Areas.{Agree}
 use Rattle.gated_log.specs.declared.refusal.Refusal.{Refusal}
 use Rattle.gated_log.specs.Batches.{IsLog}
+use Rattle.gated_log.specs.Local.{holds_local_lem}
 use Rattle.gated_log.specs.Folds.{Link}
 use Rattle.gated_log.specs.OneFault.{fault_one, log_no_fault, log_one}
 use Rattle.catalog.specs.declared.catalog.Catalog.{Catalog}
@@ -36,4 +37,11 @@ holds_stands catalog image names holds = record {
   log = subst (λ f. IsLog (per_ledger catalog) names (image f)) catalog.file holds.log.is;
   ledgers = catalog.ledgers;
   names_are = subst (λ (l : Names). AreNames l) holds.same catalog.are;
+}
+
+-- and looks at its own file alone
+pub holds_local : (catalog : Catalog) (a b : Image) (names : Names) → Agree Own a b → Holds catalog a names → Holds catalog b names
+holds_local catalog a b names same holds = record {
+  log = holds_local_lem catalog.log a b names (λ f own. same f (own ∙ catalog.file)) holds.log;
+  same = holds.same;
 }

@@ -3,10 +3,10 @@ ghost use Rattle.std.specs.Prelude.{◌≡◌, [], false, IsErr, IfOk};
 ghost use Rattle.disk.specs.Disk.{Kept, Failed};
 ghost use Rattle.disk.specs.Areas.{Within};
 ghost use Rattle.disk.specs.Contents.{Settled};
-ghost use Rattle.catalog.specs.Names.{IsPerLedger};
 ghost use Rattle.catalog.specs.Catalogs.{Own, Holds, per_ledger, failed};
 
 use crate::catalog::Catalog;
+use crate::entries_per_ledger::EntriesPerLedger;
 use disk::{DeviceError, FileId, Shelf};
 use gated_log::GatedLog;
 use indexmap::IndexSet;
@@ -18,17 +18,16 @@ impl Catalog {
     pub fn create<S: Shelf>(
         alloc: Global,
         shelf: &mut S,
-        entries_per_ledger: u32,
+        entries_per_ledger: EntriesPerLedger,
     ) -> Result<Catalog, DeviceError>
-        requires { IsPerLedger entries_per_ledger }
         ensures created { (S.disk shelf.old).honest → IfOk result (λ catalog. Settled (Holds catalog) (S.disk shelf.new) []) }
-        ensures per_ledger { IfOk result (λ catalog. per_ledger catalog ≡ entries_per_ledger) }
+        ensures per_ledger { IfOk result (λ catalog. per_ledger catalog ≡ entries_per_ledger.count) }
         ensures works { IfOk result (λ catalog. failed catalog ≡ false) }
         ensures others { (S.disk shelf.old).honest → Within Own (λ c. Unit {0}) (S.disk shelf.old) (S.disk shelf.new) }
         ensures cause { IsErr result → Failed (S.disk shelf.old) (S.disk shelf.new) }
         ensures kept { Kept (S.disk shelf.old) (S.disk shelf.new) }
     {
-        let number = u64::from(entries_per_ledger);
+        let number = u64::from(entries_per_ledger.get());
         let log = GatedLog::create(alloc, shelf, FileId::Catalog, number)?;
         Ok(Catalog {
             alloc,

@@ -7,12 +7,14 @@
 mod add;
 mod catalog;
 mod create;
+mod entries_per_ledger;
 mod find;
 mod law;
 mod names_fold;
 mod open;
 
 pub use catalog::{Catalog, MAX_ENTRIES_PER_LEDGER, MAX_TOPICS};
+pub use entries_per_ledger::EntriesPerLedger;
 pub use law::{
     catalog_has_no_fault, catalog_has_one_fault, catalog_is_its_own_file,
     catalog_stands_for_one_list,

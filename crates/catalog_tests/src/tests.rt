@@ -2,11 +2,12 @@
 // on which a catalog or a device is dropped. So names are texts, functions that borrow a catalog or a device tell what they saw as
 // plain values, and a test drops the device before it looks at them.
 mod damage;
+mod entries;
 mod kept;
 mod stops;
 mod texts;
 
-use catalog::Catalog;
+use catalog::{Catalog, EntriesPerLedger};
 use disk::{DeviceError, FileId, Shelf};
 use disk_mem::MemShelf;
 use gated_log::Refusal;
@@ -38,6 +39,14 @@ fn name(alloc: Global, text: &[u8]) -> Result<TopicName, Refusal> {
         Err(NameFault::NoMemory) => Err(Refusal::NoMemory),
         Err(NameFault::Bad) => Err(Refusal::TooLarge),
     }
+}
+
+// A new catalog whose ledgers have `ENTRIES` entries.
+fn create(alloc: Global, shelf: &mut MemShelf) -> Result<Catalog, Refusal> {
+    let Some(entries) = EntriesPerLedger::new(ENTRIES) else {
+        return Err(Refusal::TooLarge);
+    };
+    Ok(Catalog::create(alloc, shelf, entries)?)
 }
 
 // The number of the topic of a name.

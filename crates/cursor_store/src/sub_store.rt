@@ -60,6 +60,7 @@ pub trait SubStore: Drop {
     fn create<S: Shelf>(alloc: Global, shelf: &mut S, topic: u16) -> Result<Self, DeviceError>
         ensures created { (entries : ℕ) → (S.disk shelf.old).honest → IfOk result (λ store. Steady (holds store entries) (written store) (S.disk shelf.new) map.empty) }
         ensures topic { IfOk result (λ store. topic_of store ≡ topic) }
+        ensures content { IfOk result (λ store. content store ≡ map.empty) }
         ensures works { IfOk result (λ store. failed store ≡ false) }
         ensures others { (S.disk shelf.old).honest → Within (area topic) (λ c. Unit {0}) (S.disk shelf.old) (S.disk shelf.new) }
         ensures cause { IsErr result → Failed (S.disk shelf.old) (S.disk shelf.new) }

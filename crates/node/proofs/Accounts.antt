@@ -1,5 +1,5 @@
 -- Each life of a node accounts for what its sessions were told.
-use Rattle.std.proofs.Common.{◌≡◌, ℕ, zero, suc, ◌<◌, ◌+◌, ◌≤◌, false, Option, List, length, map, refl, sym, subst}
+use Rattle.std.proofs.Common.{◌≡◌, ℕ, ◌<◌, ◌+◌, ◌≤◌, false, Option, List, length, map, refl, sym, subst}
 use Rattle.std.specs.List.{AllByRecursion}
 use Rattle.topic_core.specs.State.{Topic, receipts_due}
 use Rattle.topic_core.specs.Soundness.{IsSoundTopic}
@@ -25,12 +25,8 @@ use Rattle.node.proofs.Unfolding.{life_unfolds, cut_life_unfolds}
 fresh_quiet : (n : ℕ) → IsQuiet (fresh n)
 fresh_quiet n = record { queues = refl; waiting = refl; sure = refl; counted = refl }
 
-quiet_at : (n number : ℕ) → IsQuiet (topic_at (fresh_broker n) number)
-quiet_at n zero = fresh_quiet n
-quiet_at n (suc number) = fresh_quiet n
-
-pub fresh_at_start : (n : ℕ) → 0 < n → IsAtStart (fresh_broker n)
-fresh_at_start n some = record { sound = fresh_broker_sound n some; quiet = quiet_at n }
+pub fresh_at_start : (n : ℕ) (url : List ℕ) → 0 < n → IsAtStart (fresh_broker n url)
+fresh_at_start n url some = record { sound = fresh_broker_sound n url some; quiet = λ number. fresh_quiet n }
 
 account : (t : Topic) (told : List Handed) (u : Topic) → Course t told u → IsSoundTopic t → IsQuiet t → Account t told u
 account t told u course sound quiet = record {

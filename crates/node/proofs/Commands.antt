@@ -10,11 +10,11 @@ use Rattle.topic_core.specs.declared.command.Send.{Send}
 use Rattle.topic_core.specs.declared.command.TopicCommand.{TopicCommand}
 use Rattle.topic_core.specs.declared.command.TopicCommand.TheVariants as asked
 use Rattle.topic_core.specs.declared.command.Subscribe.{Subscribe}
-use Rattle.topic_core.specs.declared.command.Ack.{Ack}
-use Rattle.topic_core.specs.declared.command.CloseProducer.{CloseProducer}
-use Rattle.topic_core.specs.declared.command.Unsubscribe.{Unsubscribe}
-use Rattle.topic_core.specs.declared.command.CloseConsumer.{CloseConsumer}
-use Rattle.topic_core.specs.declared.command.Redeliver.{Redeliver}
+use Rattle.commands.specs.declared.consuming.Ack.{Ack}
+use Rattle.commands.specs.declared.producing.CloseProducer.{CloseProducer}
+use Rattle.commands.specs.declared.consuming.Unsubscribe.{Unsubscribe}
+use Rattle.commands.specs.declared.giving_back.CloseConsumer.{CloseConsumer}
+use Rattle.commands.specs.declared.giving_back.Redeliver.{Redeliver}
 use Rattle.topic_core.specs.State.{Topic}
 use Rattle.reply_queues.specs.Replies.{queued}
 use Rattle.holds.specs.declared.consumer.ConsumerKey.{ConsumerKey}
@@ -147,7 +147,7 @@ detach_topic a t who close u step = awaits_by who (asked.CloseConsumer close) t 
 -- what a consumer gives back is free at once
 pub redeliver_topic : (a : Answer) (t : Topic) (who : ℕ) (redeliver : Redeliver) (u : Topic) → TopicStep t who (asked.Redeliver redeliver) a u → Awaits who t u
 redeliver_topic a t who redeliver u step = awaits_by who (asked.Redeliver redeliver) t a u
-    (granted_by t.failed who t (subscriptions.redelivered t.subs (key_of who redeliver.consumer_id) (asked_back t.per_ledger t.committed redeliver.ids)))
+    (granted_by t.failed who t (subscriptions.redelivered t.subs (key_of who redeliver.consumer_id) (asked_back t.per_ledger t.committed redeliver.message_ids)))
     step
 
 -- so do permits

@@ -7,10 +7,10 @@ use Rattle.managed_ledger.specs.Entries.{Entries}
 use Rattle.records.specs.Maps.{Kept}
 use Rattle.session.specs.Broker.{Broker}
 use Rattle.node.specs.State.{State}
-use Rattle.node.specs.Steps.{during}
-use Rattle.node.specs.Standing.{StandsForBroker}
+use Rattle.node.specs.Steps.{Amid}
+use Rattle.node.specs.Standing.{StandsForBroker, StandsForSome}
 use Rattle.node.specs.Runs.{Life, OpeningEnds, OpeningStep, AllowedRun}
-use Rattle.node.specs.Cuts.{Turn, Whole, Within, TurnStep, AllowedLife, amid_event, amid, Amidst, uncut, CutLife}
+use Rattle.node.specs.Cuts.{Turn, Whole, Within, TurnStep, AllowedLife, AmidEvent, AmidHappening, Amidst, uncut, CutLife}
 use Rattle.node.specs.declared.event.Event.{Event}
 use Rattle.node.specs.declared.event.Happening.{Happening}
 use Rattle.node.specs.declared.event.Happening.TheVariants as happening
@@ -29,7 +29,7 @@ module _ (files_stand : ℕ → Image → Entries → Kept → Type 0) (first : 
 
   -- the files stand for one
   abbrev pub Short : Image → Type 0
-  Short files = (broker : Broker) × Reached broker × StandsForBroker files_stand broker files
+  Short files = StandsForSome files_stand Reached files
 
   reached_first : Reached first.broker
   reached_first = record { worked = []; rest = happening.Crash ∷ happenings; outputs = []; between = start; run = refl; front = refl; here = inl refl }
@@ -41,7 +41,7 @@ module _ (files_stand : ℕ → Image → Entries → Kept → Type 0) (first : 
   -- behind a front of the happenings
   module _ (worked : List Happening) (outputs : List Output) (between : Life) (run : AllowedRun start (happening.Crash ∷ worked) outputs between) where
     reached_next : (broker : Broker) (rest : List Happening) → happenings ≡ worked ++ rest
-        → (broker ≡ between.state.broker) ⊎ ((next : Event) × (later : List Happening) × (rest ≡ happening.Event next ∷ later) × (between.up ≡ true) × (broker ≡ during between.state.broker next)) → Reached broker
+        → (broker ≡ between.state.broker) ⊎ ((next : Event) × (later : List Happening) × (rest ≡ happening.Event next ∷ later) × (between.up ≡ true) × Amid between.state.broker next broker) → Reached broker
     reached_next broker rest front here = record {
       worked = happening.Crash ∷ worked;
       rest = rest;
@@ -52,21 +52,20 @@ module _ (files_stand : ℕ → Image → Entries → Kept → Type 0) (first : 
       here = here;
     }
 
-    reached_in : (up : Bool) (e : Event) (later : List Happening) → between.up ≡ up → happenings ≡ worked ++ happening.Event e ∷ later → Reached (amid_event up between.state.broker e)
-    reached_in true e later up front = reached_next (during between.state.broker e) (happening.Event e ∷ later) front (inr (e, later, refl, up, refl))
-    reached_in false e later up front = reached_next between.state.broker (happening.Event e ∷ later) front (inl refl)
+    reached_in : (up : Bool) (e : Event) (later : List Happening) (broker : Broker) → between.up ≡ up → happenings ≡ worked ++ happening.Event e ∷ later → AmidEvent up between.state.broker e broker → Reached broker
+    reached_in true e later broker up front amid = reached_next broker (happening.Event e ∷ later) front (inr (e, later, refl, up, amid))
+    reached_in false e later broker up front amid = reached_next broker (happening.Event e ∷ later) front (inl amid)
 
-    reached_amid : (h : Happening) (later : List Happening) → happenings ≡ worked ++ h ∷ later → Reached (amid between.up between.state.broker h)
-    reached_amid (happening.Event e) later front = reached_in between.up e later refl front
-    reached_amid (happening.Crash) later front = reached_next between.state.broker (happening.Crash ∷ later) front (inl refl)
+    reached_amid : (h : Happening) (later : List Happening) (broker : Broker) → happenings ≡ worked ++ h ∷ later → AmidHappening between.up between.state.broker h broker → Reached broker
+    reached_amid (happening.Event e) later broker front amid = reached_in between.up e later broker refl front amid
+    reached_amid (happening.Crash) later broker front amid = reached_next broker (happening.Crash ∷ later) front (inl amid)
 
     -- one happening more
     pub short_more : (h : Happening) (rest later : List Happening) (d0 d1 d2 : Disk) → happenings ≡ worked ++ rest → rest ≡ h ∷ later
-        → Leaves Short d0 d1 → Leaves (StandsForBroker files_stand (amid between.up between.state.broker h)) d1 d2 → Leaves Short d0 d2
+        → Leaves Short d0 d1 → Leaves (StandsForSome files_stand (λ broker. AmidHappening between.up between.state.broker h broker)) d1 d2 → Leaves Short d0 d2
     short_more h rest later d0 d1 d2 front next before leaves =
-        let broker = amid between.up between.state.broker h in
-        let reached = reached_amid h later (subst (λ (hs : List Happening). happenings ≡ worked ++ hs) next front) in
-        joins Short (StandsForBroker files_stand broker) Short d0 d1 d2 before leaves (λ files s. s) (λ files s. (broker, reached, s))
+        let at = subst (λ (hs : List Happening). happenings ≡ worked ++ hs) next front in
+        joins Short (StandsForSome files_stand (λ broker. AmidHappening between.up between.state.broker h broker)) Short d0 d1 d2 before leaves (λ files s. s) (λ files s. (s.0, reached_amid h later s.0 at s.1, s.2))
 
 -- ---- the openings after them
 
@@ -85,7 +84,10 @@ ends_earlier verdict.Done s faults new more o = record {
   crash = record {
     per_ledger = o.crash.per_ledger;
     service_url = o.crash.service_url;
+    settled = o.crash.settled;
+    settles = o.crash.settles;
     names = o.crash.names;
+    sure = o.crash.sure;
     count = o.crash.count;
     each = o.crash.each;
     stages = o.crash.stages;
@@ -117,6 +119,6 @@ cut_turn old happenings broker at faults output new more opening = ⊎_elim
       turn = Within within.0;
       silent = refl;
       life = turned old at.worked at.outputs at.between (Within within.0) output new at.run
-          (record { up = within.3; faults = faults; more = more; opening = opens_at at.between.state broker (during at.between.state.broker within.0) faults output new within.4 opening });
+          (record { up = within.3; faults = faults; more = more; broker = broker; amid = within.4; opening = opening });
     })
     at.here

@@ -16,7 +16,7 @@ use Rattle.topic_core.specs.Flush.{has_no_flush, TakeStep, FinishStep, FlushIn}
 use Rattle.topic_core.specs.Crashes.{ReopenStep, ReopenIn}
 use Rattle.session.specs.Broker.{Broker, fresh, topic_at}
 use Rattle.session.specs.Client.{Play, play}
-use Rattle.node.specs.State.{State, MayRefuse, Stage, Resting, Taken, Written, stage_at, stage_in, place_in, place_of, is_full, verdict_for, verdict_of_flush, stage_after}
+use Rattle.node.specs.State.{State, MayRefuse, Stage, Resting, Taken, Written, stage_at, place_in, place_of, is_full, verdict_for, verdict_of_flush, stage_after}
 use Rattle.node.specs.Steps as steps
 use Rattle.node.specs.Runs.{Run, StateCrash, Life, OpeningEnds, EventIn, HappeningStep, AllowedRun}
 use Rattle.node.specs.Cuts.{Turn, Whole, Within, cut_in, TurnStep, AllowedLife}
@@ -30,8 +30,9 @@ use Rattle.node.specs.declared.event.Happening.TheVariants as happening
 use Rattle.node.specs.declared.event.Output.{Output}
 use Rattle.node.specs.declared.event.Verdict.{Verdict}
 use Rattle.node.specs.declared.event.Verdict.TheVariants as verdict
-use Rattle.node.proofs.Brokers.{set_at}
-use Rattle.node.specs.Lists.{same_or_not, set_else}
+use Rattle.node.specs.Brokers.{set_at}
+use Rattle.std.proofs.lemmas.List.{get_or-set_other}
+use Rattle.node.specs.Lists.{same_or_not}
 use Rattle.node.proofs.Commands.{Awaits, producer_topic, refused_topic, silent_topic, accepted_topic, subscribe_topic, ack_topic, close_topic, unsubscribe_topic, detach_topic, redeliver_topic, granted_topic, sent_topic}
 use Rattle.node.proofs.Endings.{reopen_cases, Reopened}
 use Rattle.node.proofs.Playing.{Plays, gone_each, fed, pumped}
@@ -195,11 +196,11 @@ module _ (base : ℕ) where
   same_state old new number is h = subst (λ (s : State). Held s number) (sym is) h
 
   -- a session's step
-  talks : (old new : State) (number : ℕ) → new.stages ≡ old.stages → old.faults ≤ new.faults → Alike (topic_at old.broker number) (topic_at new.broker number) → Held old number → Held new number
+  talks : (old new : State) (number : ℕ) → ((n : ℕ) → stage_at new n ≡ stage_at old n) → old.faults ≤ new.faults → Alike (topic_at old.broker number) (topic_at new.broker number) → Held old number → Held new number
   talks old new number stage more same h =
-      subst (λ (s : List Stage). Caused new.faults (stage_in s number) (topic_at new.broker number)) (sym stage) (still old.faults new.faults (stage_at old number) (topic_at old.broker number) (topic_at new.broker number) more same h)
+      subst (λ (s : Stage). Caused new.faults s (topic_at new.broker number)) (sym (stage number)) (still old.faults new.faults (stage_at old number) (topic_at old.broker number) (topic_at new.broker number) more same h)
 
-  plays : (old new : State) (number : ℕ) (p q : Play) → p.broker ≡ old.broker → Plays p q → new.broker ≡ q.broker → new.stages ≡ old.stages → old.faults ≤ new.faults → Held old number → Held new number
+  plays : (old new : State) (number : ℕ) (p q : Play) → p.broker ≡ old.broker → Plays p q → new.broker ≡ q.broker → ((n : ℕ) → stage_at new n ≡ stage_at old n) → old.faults ≤ new.faults → Held old number → Held new number
   plays old new number p q is played broker stage more h =
       let u = played.unfolds in
       let same = talked (topic_at p.broker number) _ (topic_at q.broker number) (u.each number) in
@@ -217,7 +218,7 @@ module _ (base : ℕ) where
       (set_at (λ x y. Caused old.faults (stage_at old at) x → Caused new.faults reached y) others old.broker.topics at at t (fresh old.broker.per_ledger) one (subst (λ (n : ℕ). Held old n) is h)))))
       (λ (differ : number ≢ at). subst (λ (x : Stage). Caused new.faults x (topic_at new.broker number)) (sym (s.others number differ))
       (subst (λ (b : Broker). Caused new.faults (stage_at old number) (topic_at b number)) (sym s.broker)
-      (subst (λ (x : Topic). Caused new.faults (stage_at old number) x) (sym (set_else old.broker.topics at number t (fresh old.broker.per_ledger) differ))
+      (subst (λ (x : Topic). Caused new.faults (stage_at old number) x) (sym (get_or-set_other old.broker.topics at number t (fresh old.broker.per_ledger) differ))
       (same_one old.faults new.faults (stage_at old number) (topic_at old.broker number) (topic_at old.broker number) s.faults refl h))))
       (same_or_not number at)
 
@@ -238,7 +239,7 @@ module _ (base : ℕ) where
   bytes_come : (place : Option ℕ) (old : State) (bytes : List ℕ) (output : Output) (new : State) (number : ℕ) → steps.BytesStep place old bytes output new → Held old number → Held new number
   bytes_come None old bytes output new number s h = same_state old new number s.1 h
   bytes_come (Some place) old bytes output new number s h =
-      plays old new number (play s.client old.broker []) s.played refl (fed s.client.fault (play s.client old.broker []) bytes s.result s.played s.step) s.settles.broker s.settles.stages s.settles.faults h
+      plays old new number (play s.client old.broker []) s.played refl (fed (old.faults < new.faults) s.client.fault (play s.client old.broker []) bytes s.result s.played s.step) s.settles.broker s.settles.stages s.settles.faults h
 
   pumps : (place : Option ℕ) (old : State) (output : Output) (new : State) (number : ℕ) → steps.PumpStep place old output new → Held old number → Held new number
   pumps None old output new number s h = same_state old new number s.1 h
@@ -345,7 +346,7 @@ module _ (base : ℕ) where
 
   turn_held : (old : Life) (t : Turn) (output : Output) (new : Life) (number : ℕ) → TurnStep old t output new → HeldIn old number → HeldIn new number
   turn_held old (Whole w) output new number s h = happening_held old w output new number s h
-  turn_held old (Within e) output new number s h = opening_held output.result (cut_in old.state e s.faults) new number (omega (arith, h.later, s.more)) s.opening.1
+  turn_held old (Within e) output new number s h = opening_held output.result (cut_in old.state s.broker s.faults) new number (omega (arith, h.later, s.more)) s.opening.1
 
   life_held : (old : Life) (happenings : List Happening) (outputs : List Output) (new : Life) (number : ℕ) → AllowedRun old happenings outputs new → HeldIn old number → HeldIn new number
   life_held old [] [] new number s h = subst (λ (l : Life). HeldIn l number) (sym s) h

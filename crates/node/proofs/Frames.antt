@@ -1,8 +1,10 @@
 -- A call of one topic of a node, and the other topics.
-use Rattle.std.proofs.Common.{◌≡◌, ◌≢◌, ⊎_elim, ℕ, ◌<◌, true, false, List, ◌∙◌, Some, None, Option, [], ◌∷◌, Result, Ok, Err, map, length, slice_get, slice_set, cond, nat_lt, ap, refl, sym, subst, arith}
+use Rattle.std.proofs.Common.{◌≡◌, ◌≢◌, inl, inr, ⊎_elim, ℕ, ◌<◌, Bool, true, false, List, ◌∙◌, ◌++◌, Some, None, Option, [], ◌∷◌, Result, Ok, Err, map, length, slice_get, slice_set, cond, nat_lt, ap, refl, sym, subst, arith}
 use Rattle.std.proofs.lemmas.Bool.Decides.{nat_tests}
-use Rattle.std.proofs.lemmas.List.{set-get_or}
+use Rattle.std.proofs.lemmas.List.{set-get_or, length-map, length-set, get_or-set_other}
+use Rattle.std.specs.FinMap as map_of
 use Rattle.disk.specs.Disk.{Disk, Image, Leaves, Undisturbed}
+use Rattle.disk.specs.Contents.{Settled}
 use Rattle.disk.specs.Moments.{weaken}
 use Rattle.disk.specs.Areas.{OfTopic, Agree, Within, apart}
 use Rattle.managed_ledger.specs.Entries.{Entries}
@@ -15,11 +17,15 @@ use Rattle.topic_stores.specs.Laws.{settled_stays}
 use Rattle.topic_stores.specs.Writing.{StandsFor}
 use Rattle.topic_core.specs.State.{Topic}
 use Rattle.topic_core.specs.Crashes.{IsLeft}
-use Rattle.topic_core.specs.Standing.{Phase, Before, Lost, resting, Holds, Standing}
+use Rattle.topic_core.specs.Standing.{Phase, Before, Lost, Holds, Standing}
 use Rattle.topic_core.specs.Standing as phases
-use Rattle.topic_core.specs.Flush.{TakeStep, FinishStep}
+use Rattle.topic_core.specs.Flush.{TakeStep, FinishStep, has_no_flush}
 use Rattle.topic_core.proofs.Standings.{standing_handed_on, finish_standing}
 use Rattle.topic_core.specs.Crashes.{longer, changed}
+use Rattle.catalog.specs.declared.catalog.Catalog.{Catalog}
+use Rattle.catalog.specs.Names.{Names}
+use Rattle.catalog.specs.Catalogs.{Own, Holds as NamesHeld, remembered, failed}
+use Rattle.catalog.specs.Laws.{own_file, holds_local}
 use Rattle.session.specs.Broker.{Broker, topic_at, with_topic, fresh}
 use Rattle.node.specs.declared.held.Held.{Held}
 use Rattle.node.specs.declared.topics.Topics.{Topics}
@@ -28,12 +34,18 @@ use Rattle.node.specs.declared.flight.Flight.TheVariants as flight
 use Rattle.node.specs.Flights.{stage_of, phase_at, IsUnderWay}
 use Rattle.node.specs.Parts.{TakesPart, FinishesPart}
 use Rattle.node.proofs.UnderWay.{works, fits, takes_before, untaken}
-use Rattle.node.specs.State.{Stage, Resting, Taken, Written, stage_in, stage_after, place_in, broker_with}
-use Rattle.node.specs.Standing.{StandsForBroker, view_in, phase_in, HeldStands, broker_of, TopicsStand}
-use Rattle.node.specs.Passing.{each_with, count_is, untouched}
-use Rattle.node.specs.Steps.{in_flush}
+use Rattle.node.specs.State.{Stage, Resting, Taken, Written, stage_in, stage_after, place_in, over}
+use Rattle.node.specs.Standing.{StandsForBroker, StandsForSome, NamesLeft, view_in, phase_in, HeldStands, broker_of, TopicsStand}
+use Rattle.node.specs.Passing.{each_with, count_is, untouched, names_as, formed_of}
+use Rattle.node.specs.Naming.{IsFormed}
+use Rattle.node.specs.Brokers.{set_at}
+use Rattle.node.specs.Steps.{in_flush, flushing}
 use Rattle.node.specs.Numbers.{IsNumbered, AreNumbered, StaysNumbered}
-use Rattle.node.specs.Lists.{get_set, get_map, map_set, at_map, got_set, set_else, set_beyond, only_one}
+use Rattle.node.specs.Lists.{get_set, get_map, map_set, at_map, got_set, set_beyond}
+
+-- a broker, as the one that there is
+pub here : (stands : ℕ → Image → Entries → Kept → Type 0) (b : Broker) (old new : Disk) → Leaves (StandsForBroker stands b) old new → Leaves (StandsForSome stands (λ broker. broker ≡ b)) old new
+here stands b old new leaves = weaken _ _ old new leaves (λ files is. (b, refl, is))
 
 -- ---- another topic
 
@@ -83,7 +95,7 @@ unplaced topics number high = not_placed' (length topics) number high
 
 -- a broker with the topic that it has
 pub same_topic : (b : Broker) (number : ℕ) → with_topic b number (topic_at b number) ≡ b
-same_topic b number = ap (λ (ts : List Topic). let x : Broker = record { per_ledger = b.per_ledger; service_url = b.service_url; names = b.names; topics = ts } in x) (set-get_or b.topics number (fresh b.per_ledger))
+same_topic b number = ap (λ (ts : List Topic). over b ts) (set-get_or b.topics number (fresh b.per_ledger))
 
 -- ---- parts of a flush that write nothing
 
@@ -123,9 +135,9 @@ module _ {T : Type 0} {store : StoreMembers T} (laws : (s : T) → AreLaws store
 
 -- ---- one topic in its list
 
-module _ {T : Type 0} {store : StoreMembers T} (n : ℕ) (items : List (Held T store)) (number : ℕ) (h next : Held T store) (was : slice_get items number ≡ Some h) where
-  pub topic_was : topic_at (broker_with n (map (λ (x : Held T store). x.core) items)) number ≡ h.core
-  topic_was = at_map (λ (x : Held T store). x.core) items number h (fresh n) was
+module _ {T : Type 0} {store : StoreMembers T} (b : Broker) (items : List (Held T store)) (number : ℕ) (h next : Held T store) (was : slice_get items number ≡ Some h) where
+  pub topic_was : topic_at (over b (map (λ (x : Held T store). x.core) items)) number ≡ h.core
+  topic_was = at_map (λ (x : Held T store). x.core) items number h (fresh b.per_ledger) was
 
   pub stage_was : stage_in (map (λ (x : Held T store). stage_of x.flight) items) number ≡ stage_of h.flight
   stage_was = at_map (λ (x : Held T store). stage_of x.flight) items number h Resting was
@@ -133,8 +145,8 @@ module _ {T : Type 0} {store : StoreMembers T} (n : ℕ) (items : List (Held T s
   pub got_now : slice_get (slice_set items number next) number ≡ Some next
   got_now = got_set items number h next was
 
-  pub topic_now : topic_at (broker_with n (map (λ (x : Held T store). x.core) (slice_set items number next))) number ≡ next.core
-  topic_now = at_map (λ (x : Held T store). x.core) (slice_set items number next) number next (fresh n) got_now
+  pub topic_now : topic_at (over b (map (λ (x : Held T store). x.core) (slice_set items number next))) number ≡ next.core
+  topic_now = at_map (λ (x : Held T store). x.core) (slice_set items number next) number next (fresh b.per_ledger) got_now
 
   pub stage_now : stage_in (map (λ (x : Held T store). stage_of x.flight) (slice_set items number next)) number ≡ stage_of next.flight
   stage_now = at_map (λ (x : Held T store). stage_of x.flight) (slice_set items number next) number next Resting got_now
@@ -145,19 +157,19 @@ module _ {T : Type 0} {store : StoreMembers T} (n : ℕ) (items : List (Held T s
   stages : map (λ (x : Held T store). stage_of x.flight) (slice_set items number next) ≡ slice_set (map (λ (x : Held T store). stage_of x.flight) items) number (stage_of next.flight)
   stages = map_set (λ (x : Held T store). stage_of x.flight) (λ (x : Held T store). stage_of x.flight) items number next (λ j x differ is. refl)
 
-  pub becomes : broker_with n (map (λ (x : Held T store). x.core) (slice_set items number next)) ≡ with_topic (broker_with n (map (λ (x : Held T store). x.core) items)) number next.core
-  becomes = ap (λ (ts : List Topic). broker_with n ts) cores
+  pub becomes : over b (map (λ (x : Held T store). x.core) (slice_set items number next)) ≡ with_topic (over b (map (λ (x : Held T store). x.core) items)) number next.core
+  becomes = ap (λ (ts : List Topic). over b ts) cores
 
   pub stage_else : (other : ℕ) → other ≢ number → stage_in (map (λ (x : Held T store). stage_of x.flight) (slice_set items number next)) other ≡ stage_in (map (λ (x : Held T store). stage_of x.flight) items) other
   stage_else other differ =
-      ap (λ (l : List Stage). stage_in l other) stages ∙ set_else (map (λ (x : Held T store). stage_of x.flight) items) number other (stage_of next.flight) Resting differ
+      ap (λ (l : List Stage). stage_in l other) stages ∙ get_or-set_other (map (λ (x : Held T store). stage_of x.flight) items) number other (stage_of next.flight) Resting differ
 
   -- the topic and its flush are as before
   pub unchanged : next.core ≡ h.core → next.flight ≡ h.flight
-      → (broker_with n (map (λ (x : Held T store). x.core) (slice_set items number next)) ≡ broker_with n (map (λ (x : Held T store). x.core) items))
+      → (over b (map (λ (x : Held T store). x.core) (slice_set items number next)) ≡ over b (map (λ (x : Held T store). x.core) items))
       × (map (λ (x : Held T store). stage_of x.flight) (slice_set items number next) ≡ map (λ (x : Held T store). stage_of x.flight) items)
   unchanged core flight = (
-    becomes ∙ ap (λ x. with_topic (broker_with n (map (λ (x : Held T store). x.core) items)) number x) (core ∙ sym topic_was) ∙ same_topic (broker_with n (map (λ (x : Held T store). x.core) items)) number,
+    becomes ∙ ap (λ x. with_topic (over b (map (λ (x : Held T store). x.core) items)) number x) (core ∙ sym topic_was) ∙ same_topic (over b (map (λ (x : Held T store). x.core) items)) number,
     stages ∙ ap (λ s. slice_set (map (λ (x : Held T store). stage_of x.flight) items) number s) (ap (λ f. stage_of f) flight ∙ sym stage_was) ∙ set-get_or (map (λ (x : Held T store). stage_of x.flight) items) number Resting,
   )
 
@@ -172,6 +184,44 @@ held_same {store = store} h next d stores core flight s =
     subst (λ x. Standing store.stands (phase_in next) next.core (store.view x) d) (sym stores)
     (subst (λ f. Standing store.stands (phase_at next.core.failed (stage_of f)) next.core (view_in h) d) (sym flight)
     (subst (λ u. Standing store.stands (phase_at u.failed (stage_of h.flight)) u (view_in h) d) (sym core) s))
+
+-- a flush leaves the number of entry ids
+flushing_ledgers : (fails nothing : Bool) (t : Topic) → (flushing fails nothing t).per_ledger ≡ t.per_ledger
+flushing_ledgers true nothing t = refl
+flushing_ledgers false true t = refl
+flushing_ledgers false false t = refl
+
+-- a broker of which one topic changes
+formed_changed : (b : Broker) (number : ℕ) (u : Topic) → u.per_ledger ≡ b.per_ledger → IsFormed b → IsFormed (with_topic b number u)
+formed_changed b number u ledgers formed = record {
+  named = length-set b.topics number u ∙ formed.named;
+  ledgers = λ j. set_at (λ x y. x.per_ledger ≡ b.per_ledger → y.per_ledger ≡ b.per_ledger) (λ t is. is) b.topics number j u (fresh b.per_ledger) (λ _. ledgers) (formed.ledgers j);
+}
+
+-- ---- the names
+
+-- a call on the files of a topic leaves the catalog's alone
+pub names_alone : (number : ℕ) (P : Image → Type 0) (old new : Disk) → new.honest → Within (OfTopic number) P old new → Undisturbed Own old new
+names_alone number P old new honest w = record {
+  honest = λ h. honest;
+  seen = λ f own. w.seen f (subst (λ x. ¬ OfTopic number x) (sym own) (λ no. no));
+  left = λ c may. let out = w.any_moment.now c may in (out.from, out.left, λ f own. out.elsewhere f (subst (λ x. ¬ OfTopic number x) (sym own) (λ no. no)));
+}
+
+pub settled_still : (catalog : Catalog) (names : Names) (old new : Disk) → Undisturbed Own old new → Settled (NamesHeld catalog) old names → Settled (NamesHeld catalog) new names
+settled_still catalog names old new u x = record {
+  honest = u.honest x.honest;
+  now = holds_local catalog old.seen new.seen names u.seen x.now;
+  left = λ c may. let d = u.left c may in holds_local catalog d.0 c names d.2 (x.left d.0 d.1);
+}
+
+module _ (stands : ℕ → Image → Entries → Kept → Type 0) (local : (t : ℕ) (a b : Image) (ledger : Entries) (k : Kept) → Agree (OfTopic t) a b → stands t a ledger k → stands t b ledger k) where
+  pub names_moved : (doubt : Option (List ℕ)) (b : Broker) (a c : Image) → Agree Own a c → Agree (OfTopic (length b.topics)) a c → NamesLeft stands doubt b a → NamesLeft stands doubt b c
+  names_moved None b a c same next is = own_file b.per_ledger a c b.names same is
+  names_moved (Some name) b a c same next is = ⊎_elim
+      (λ without. inl (own_file b.per_ledger a c b.names same without))
+      (λ more. inr (own_file b.per_ledger a c (b.names ++ name ∷ []) same more.0, local (length b.topics) a c [] map_of.empty next more.1))
+      is
 
 module _ {T S : Type 0} {store : StoreMembers T} where
   pub there : (t : Topics T S store) (number : ℕ) → number < length t.held.items → place_in (broker_of t).topics number ≡ Some number
@@ -188,66 +238,77 @@ module _ {T S : Type 0} {store : StoreMembers T} where
       → Within (OfTopic (view_in h).topic) (StandsFor (store.stands (view_in h).topic) P) d0 d1 → Within (OfTopic number) (StandsFor (store.stands number) P) d0 d1
   of_number_within t number h was P d0 d1 w = of_number t number h was (λ i. Within (OfTopic i) (StandsFor (store.stands i) P) d0 d1) w
 
+  -- with another topic in the list there are as many, so the names are left as before
+  pub names_beside : (t : Topics T S store) (number : ℕ) (next : Held T store) (files : Image) → NamesLeft store.stands t.doubtful (broker_of t) files
+      → NamesLeft store.stands t.doubtful (over (broker_of t) (map (λ (x : Held T store). x.core) (slice_set t.held.items number next))) files
+  names_beside t number next files is =
+      names_as store.stands t.doubtful (broker_of t) (over (broker_of t) (map (λ (x : Held T store). x.core) (slice_set t.held.items number next))) files refl refl
+      (length-map (slice_set t.held.items number next) (λ (x : Held T store). x.core) ∙ length-set t.held.items number next ∙ sym (count_is t)) is
+
   -- each topic stands beside one that stands again, on the same device
   pub stand_beside : (disk : S → Disk) (t : Topics T S store) (number : ℕ) (h next : Held T store) → slice_get t.held.items number ≡ Some h → TopicsStand disk t → HeldStands next (disk t.shelf)
       → (j : ℕ) (x : Held T store) → slice_get (slice_set t.held.items number next) j ≡ Some x → HeldStands x (disk t.shelf)
-  stand_beside disk t number h next was s here =
-      each_with (λ j x. HeldStands x (disk t.shelf)) t.held.items (slice_set t.held.items number next) number next refl here (λ j x differ is. s.each j x is)
+  stand_beside disk t number h next was s stands =
+      each_with (λ j x. HeldStands x (disk t.shelf)) t.held.items (slice_set t.held.items number next) number next refl stands (λ j x differ is. s.each j x is)
 
   -- an event of a topic that isn't there
   pub beyond_leaves : (disk : S → Disk) (t : Topics T S store) (number : ℕ) → ¬ (number < length t.held.items) → (amid : Topic) → TopicsStand disk t → Leaves (StandsForBroker store.stands (with_topic (broker_of t) number amid)) (disk t.shelf) (disk t.shelf)
   beyond_leaves disk t number high amid s =
-      subst (λ (ts : List Topic). Leaves (StandsForBroker store.stands (broker_with t.per_ledger ts)) (disk t.shelf) (disk t.shelf))
+      subst (λ (ts : List Topic). Leaves (StandsForBroker store.stands (over (broker_of t) ts)) (disk t.shelf) (disk t.shelf))
       (sym (set_beyond (broker_of t).topics number amid (λ low. high (omega (arith, low, count_is t))))) (untouched disk t t.shelf s refl)
 
   module _ (disk : S → Disk) (laws : (s : T) → AreLaws store.stands (store.view s)) (local : (k : ℕ) (a b : Image) (ledger : Entries) (kept : Kept) → Agree (OfTopic k) a b → store.stands k a ledger kept → store.stands k b ledger kept)
-      (t : Topics T S store) (number : ℕ) (h next : Held T store) (was : slice_get t.held.items number ≡ Some h) where
+      (t : Topics T S store) (number : ℕ) (low : number < length t.held.items) (h next : Held T store) (was : slice_get t.held.items number ≡ Some h) where
     -- Each topic stands behind a call that worked on the files of this one.
     pub stand_then : (P : Image → Type 0) (d : Disk) → Within (OfTopic number) P (disk t.shelf) d → HeldStands next d → TopicsStand disk t → (j : ℕ) (x : Held T store) → slice_get (slice_set t.held.items number next) j ≡ Some x → HeldStands x d
-    stand_then P d w here s =
-        each_with (λ j x. HeldStands x d) t.held.items (slice_set t.held.items number next) number next refl here
+    stand_then P d w stands s =
+        each_with (λ j x. HeldStands x d) t.held.items (slice_set t.held.items number next) number next refl stands
         (λ j x differ is. standing_still store.stands local (phase_in x) x.core (view_in x) (laws x.stores) (disk t.shelf) d
-        (subst (λ k. Undisturbed (OfTopic k) (disk t.shelf) d) (sym (t.numbered j x is).0) (elsewhere number j P (disk t.shelf) d differ here.honest w)) (s.each j x is))
+        (subst (λ k. Undisturbed (OfTopic k) (disk t.shelf) d) (sym (t.numbered j x is).0) (elsewhere number j P (disk t.shelf) d differ stands.honest w)) (s.each j x is))
+
+    next_differs : (count : ℕ) → count ≡ length t.held.items → count ≢ number
+    next_differs count is same = omega (arith, is, same, low)
+
+    -- and the names are left as before
+    moved : (a c : Image) → Agree (λ f. ¬ OfTopic number f) a c → NamesLeft store.stands t.doubtful (broker_of t) a → NamesLeft store.stands t.doubtful (broker_of t) c
+    moved a c same is = names_moved store.stands local t.doubtful (broker_of t) a c
+        (λ f own. same f (subst (λ x. ¬ OfTopic number x) (sym own) (λ no. no)))
+        (λ f own. same f (apart number (length (broker_of t).topics) (λ e. next_differs (length (broker_of t).topics) (count_is t) (sym e)) f own)) is
+
+    pub names_then : (P : Image → Type 0) (d : Disk) → Within (OfTopic number) P (disk t.shelf) d → TopicsStand disk t → (files : Image) → d.may_leave files
+        → NamesLeft store.stands t.doubtful (over (broker_of t) (map (λ (x : Held T store). x.core) (slice_set t.held.items number next))) files
+    names_then P d w s files may =
+        let out = w.any_moment.now files may in
+        names_beside t number next files (moved out.from files out.elsewhere (s.names out.from out.left))
+
+    pub settled_then : (P : Image → Type 0) (d : Disk) → Within (OfTopic number) P (disk t.shelf) d → d.honest → TopicsStand disk t → failed t.catalog ≡ false → Settled (NamesHeld t.catalog) d (remembered t.catalog)
+    settled_then P d w honest s works = settled_still t.catalog (remembered t.catalog) (disk t.shelf) d (names_alone number P (disk t.shelf) d honest w) (s.settled works)
 
     -- A crash at any moment leaves of each topic what it left before, and of this one what the call says.
-    pub leaves_then : (amid : Topic) (d : Disk) → Within (OfTopic number) (StandsFor (store.stands number) (IsLeft amid)) (disk t.shelf) d → TopicsStand disk t
+    pub leaves_then : (amid : Topic) → amid.per_ledger ≡ h.core.per_ledger → (d : Disk) → Within (OfTopic number) (StandsFor (store.stands number) (IsLeft amid)) (disk t.shelf) d → TopicsStand disk t
         → Leaves (StandsForBroker store.stands (with_topic (broker_of t) number amid)) (disk t.shelf) d
-    leaves_then amid d w s = weaken _ _ (disk t.shelf) d w.any_moment (λ files out j topic is. ⊎_elim
-        (λ at. subst (λ (i : ℕ). StandsFor (store.stands i) (IsLeft topic) files) (sym at.0) (subst (λ (u : Topic). StandsFor (store.stands number) (IsLeft u) files) (sym at.1) out.own))
-        (λ other.
-        let x = get_map (λ (y : Held T store). y.core) t.held.items j topic other.1 in
-        let of_number = subst (λ k. StandsFor (store.stands k) (IsLeft x.0.core) out.from) (t.numbered j x.0 x.1).0 ((s.each j x.0 x.1).left out.from out.left) in
-        same_files store.stands local j (IsLeft topic) out.from files (λ f own. out.elsewhere f (apart number j (λ e. other.0 (sym e)) f own))
-        (subst (λ (u : Topic). StandsFor (store.stands j) (IsLeft u) out.from) (sym x.2) of_number))
-        (get_set (map (λ (y : Held T store). y.core) t.held.items) number j amid topic is))
+    leaves_then amid ledgers d w s = weaken _ _ (disk t.shelf) d w.any_moment (λ files out. record {
+      formed = formed_changed (broker_of t) number amid (ledgers ∙ (t.numbered number h was).1) (formed_of t);
+      names = names_as store.stands t.doubtful (broker_of t) (with_topic (broker_of t) number amid) files refl refl (length-set (broker_of t).topics number amid) (moved out.from files out.elsewhere (s.names out.from out.left));
+      topics = λ j topic is. ⊎_elim
+          (λ at. subst (λ (i : ℕ). StandsFor (store.stands i) (IsLeft topic) files) (sym at.0) (subst (λ (u : Topic). StandsFor (store.stands number) (IsLeft u) files) (sym at.1) out.own))
+          (λ other.
+          let x = get_map (λ (y : Held T store). y.core) t.held.items j topic other.1 in
+          let own = subst (λ k. StandsFor (store.stands k) (IsLeft x.0.core) out.from) (t.numbered j x.0 x.1).0 ((s.each j x.0 x.1).left out.from out.left) in
+          same_files store.stands local j (IsLeft topic) out.from files (λ f own. out.elsewhere f (apart number j (λ e. other.0 (sym e)) f own))
+          (subst (λ (u : Topic). StandsFor (store.stands j) (IsLeft u) out.from) (sym x.2) own))
+          (get_set (map (λ (y : Held T store). y.core) t.held.items) number j amid topic is);
+    })
 
     -- where the topic stays what it is to a crash
     pub leaves_same : (d : Disk) → Within (OfTopic number) (StandsFor (store.stands number) (IsLeft h.core)) (disk t.shelf) d → TopicsStand disk t → Leaves (StandsForBroker store.stands (broker_of t)) (disk t.shelf) d
     leaves_same d w s =
-        subst (λ b. Leaves (StandsForBroker store.stands b) (disk t.shelf) d) (ap (λ x. with_topic (broker_of t) number x) (sym (topic_was t.per_ledger t.held.items number h next was)) ∙ same_topic (broker_of t) number)
-        (leaves_then h.core d w s)
+        subst (λ b. Leaves (StandsForBroker store.stands b) (disk t.shelf) d) (ap (λ x. with_topic (broker_of t) number x) (sym (topic_was (broker_of t) t.held.items number h next was)) ∙ same_topic (broker_of t) number)
+        (leaves_then h.core refl d w s)
 
     -- while a flush of it goes on
     pub flush_leaves : (d : Disk) → Within (OfTopic (view_in h).topic) (StandsFor (store.stands (view_in h).topic) (IsLeft (in_flush h.core))) (disk t.shelf) d → TopicsStand disk t
         → Leaves (StandsForBroker store.stands (with_topic (broker_of t) number (in_flush (topic_at (broker_of t) number)))) (disk t.shelf) d
     flush_leaves d w s =
-        subst (λ x. Leaves (StandsForBroker store.stands (with_topic (broker_of t) number (in_flush x))) (disk t.shelf) d) (sym (topic_was t.per_ledger t.held.items number h next was))
-        (leaves_then (in_flush h.core) d (of_number_within t number h was (IsLeft (in_flush h.core)) (disk t.shelf) d w) s)
-
--- ---- the list of one topic that was just opened
-
-module _ {T : Type 0} {store : StoreMembers T} {items : List (Held T store)} {h : Held T store} (one : items ≡ h ∷ []) where
-  pub one_broker : (n : ℕ) {core : Topic} → h.core ≡ core → broker_with n (map (λ (x : Held T store). x.core) items) ≡ broker_with n (core ∷ [])
-  one_broker n is = ap (λ (l : List (Held T store)). broker_with n (map (λ x. x.core) l)) one ∙ ap (λ t. broker_with n (t ∷ [])) is
-
-  pub one_stage : h.flight ≡ None → map (λ (x : Held T store). stage_of x.flight) items ≡ Resting ∷ []
-  one_stage none = ap (λ (l : List (Held T store)). map (λ x. stage_of x.flight) l) one ∙ ap (λ f. stage_of f ∷ []) none
-
-  pub one_stands : {d : Disk} {core : Topic} {stores : T} → h.core ≡ core → h.stores ≡ stores → h.flight ≡ None → Standing store.stands (resting core.failed) core (store.view stores) d
-      → (number : ℕ) (x : Held T store) → slice_get items number ≡ Some x → HeldStands x d
-  one_stands {d = d} {core = core} {stores = stores} is_core is_stores none s number x at =
-      let got = only_one h number x (ap (λ l. slice_get l number) (sym one) ∙ at) in
-      subst (λ (y : Held T store). HeldStands y d) (sym got.1)
-      (subst (λ (y : T). Standing store.stands (phase_in h) h.core (store.view y) d) (sym is_stores)
-      (subst (λ f. Standing store.stands (phase_at h.core.failed (stage_of f)) h.core (store.view stores) d) (sym none)
-      (subst (λ u. Standing store.stands (resting u.failed) u (store.view stores) d) (sym is_core) s)))
+        subst (λ x. Leaves (StandsForBroker store.stands (with_topic (broker_of t) number (in_flush x))) (disk t.shelf) d) (sym (topic_was (broker_of t) t.held.items number h next was))
+        (leaves_then (in_flush h.core) (flushing_ledgers h.core.failed (has_no_flush h.core) h.core) d (of_number_within t number h was (IsLeft (in_flush h.core)) (disk t.shelf) d w) s)

@@ -1,5 +1,5 @@
 -- Whatever a session does goes out in whole frames, and moves each topic.
-use Rattle.std.proofs.Common.{◌≡◌, ◌⊎◌, inl, inr, ◌∙◌, ℕ, zero, suc, ◌-◌, ◌<◌, nat_lt, Bool, true, false, Option, Some, None, Result, Ok, Err, List, [], ◌∷◌, ◌++◌, length, get_or, get_or-set_same, refl, sym, ap, subst, append-nil, append_assoc, arith}
+use Rattle.std.proofs.Common.{◌≡◌, ◌⊎◌, inl, inr, ⊎_elim, ◌∙◌, ℕ, zero, suc, ◌-◌, ◌<◌, nat_lt, Bool, true, false, Option, Some, None, Result, Ok, Err, List, [], ◌∷◌, ◌++◌, length, get_or, get_or-set_same, refl, sym, ap, subst, append-nil, append_assoc, arith}
 use Rattle.commands.specs.declared.command.Command.{Command}
 use Rattle.commands.specs.declared.command.Command.TheVariants as command
 use Rattle.commands.specs.declared.producing.Producer.{Producer as Asked}
@@ -16,7 +16,7 @@ use Rattle.commands.specs.declared.lookup.PartitionedTopicMetadata.{PartitionedT
 use Rattle.commands.specs.declared.reply.Reply.{Reply}
 use Rattle.commands.specs.declared.reply.Reply.TheVariants as reply
 use Rattle.commands.specs.declared.server_error.ServerError.{ServerError}
-use Rattle.commands.specs.declared.server_error.ServerError.TheVariants.{TooManyRequests, InvalidTopicName, NotAllowedError, ConsumerNotFound}
+use Rattle.commands.specs.declared.server_error.ServerError.TheVariants.{TooManyRequests, InvalidTopicName, NotAllowedError, ConsumerNotFound, PersistenceError}
 use Rattle.frames.specs.declared.frame.Frame.{Frame}
 use Rattle.frames.specs.declared.frame.FrameEntry.{FrameEntry}
 use Rattle.gated_log.specs.declared.read_error.ReadError.{ReadError}
@@ -39,16 +39,18 @@ use Rattle.topic_core.specs.declared.command.TopicCommand.{TopicCommand}
 use Rattle.topic_core.specs.declared.command.TopicCommand.TheVariants as topic_command
 use Rattle.topic_core.proofs.Steps.{step-fits}
 use Rattle.subscriptions.specs.declared.consumer.TooManyPermits.{TooManyPermits}
-use Rattle.session.specs.Broker.{Broker, fresh, topic_at, with_topic, made, number_of, FindIn, CommandStep, CollectedAt, DispatchAt, left_all}
+use Rattle.session.specs.Broker.{Broker, fresh, topic_at, with_topic, sure, doubting, made, number_of, Settles, FindIn, FindStep, CommandStep, CollectedAt, DispatchAt, left_all}
 use Rattle.session.specs.Client.{Client, Play, plain, Says, SaysAlone, Answered, Ends, frame_of, left_if, left_if_ended}
-use Rattle.session.specs.Producing.{FoundStep, ProducerIn, own_refusals, with_live_producers, topic_of, sent_entry, send_command, SendIn, producer_command, CloseIn, close_command}
+use Rattle.session.specs.Producing.{FoundStep, ProducerIn, own_refusals, with_live_producers, sent_entry, send_command, SendIn, producer_command, CloseIn, close_command}
 use Rattle.session.specs.Consuming as consuming
+use Rattle.session.specs.Table.{topic_of}
 use Rattle.session.specs.GivingBack as giving_back
 use Rattle.session.specs.Lookup.{LookupIn, PartitionsIn}
-use Rattle.session.specs.TopicName.{is_topic_name}
+use Rattle.names.specs.Names.{is_topic_name}
+use Rattle.session.proofs.Causes.{fed_caused}
 use Rattle.session.specs.Working.{WorksCommand, Connects, FrameIn, FramesStep, FeedIn, connected_client, with_progress, ended_if}
 use Rattle.session.specs.Pumping.{Collects, Sends, FindsNoMemory, ServesEach, ServesAll, ServesIf, PumpIn}
-use Rattle.session.specs.declared.consumer_entry.ConsumerEntry.{ConsumerEntry}
+use Rattle.session.specs.declared.entry.Entry.{Entry}
 use Rattle.session.specs.declared.fault.Fault.{Fault}
 use Rattle.session.specs.declared.port.Found.{Found}
 use Rattle.session.specs.declared.port.Found.TheVariants as found
@@ -56,7 +58,7 @@ use Rattle.session.specs.declared.pumping.More.{More}
 use Rattle.session.specs.declared.pumping.PumpFault.{PumpFault}
 use Rattle.node.specs.Moves.{Handed, Command as Commands, Tell, Lose, Grant, Deliver, Miss, Leave, Takes}
 use Rattle.node.specs.Telling.{From, IsAtOnce, Talk, Unfolds}
-use Rattle.node.proofs.Brokers.{set_at, map_at, one_more_at}
+use Rattle.node.specs.Brokers.{set_at, map_at, one_more_at}
 use Rattle.node.proofs.Saying.{still_talk, one_talk, told_at, silently, silent, becomes, alike, one_frame, at_once, then}
 
 -- of a session
@@ -88,13 +90,32 @@ made_one : (hears : ℕ) (b : Broker) (name : List ℕ) → Unfolds hears b [] (
 made_one hears b name = silently hears b (made b name) (λ number.
     subst (λ (t : Topic). Talk (topic_at b number) [] t) (sym (one_more_at b.topics number (fresh b.per_ledger))) (still_talk (topic_at b number)))
 
-finds_one : (hears : ℕ) (there : Option ℕ) (b : Broker) (name : List ℕ) (f : Found) (c : Broker) → FindIn there b name f c → Unfolds hears b [] c
-finds_one hears None b name found.NoMemory c s = alike hears b c [] refl s
-finds_one hears (Some number) b name found.NoMemory c s = alike hears b c [] refl s
-finds_one hears (Some number) b name (found.Topic n) c s = alike hears b c [] refl s.1
-finds_one hears (Some number) b name found.TooMany c s = absurd s
-finds_one hears None b name (found.Topic n) c s = becomes hears b (made b name) c [] [] (made_one hears b name) refl s.2
-finds_one hears None b name found.TooMany c s = alike hears b c [] refl s.1
+-- a name in doubt is no topic's
+sure_one : (hears : ℕ) (b : Broker) → Unfolds hears b [] (sure b)
+sure_one hears b = silently hears b (sure b) (λ number. still_talk (topic_at b number))
+
+doubts_one : (hears : ℕ) (b : Broker) (name : List ℕ) → Unfolds hears b [] (doubting b name)
+doubts_one hears b name = silently hears b (doubting b name) (λ number. still_talk (topic_at b number))
+
+settles_one : (hears : ℕ) (doubt : Option (List ℕ)) (b : Broker) (c : Broker) → Settles doubt b c → Unfolds hears b [] c
+settles_one hears None b c s = alike hears b c [] refl s
+settles_one hears (Some name) b c (inl s) = becomes hears b (sure b) c [] [] (sure_one hears b) refl s
+settles_one hears (Some name) b c (inr s) = becomes hears b (made (sure b) name) c [] [] (then hears b (sure b) (made (sure b) name) [] [] (sure_one hears b) (made_one hears (sure b) name)) refl s
+
+finds_in : (hears : ℕ) (there : Option ℕ) (b : Broker) (name : List ℕ) (f : Found) (c : Broker) → FindIn there b name f c → Unfolds hears b [] c
+finds_in hears None b name found.NoMemory c s = alike hears b c [] refl s
+finds_in hears (Some number) b name found.NoMemory c s = alike hears b c [] refl s
+finds_in hears (Some number) b name (found.Topic n) c s = alike hears b c [] refl s.1
+finds_in hears (Some number) b name found.TooMany c s = absurd s
+finds_in hears (Some number) b name found.Failed c s = absurd s
+finds_in hears None b name (found.Topic n) c s = becomes hears b (made b name) c [] [] (made_one hears b name) refl s.2
+finds_in hears None b name found.TooMany c s = alike hears b c [] refl s.1
+finds_in hears None b name found.Failed c s = ⊎_elim (λ same. alike hears b c [] refl same) (λ doubt. becomes hears b (doubting b name) c [] [] (doubts_one hears b name) refl doubt) s.1
+
+finds_one : (hears : ℕ) (b : Broker) (name : List ℕ) (f : Found) (c : Broker) → FindStep b name f c → Unfolds hears b [] c
+finds_one hears b name f c s = ⊎_elim
+    (λ outage. alike hears b c [] refl outage.1)
+    (λ found. then hears b found.0 c [] [] (settles_one hears b.doubtful b found.0 found.1) (finds_in hears (number_of found.0 name) found.0 name f c found.2)) s
 
 stays : (p q : Play) → q.client.number ≡ p.client.number → q.out ≡ p.out → Unfolds p.client.number p.broker [] q.broker → Plays p q
 stays p q number out s = record { number = number; bytes = []; out = out ∙ sym (append-nil p.out); unfolds = s }
@@ -160,17 +181,18 @@ asked old new client at who c a same step s =
 ends : (old new : Play) (why : Fault) → Ends old why new → Plays old new
 ends old new why s = stays old new (ap (λ (p : Play). p.client.number) s) (ap (λ (p : Play). p.out) s) (alike old.client.number old.broker new.broker [] refl (ap (λ (p : Play). p.broker) s))
 
-opens : (f : Found) (old : Play) (c : Asked) (new : Play) → FoundStep old c f new → Plays old new
+opens : (f : Found) (old : Play) (c : Asked) (new : Play) → FoundStep (Unit {0}) old c f new → Plays old new
 opens (found.Topic number) old c new (inl s) = asked old new _ number old.client.number (producer_command old.client.number c) s.answer refl s.step s.answered
 opens (found.Topic number) old c new (inr s) = ends old new _ s
 opens found.TooMany old c new s = says_alone old (reply.Error c.request_id TooManyRequests) new (record { no_receipt = refl; no_message = refl }) s
 opens found.NoMemory old c new s = ends old new _ s
+opens found.Failed old c new s = says_alone old (reply.Error c.request_id PersistenceError) new (record { no_receipt = refl; no_message = refl }) s.1
 
-produces : (refusal : Option ServerError) (old : Play) (c : Asked) (new : Play) → ProducerIn refusal old c new → Plays old new
+produces : (refusal : Option ServerError) (old : Play) (c : Asked) (new : Play) → ProducerIn (Unit {0}) refusal old c new → Plays old new
 produces (Some error) old c new s = says_alone old (reply.Error c.request_id error) new (record { no_receipt = refl; no_message = refl }) s
 produces None old c new s =
     let between : Play = record old { broker = s.between } in
-    then_play old between new (stays old between refl refl (finds_one old.client.number (number_of old.broker c.topic) old.broker c.topic s.found s.between s.finds)) (opens s.found between c new s.asks)
+    then_play old between new (stays old between refl refl (finds_one old.client.number old.broker c.topic s.found s.between s.finds)) (opens s.found between c new s.asks)
 
 sends : (topic : Option ℕ) (entry : Option SentEntry) (old : Play) (c : Sent) (new : Play) → SendIn topic entry old c new → Plays old new
 sends None None old c new s = ends old new _ s
@@ -178,17 +200,18 @@ sends (Some topic) None old c new s = ends old new _ s
 sends None (Some entry) old c new s = says_alone old (reply.SendError c.producer_id c.sequence_id NotAllowedError) new (record { no_receipt = refl; no_message = refl }) s
 sends (Some topic) (Some entry) old c new s = asked old new old.client topic old.client.number (send_command c entry) s.answer refl s.step s.answered
 
-wanted : (f : Found) (old : Play) (c : Wanted) (new : Play) → consuming.FoundStep old c f new → Plays old new
+wanted : (f : Found) (old : Play) (c : Wanted) (new : Play) → consuming.FoundStep (Unit {0}) old c f new → Plays old new
 wanted (found.Topic number) old c new (inl s) = asked old new _ number old.client.number (consuming.subscribe_command c s.named) s.answer refl s.step s.answered
 wanted (found.Topic number) old c new (inr s) = ends old new _ s
 wanted found.TooMany old c new s = says_alone old (reply.Error c.request_id TooManyRequests) new (record { no_receipt = refl; no_message = refl }) s
 wanted found.NoMemory old c new s = ends old new _ s
+wanted found.Failed old c new s = says_alone old (reply.Error c.request_id PersistenceError) new (record { no_receipt = refl; no_message = refl }) s.1
 
-subscribes : (refusal : Option ServerError) (old : Play) (c : Wanted) (new : Play) → consuming.SubscribeIn refusal old c new → Plays old new
+subscribes : (refusal : Option ServerError) (old : Play) (c : Wanted) (new : Play) → consuming.SubscribeIn (Unit {0}) refusal old c new → Plays old new
 subscribes (Some error) old c new s = says_alone old (reply.Error c.request_id error) new (record { no_receipt = refl; no_message = refl }) s
 subscribes None old c new s =
     let between : Play = record old { broker = s.between } in
-    then_play old between new (stays old between refl refl (finds_one old.client.number (number_of old.broker c.topic) old.broker c.topic s.found s.between s.finds)) (wanted s.found between c new s.asks)
+    then_play old between new (stays old between refl refl (finds_one old.client.number old.broker c.topic s.found s.between s.finds)) (wanted s.found between c new s.asks)
 
 granting_number : (c : Client) (result : Result (Unit {0}) TooManyPermits) → (consuming.granting c result).number ≡ c.number
 granting_number c (Ok done) = refl
@@ -235,7 +258,7 @@ tells_partitions : (named : Bool) (old : Play) (c : PartitionedTopicMetadata) (n
 tells_partitions true old c new s = says_alone old (reply.PartitionedMetadataResponse c.request_id None) new (record { no_receipt = refl; no_message = refl }) s
 tells_partitions false old c new s = says_alone old (reply.PartitionedMetadataResponse c.request_id (Some InvalidTopicName)) new (record { no_receipt = refl; no_message = refl }) s
 
-works : (c : Command) (old : Play) (entry : FrameEntry) (new : Play) → WorksCommand old c entry new → Plays old new
+works : (c : Command) (old : Play) (entry : FrameEntry) (new : Play) → WorksCommand (Unit {0}) old c entry new → Plays old new
 works (command.Connect c) old entry new s = ends old new _ s
 works (command.Producer c) old entry new s =
     for_client (with_live_producers old).client old new refl (produces (first_standing (own_refusals (with_live_producers old).client.producers c)) (with_live_producers old) c new s)
@@ -243,12 +266,12 @@ works (command.Send c) old entry new s = sends (topic_of old.client.producers c.
 works (command.Subscribe c) old entry new s =
     let old' = consuming.with_live_consumers old in
     for_client old'.client old new refl (subscribes (first_standing (consuming.own_refusals old'.client.consumers c)) old' c new s)
-works (command.Flow c) old entry new s = grants (consuming.topic_of old.client.consumers c.consumer_id) old c new s
-works (command.Ack c) old entry new s = acks (consuming.topic_of old.client.consumers c.consumer_id) old c new s
+works (command.Flow c) old entry new s = grants (topic_of old.client.consumers c.consumer_id) old c new s
+works (command.Ack c) old entry new s = acks (topic_of old.client.consumers c.consumer_id) old c new s
 works (command.CloseProducer c) old entry new s = closes (topic_of old.client.producers c.producer_id) old c new s
-works (command.Unsubscribe c) old entry new s = unsubscribes (consuming.topic_of old.client.consumers c.consumer_id) old c new s
-works (command.CloseConsumer c) old entry new s = closes_consumer (consuming.topic_of old.client.consumers c.consumer_id) old c new s
-works (command.RedeliverUnacknowledgedMessages c) old entry new s = redelivers (consuming.topic_of old.client.consumers c.consumer_id) old c new s
+works (command.Unsubscribe c) old entry new s = unsubscribes (topic_of old.client.consumers c.consumer_id) old c new s
+works (command.CloseConsumer c) old entry new s = closes_consumer (topic_of old.client.consumers c.consumer_id) old c new s
+works (command.RedeliverUnacknowledgedMessages c) old entry new s = redelivers (topic_of old.client.consumers c.consumer_id) old c new s
 works (command.PartitionedMetadata c) old entry new s = tells_partitions (is_topic_name c.topic) old c new s
 works (command.Lookup c) old entry new s = looks_up (is_topic_name c.topic) old c new s
 works command.Ping old entry new s = says_alone old reply.Pong new (record { no_receipt = refl; no_message = refl }) s
@@ -259,12 +282,12 @@ connects : (c : Command) (old new : Play) → Connects old c new → Plays old n
 connects (command.Connect c) old new s = for_client (connected_client old.client) old new refl (says_alone (record old { client = connected_client old.client }) reply.Connected new (record { no_receipt = refl; no_message = refl }) s)
 connects _ old new s = ends old new _ s
 
-in_frame : (fault : Option Fault) (connected : Bool) (old : Play) (frame : Frame) (new : Play) → FrameIn fault connected old frame new → Plays old new
+in_frame : (fault : Option Fault) (connected : Bool) (old : Play) (frame : Frame) (new : Play) → FrameIn (Unit {0}) fault connected old frame new → Plays old new
 in_frame None true old frame new s = works frame.command old frame.entry new s
 in_frame None false old frame new s = connects frame.command old new s
 in_frame (Some why) connected old frame new s = still_play old new s
 
-frames : (old : Play) (fs : List Frame) (new : Play) → FramesStep old fs new → Plays old new
+frames : (old : Play) (fs : List Frame) (new : Play) → FramesStep (Unit {0}) old fs new → Plays old new
 frames old [] new s = still_play old new s
 frames old (f ∷ fs) new s = then_play old s.0 new (in_frame old.client.fault old.client.connected old f s.0 s.1) (frames s.0 fs new s.2)
 
@@ -276,12 +299,16 @@ leaves hears (Some why) b who = gone hears b who
 settles : (p new : Play) → new ≡ left_if_ended p → Plays p new
 settles p new is = then_play p (left_if_ended p) new (stays p (left_if_ended p) refl refl (leaves p.client.number p.client.fault p.broker p.client.number)) (still_play (left_if_ended p) new is)
 
-pub fed : (fault : Option Fault) (old : Play) (bytes : List ℕ) (result : Result (Unit {0}) Fault) (new : Play) → FeedIn fault old bytes result new → Plays old new
-fed None old bytes result new s =
+fed_any : (fault : Option Fault) (old : Play) (bytes : List ℕ) (result : Result (Unit {0}) Fault) (new : Play) → FeedIn (Unit {0}) fault old bytes result new → Plays old new
+fed_any None old bytes result new s =
     then_play old s.0.worked new
     (for_client (with_progress old s.0.progress).client old s.0.worked refl (frames (with_progress old s.0.progress) s.0.frames s.0.worked s.0.works))
     (for_client (ended_if s.0.read s.0.worked).client s.0.worked new refl (settles (ended_if s.0.read s.0.worked) new s.0.ends))
-fed (Some why) old bytes result new s = still_play old new s.1
+fed_any (Some why) old bytes result new s = still_play old new s.1
+
+-- whatever a search meets
+pub fed : (Fails : Type 0) (fault : Option Fault) (old : Play) (bytes : List ℕ) (result : Result (Unit {0}) Fault) (new : Play) → FeedIn Fails fault old bytes result new → Plays old new
+fed Fails fault old bytes result new s = fed_any fault old bytes result new (fed_caused Fails (Unit {0}) (λ failed. tt) fault old bytes result new s)
 
 -- a topic that has something due is there
 is_there : (topics : List Topic) (at who n : ℕ) (r : Reply) (rs : List Reply) → due_to who (get_or topics at (fresh n)).queues ≡ r ∷ rs → at < length topics
@@ -375,22 +402,22 @@ sends_from at id old new message takes (inr lost) =
     let handed : Handed = record { session = old.client.number; reply = message.reply; entry = message.entry } in
     stays old new (ap (λ (c : Client). c.number) lost.0) lost.1 (placed old.client.number old.broker new.broker at (topic_at new.broker at) (one_talk (topic_at old.broker at) (Miss id handed) (topic_at new.broker at) takes.step refl) takes.others)
 
-messages : (consumer : ConsumerEntry) (count : ℕ) (old new : Play) → Sends consumer count old new → Plays old new
+messages : (consumer : Entry) (count : ℕ) (old new : Play) → Sends consumer count old new → Plays old new
 messages consumer zero old new s = still_play old new s
 messages consumer (suc count) old new s =
-    then_play old s.0 new (messages consumer count old s.0 s.1) (sends_from consumer.topic consumer.consumer_id s.0 new s.2.message s.2.takes s.2.says)
+    then_play old s.0 new (messages consumer count old s.0 s.1) (sends_from consumer.topic consumer.id s.0 new s.2.message s.2.takes s.2.says)
 
 module _ (Refused : ReadError → Type 0) where
   stops : (old new : Play) → (new ≡ old) ⊎ FindsNoMemory Refused old new → Plays old new
   stops old new (inl s) = still_play old new s
   stops old new (inr s) = ends old new _ s.ends
 
-  serves_each : (consumers : List ConsumerEntry) (most count : ℕ) (old new : Play) → ServesEach Refused consumers most count old new → Plays old new
+  serves_each : (consumers : List Entry) (most count : ℕ) (old new : Play) → ServesEach Refused consumers most count old new → Plays old new
   serves_each [] most count old new s = still_play old new s.1
   serves_each (c ∷ cs) most count old new s =
       then_play old s.2 new (then_play old s.3.sent s.2 (messages c s.0 old s.3.sent s.3.sends) (stops s.3.sent s.2 s.3.stops)) (serves_each cs (most - s.0) s.1 s.2 new s.4)
 
-  serves_all : (consumers : List ConsumerEntry) (most : ℕ) (result : Result ℕ PumpFault) (old new : Play) → ServesAll Refused consumers most result old new → Plays old new
+  serves_all : (consumers : List Entry) (most : ℕ) (result : Result ℕ PumpFault) (old new : Play) → ServesAll Refused consumers most result old new → Plays old new
   serves_all consumers most (Ok count) old new s = serves_each consumers most count old new s
   serves_all consumers most (Err why) old new s =
       then_play old s.between new (serves_each s.before most s.count old s.between s.served) (messages s.consumer s.until.count s.between new s.until.sends)

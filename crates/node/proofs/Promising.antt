@@ -16,11 +16,11 @@ use Rattle.topic_core.specs.declared.command.Answer.{Answer}
 use Rattle.topic_core.specs.declared.command.Answer.TheVariants.{Now, Later, Nothing, NoMemory}
 use Rattle.topic_core.specs.declared.command.Send.{Send}
 use Rattle.topic_core.specs.declared.command.Subscribe.{Subscribe}
-use Rattle.topic_core.specs.declared.command.Ack.{Ack}
-use Rattle.topic_core.specs.declared.command.CloseProducer.{CloseProducer}
-use Rattle.topic_core.specs.declared.command.Unsubscribe.{Unsubscribe}
-use Rattle.topic_core.specs.declared.command.CloseConsumer.{CloseConsumer}
-use Rattle.topic_core.specs.declared.command.Redeliver.{Redeliver}
+use Rattle.commands.specs.declared.consuming.Ack.{Ack}
+use Rattle.commands.specs.declared.producing.CloseProducer.{CloseProducer}
+use Rattle.commands.specs.declared.consuming.Unsubscribe.{Unsubscribe}
+use Rattle.commands.specs.declared.giving_back.CloseConsumer.{CloseConsumer}
+use Rattle.commands.specs.declared.giving_back.Redeliver.{Redeliver}
 use Rattle.topic_core.specs.declared.command.TopicCommand.{TopicCommand}
 use Rattle.topic_core.specs.declared.command.TopicCommand.TheVariants as asked
 use Rattle.topic_core.specs.State.{Topic, changes_of}
@@ -197,7 +197,7 @@ module _ (t : Topic) (kept : Kept) (word : Word) (sound : IsSound t) (h : HoldsI
   redelivers who redeliver a u answer after are =
       subst (λ (b : Answer). HoldsIn u kept (answered t who (asked.Redeliver redeliver) b word)) (sym answer)
       (back u (redelivered t who redeliver) word after
-      (permits t.failed (subscriptions.redelivered t.subs (key_of who redeliver.consumer_id) (asked_back t.per_ledger t.committed redeliver.ids)) refl))
+      (permits t.failed (subscriptions.redelivered t.subs (key_of who redeliver.consumer_id) (asked_back t.per_ledger t.committed redeliver.message_ids)) refl))
 
   -- an outcome that was met
   meets : (who : ℕ) (c : TopicCommand) (w : Answer → Word) → ((a : Answer) (u : Topic) → a ≡ (outcome_of t who c).answer → u ≡ (outcome_of t who c).topic → AreKeptIn u → HoldsIn u kept (w a)) → w NoMemory ≡ word

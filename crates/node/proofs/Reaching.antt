@@ -5,10 +5,9 @@ use Rattle.disk.specs.Disk.{Disk, Image, Leaves}
 use Rattle.disk.specs.Moments.{joins, starts}
 use Rattle.managed_ledger.specs.Entries.{Entries}
 use Rattle.records.specs.Maps.{Kept}
-use Rattle.session.specs.Broker.{Broker}
 use Rattle.node.specs.State.{State}
-use Rattle.node.specs.Steps.{BrokerStep, during}
-use Rattle.node.specs.Standing.{StandsForBroker}
+use Rattle.node.specs.Steps.{BrokerStep, Amid}
+use Rattle.node.specs.Standing.{StandsForBroker, StandsForSome}
 use Rattle.node.specs.Runs.{Run, Reached}
 use Rattle.node.specs.declared.event.Event.{Event}
 use Rattle.node.specs.declared.event.Output.{Output}
@@ -36,7 +35,7 @@ front_of all done rest answers is same = ap (λ n. take n all) same ∙ ap (λ x
 
 -- the files stand for what a crash leaves of a broker that a front of the events reaches
 abbrev pub Crashed : (ℕ → Image → Entries → Kept → Type 0) → State → List Event → Image → Type 0
-Crashed files_stand old events files = (broker : Broker) × Reached old events broker × StandsForBroker files_stand broker files
+Crashed files_stand old events files = StandsForSome files_stand (λ broker. Reached old events broker) files
 
 module _ (files_stand : ℕ → Image → Entries → Kept → Type 0) (old : State) (events : List Event) where
   -- before the first event
@@ -46,7 +45,7 @@ module _ (files_stand : ℕ → Image → Entries → Kept → Type 0) (old : St
 
   -- while one event more goes on
   pub crash_more : (worked : List Event) (outputs : List Output) (between : State) (event : Event) (rest later : List Event) (d0 d1 d2 : Disk) → Run old worked outputs between → events ≡ worked ++ rest → rest ≡ event ∷ later
-      → Leaves (Crashed files_stand old events) d0 d1 → Leaves (StandsForBroker files_stand (during between.broker event)) d1 d2 → Leaves (Crashed files_stand old events) d0 d2
+      → Leaves (Crashed files_stand old events) d0 d1 → Leaves (StandsForSome files_stand (λ broker. Amid between.broker event broker)) d1 d2 → Leaves (Crashed files_stand old events) d0 d2
   crash_more worked outputs between event rest later d0 d1 d2 run front next first second =
-      joins (Crashed files_stand old events) (StandsForBroker files_stand (during between.broker event)) (Crashed files_stand old events) d0 d1 d2 first second (λ files is. is)
-      (λ files is. (during between.broker event, record { worked = worked; rest = rest; outputs = outputs; between = between; run = run; front = front; here = inr (event, later, next, refl) }, is))
+      joins (Crashed files_stand old events) (StandsForSome files_stand (λ broker. Amid between.broker event broker)) (Crashed files_stand old events) d0 d1 d2 first second (λ files is. is)
+      (λ files is. (is.0, record { worked = worked; rest = rest; outputs = outputs; between = between; run = run; front = front; here = inr (event, later, next, is.1) }, is.2))

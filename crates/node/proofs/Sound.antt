@@ -1,5 +1,5 @@
 -- Moves keep a topic sound.
-use Rattle.std.proofs.Common.{◌≡◌, ◌∙◌, ℕ, ◌<◌, zero, suc, Bool, true, false, Option, None, Some, is_some, Ok, List, [], ◌∷◌, refl, sym, ap, subst, arith}
+use Rattle.std.proofs.Common.{◌≡◌, ◌∙◌, ℕ, ◌<◌, Bool, true, false, Option, None, Some, is_some, Ok, List, [], ◌∷◌, refl, sym, ap, subst, arith}
 use Rattle.std.specs.Ordering.{nat_cmp}
 use Rattle.std.specs.Cmp.Lexicographic.{slice_cmp}
 use Rattle.std.specs.FinMap as map
@@ -91,8 +91,8 @@ fresh_sound n some = record {
   slots = refl;
 }
 
-pub fresh_broker_sound : (n : ℕ) → 0 < n → IsSoundBroker (fresh_broker n)
-fresh_broker_sound n some = λ number. elim number as (λ k. IsSoundTopic (topic_at (fresh_broker n) k)) [ zero ↦ fresh_sound n some | suc k ↦ fresh_sound n some ]
+pub fresh_broker_sound : (n : ℕ) (url : List ℕ) → 0 < n → IsSoundBroker (fresh_broker n url)
+fresh_broker_sound n url some = λ number. fresh_sound n some
 
 pub unfolds_sound : (b : Broker) (hearers : List (Option ℕ)) (outputs : List Output) (c : Broker) → RunUnfolds b hearers outputs c → IsSoundBroker b → IsSoundBroker c
 unfolds_sound b hearers outputs c u sound = λ number. let course = u.each number in moves_sound (topic_at b number) course.moves (topic_at c number) course.steps (sound number)

@@ -1,5 +1,5 @@
 -- Each step, each run and each life writes whole frames to those who hear them, and moves each topic.
-use Rattle.std.proofs.Common.{◌≡◌, ◌∙◌, ℕ, nat_eq, Bool, true, false, Option, Some, None, List, [], ◌∷◌, ◌++◌, map, slice_get, refl, sym, ap, subst}
+use Rattle.std.proofs.Common.{◌<◌, ◌≡◌, ◌∙◌, ℕ, nat_eq, Bool, true, false, Option, Some, None, List, [], ◌∷◌, ◌++◌, map, slice_get, refl, sym, ap, subst}
 use Rattle.std.proofs.lemmas.Bool.{eqb-true}
 use Rattle.std.proofs.lemmas.List.Quantifiers.{position-Some}
 use Rattle.std.proofs.lemmas.Option.{get_or_from_slice_get}
@@ -21,7 +21,7 @@ use Rattle.node.specs.declared.event.Verdict.{Verdict}
 use Rattle.node.specs.declared.event.Verdict.TheVariants as verdict
 use Rattle.node.specs.declared.event.Output.{Output}
 use Rattle.node.proofs.Saying.{still_course, one_move, then_course, becomes, at_once-append, bounded-append, from_topic-append}
-use Rattle.node.proofs.Brokers.{set_at}
+use Rattle.node.specs.Brokers.{set_at, more_at}
 use Rattle.node.proofs.Playing.{Plays, gone_each, fed, pumped}
 
 -- bytes go out to the one who hears them, or to none
@@ -82,7 +82,7 @@ bytes_come : (who : ℕ) (place : Option ℕ) (old : State) (bytes : List ℕ) (
 bytes_come who None old bytes output new is s = only (Some who) verdict.Unknown old output new s
 bytes_come who (Some place) old bytes output new is s =
     plays_out who old new s.client s.played output.bytes (found_at old.sessions who place s.client is s.stands)
-    (fed s.client.fault (play s.client old.broker []) bytes s.result s.played s.step) (ap (λ (o : Output). o.bytes) s.settles.answer) s.settles.broker
+    (fed (old.faults < new.faults) s.client.fault (play s.client old.broker []) bytes s.result s.played s.step) (ap (λ (o : Output). o.bytes) s.settles.answer) s.settles.broker
 
 pumps : (who : ℕ) (place : Option ℕ) (old : State) (output : Output) (new : State) → place_of old.sessions who ≡ place → steps.PumpStep place old output new
     → Utters (Some who) old.broker output.bytes new.broker
@@ -224,23 +224,27 @@ utters_both a b c bytes first u = record {
 stays_put : (b : Broker) (number : ℕ) → Course (topic_at b number) [] (topic_at b number)
 stays_put b number = still_course (topic_at b number)
 
-until_cut : (b : Broker) (e : Event) (number : ℕ) → Course (topic_at b number) [] (topic_at (steps.during b e) number)
-until_cut b event.Open number = stays_put b number
-until_cut b (event.Bytes who bytes) number = stays_put b number
-until_cut b (event.Pump who) number = stays_put b number
-until_cut b (event.Close who) number = stays_put b number
-until_cut b (event.Flush at) number =
-    placed_each b (steps.during b (event.Flush at)) at (steps.in_flush (topic_at b at)) (one_move (topic_at b at) Cut (steps.in_flush (topic_at b at)) refl) refl number
-until_cut b (event.Take at) number = stays_put b number
-until_cut b (event.Write at) number = stays_put b number
-until_cut b (event.Finish at) number = stays_put b number
-until_cut b (event.Reopen at) number = stays_put b number
+same_put : (b c : Broker) (number : ℕ) → c ≡ b → Course (topic_at b number) [] (topic_at c number)
+same_put b c number is = subst (λ (x : Broker). Course (topic_at b number) [] (topic_at x number)) (sym is) (stays_put b number)
+
+until_cut : (b : Broker) (e : Event) (c : Broker) → steps.Amid b e c → (number : ℕ) → Course (topic_at b number) [] (topic_at c number)
+until_cut b event.Open c is number = same_put b c number is
+until_cut b (event.Bytes who bytes) c is number =
+    subst (λ (x : Broker). Course (topic_at b number) [] (topic_at x number)) (sym is.gained)
+    (subst (λ (t : Topic). Course (topic_at b number) [] t) (sym (more_at b.topics is.more number (fresh b.per_ledger))) (stays_put b number))
+until_cut b (event.Pump who) c is number = same_put b c number is
+until_cut b (event.Close who) c is number = same_put b c number is
+until_cut b (event.Flush at) c is number = placed_each b c at (steps.in_flush (topic_at b at)) (one_move (topic_at b at) Cut (steps.in_flush (topic_at b at)) refl) is number
+until_cut b (event.Take at) c is number = same_put b c number is
+until_cut b (event.Write at) c is number = same_put b c number is
+until_cut b (event.Finish at) c is number = same_put b c number is
+until_cut b (event.Reopen at) c is number = same_put b c number is
 
 turn_utters : (old : Life) (t : Turn) (output : Output) (new : Life) → TurnStep old t output new → Utters (hearer_in t) old.state.broker output.bytes new.state.broker
 turn_utters old (Whole h) output new s = happening_utters old h output new s
 turn_utters old (Within e) output new s =
-    let at = cut_in old.state e s.faults in
-    utters_both old.state.broker at.broker new.state.broker output.bytes (until_cut old.state.broker e) (opening_utters output.result at output.bytes new s.opening.0 s.opening.1)
+    let at = cut_in old.state s.broker s.faults in
+    utters_both old.state.broker at.broker new.state.broker output.bytes (until_cut old.state.broker e s.broker s.amid) (opening_utters output.result at output.bytes new s.opening.0 s.opening.1)
 
 pub cut_life_unfolds : (old : Life) (turns : List Turn) (outputs : List Output) (new : Life) → AllowedLife old turns outputs new
     → RunUnfolds old.state.broker (map (λ t. hearer_in t) turns) outputs new.state.broker

@@ -2,7 +2,7 @@
 use Rattle.std.specs.Prelude.{◌≡◌, ◌⊎◌, ◌≤◌, ℕ, Bool, true, false, Option, None, List, [], ◌∷◌, ◌++◌, map}
 use Rattle.session.specs.Broker.{Broker}
 use Rattle.node.specs.State.{State}
-use Rattle.node.specs.Steps.{during}
+use Rattle.node.specs.Steps.{Amid}
 use Rattle.node.specs.Runs.{Life, OpeningStep, HappeningStep, AllowedRun}
 use Rattle.node.specs.Telling.{hearer_of}
 use Rattle.node.specs.declared.event.Event.{Event}
@@ -14,16 +14,18 @@ pub data Turn : Type 0 where
   Whole : Happening → Turn  -- an event is worked, or the power is cut between two of them and comes again
   Within : Event → Turn  -- the power is cut while the node works this event, and comes again
 
--- the node where the power is cut: within a flush all that waits is in doubt; the device may have failed by then
-abbrev pub cut_in : State → Event → ℕ → State
-cut_in old event faults = record old { broker = during old.broker event; faults = faults }
+-- the node where the power is cut, with this broker; the device may have failed by then
+abbrev pub cut_in : State → Broker → ℕ → State
+cut_in old broker faults = record old { broker = broker; faults = faults }
 
 -- the power is cut within an event of a node that works, of which nothing was told; the output is that of the opening
 pub record CutWithin (old : Life) (event : Event) (output : Output) (new : Life) : Type 0 where
   pub up : old.up ≡ true
   pub faults : ℕ
   pub more : old.state.faults ≤ faults
-  pub opening : OpeningStep (cut_in old.state event faults) output new
+  pub broker : Broker
+  pub amid : Amid old.state.broker event broker
+  pub opening : OpeningStep (cut_in old.state broker faults) output new
 
 abbrev pub TurnStep : Life → Turn → Output → Life → Type 0
 TurnStep old (Whole happening) output new = HappeningStep old happening output new
@@ -41,14 +43,14 @@ abbrev pub hearer_in : Turn → Option ℕ
 hearer_in (Whole happening) = hearer_of happening
 hearer_in (Within event) = None
 
--- the broker while a happening goes on; a node that is down works no event
-abbrev pub amid_event : Bool → Broker → Event → Broker
-amid_event true b event = during b event
-amid_event false b event = b
+-- a broker while a happening goes on; a node that is down works no event
+abbrev pub AmidEvent : Bool → Broker → Event → Broker → Type 0
+AmidEvent true old event new = Amid old event new
+AmidEvent false old event new = new ≡ old
 
-abbrev pub amid : Bool → Broker → Happening → Broker
-amid up b (happening.Event event) = amid_event up b event
-amid up b (happening.Crash) = b
+abbrev pub AmidHappening : Bool → Broker → Happening → Broker → Type 0
+AmidHappening up old (happening.Event event) new = AmidEvent up old event new
+AmidHappening up old (happening.Crash) new = new ≡ old
 
 -- a broker that a front of the happenings reaches: between two of them, or while the next one, an event of a node that works, goes on
 pub record Amidst (old : Life) (happenings : List Happening) (broker : Broker) : Type 0 where
@@ -58,7 +60,7 @@ pub record Amidst (old : Life) (happenings : List Happening) (broker : Broker) :
   pub between : Life
   pub run : AllowedRun old worked outputs between
   pub front : happenings ≡ worked ++ rest
-  pub here : (broker ≡ between.state.broker) ⊎ ((next : Event) × (later : List Happening) × (rest ≡ happening.Event next ∷ later) × (between.up ≡ true) × (broker ≡ during between.state.broker next))
+  pub here : (broker ≡ between.state.broker) ⊎ ((next : Event) × (later : List Happening) × (rest ≡ happening.Event next ∷ later) × (between.up ≡ true) × Amid between.state.broker next broker)
 
 abbrev pub uncut : List Happening → List Turn
 uncut happenings = map (λ happening. Whole happening) happenings

@@ -1,5 +1,5 @@
 -- A machine that is driven through events and crashes.
-use Rattle.std.specs.Prelude.{◌≡◌, ◌≢◌, ℕ, suc, Bool, true, false, Option, Some, None, Result, IfOk, List, [], ◌∷◌, ◌++◌, length, take, slice_get}
+use Rattle.std.specs.Prelude.{◌≡◌, ◌≢◌, ℕ, suc, Bool, true, false, Option, Some, None, Result, IfOk, List, ◌∷◌, ◌++◌, length, take, slice_get}
 use Rattle.std.specs.declared.alloc.AllocError.{AllocError}
 use Rattle.disk.specs.declared.crash_shelf.CrashForm.{CrashForm}
 use Rattle.disk.specs.Disk.{Disk, Image, Same}
@@ -7,11 +7,10 @@ use Rattle.disk.specs.Laid.{Laid, after_crash}
 use Rattle.gated_log.specs.declared.refusal.Refusal.TheVariants as refusal
 use Rattle.topic_stores.specs.declared.store.TopicStore.{Ghosts as StoreMembers}
 use Rattle.subscriptions.specs.Statuses.{AreStatuses}
-use Rattle.topic_core.specs.State.{Topic}
 use Rattle.topic_core.specs.Standing.{Phase, Before, Written, Lost}
-use Rattle.session.specs.Broker.{topic_at, Broker}
-use Rattle.node.specs.State.{State, broker_with, place_in}
-use Rattle.node.specs.Standing.{state_of, phase_in, Stands, AtRest, StandsForBroker}
+use Rattle.session.specs.Broker.{topic_at}
+use Rattle.node.specs.State.{State, place_in}
+use Rattle.node.specs.Standing.{state_of, phase_in, Stands, AtRest, StandsForSome}
 use Rattle.managed_ledger.specs.Entries.{Entries}
 use Rattle.records.specs.Maps.{Kept}
 use Rattle.node.specs.Runs.{Life, AllowedRun}
@@ -27,16 +26,10 @@ use Rattle.node.specs.declared.status.TopicStatus.{TopicStatus}
 use Rattle.node.specs.declared.power.Machine.{Machine}
 use Rattle.node.specs.declared.power.Machine.TheVariants as machine
 
--- a state of a node with its one topic, whose ledger ids have so many entry ids
-pub record IsServed (per_ledger : ℕ) (state : State) : Type 0 where
-  pub topic : Topic
-  pub broker : state.broker ≡ broker_with per_ledger (topic ∷ [])
-  pub numbered : topic.per_ledger ≡ per_ledger
-
--- what is told of the topic at a place: how many entries its ledger has, and the statuses of its subscriptions
+-- what is told of the topic at a place: its name, how many entries its ledger has, and the statuses of its subscriptions
 abbrev pub StatusIn : Option ℕ → State → Option TopicStatus → Type 0
 StatusIn (Some number) state (Some status) =
-    (status.number ≡ number) × (status.entries ≡ length (topic_at state.broker number).ledger) × AreStatuses (topic_at state.broker number).subs.subs status.subscriptions.items
+    (status.number ≡ number) × (slice_get state.broker.names number ≡ Some status.name) × (status.entries ≡ length (topic_at state.broker number).ledger) × AreStatuses (topic_at state.broker number).subs.subs status.subscriptions.items
 StatusIn (Some number) state None = ⊥
 StatusIn None state told = told ≡ None
 
@@ -63,12 +56,12 @@ SegmentsAt laid number held files None = Unit {0}
 -- the files stand for what a crash leaves of a broker that a front of the happenings reaches, the first opening before them
 abbrev pub StandsAmidst : (ℕ → Image → Entries → Kept → Type 0) → State → List Happening → Image → Type 0
 StandsAmidst files_stand first happenings files =
-    (broker : Broker) × Amidst (record { up = false; state = first }) (happening.Crash ∷ happenings) broker × StandsForBroker files_stand broker files
+    StandsForSome files_stand (λ broker. Amidst (record { up = false; state = first }) (happening.Crash ∷ happenings) broker) files
 
 -- the device of a machine
 abbrev pub shelf_in : {T S : Type 0} {store : StoreMembers T} → Machine T S store → S
 shelf_in (machine.Up node) = node.topics.shelf
-shelf_in (machine.Down shelf) = shelf
+shelf_in (machine.Down site) = site.shelf
 
 -- The power was cut, in the form that was ordered last, and the node was opened, which writes nothing: reads give what the crash
 -- left, but where the device failed in the opening.
@@ -79,15 +72,15 @@ pub record Cut {S : Type 0} (disk : S → Disk) (laid : S → Laid) (left_as : C
   pub seen : (disk between).honest → told ≢ verdict.Refused refusal.Device → Same (disk between).seen (disk new).seen
 
 module _ {T S : Type 0} {store : StoreMembers T} (disk : S → Disk) where
-  -- The machine holds this life: a node that works, or the device alone, which stands for what a crash leaves of the state.
-  abbrev pub Holds : ℕ → Machine T S store → Life → Type 0
-  Holds per_ledger (machine.Up node) life = Stands disk node × (life ≡ record { up = true; state = state_of disk node }) × IsServed per_ledger life.state
-  Holds per_ledger (machine.Down shelf) life = AtRest store.stands life.state (disk shelf) × (life.up ≡ false) × IsServed per_ledger life.state
+  -- The machine holds this life: a node that works, or the site alone, whose device stands for what a crash leaves of the state.
+  abbrev pub Holds : Machine T S store → Life → Type 0
+  Holds (machine.Up node) life = Stands disk node × (life ≡ record { up = true; state = state_of disk node })
+  Holds (machine.Down site) life = AtRest store.stands life.state (disk site.shelf) × (life.up ≡ false) × (site.url ≡ life.state.broker.service_url)
 
   -- so it is of the status of a machine
   abbrev pub SegmentsTold : (ℕ → Image → List ℕ → Type 0) → Machine T S store → ℕ → Option TopicStatus → Type 0
   SegmentsTold laid (machine.Up node) number told = SegmentsAt laid number node.topics.held.items (disk node.topics.shelf).seen told
-  SegmentsTold laid (machine.Down shelf) number told = Unit {0}
+  SegmentsTold laid (machine.Down site) number told = Unit {0}
 
   -- what it does
   abbrev pub disk_in : Machine T S store → Disk
@@ -95,10 +88,10 @@ module _ {T S : Type 0} {store : StoreMembers T} (disk : S → Disk) where
 
   -- The node was opened, and then a front of the happenings was worked, as long as the outputs that were added; all of them
   -- where no memory was refused for an output. From a start where nothing is owed, what the sessions were told is accounted for.
-  pub record Drove (per_ledger : ℕ) (first : State) (happenings : List Happening) (before : List Output) (result : Result (Machine T S store) AllocError) (after : List Output) : Type 0 where
+  pub record Drove (first : State) (happenings : List Happening) (before : List Output) (result : Result (Machine T S store) AllocError) (after : List Output) : Type 0 where
     pub answers : List Output
     pub last : Life
     pub added : after ≡ before ++ answers
     pub run : AllowedRun (record { up = false; state = first }) (take (length answers) (happening.Crash ∷ happenings)) answers last
-    pub whole : IfOk result (λ machine. (length answers ≡ suc (length happenings)) × Holds per_ledger machine last)
+    pub whole : IfOk result (λ machine. (length answers ≡ suc (length happenings)) × Holds machine last)
     pub accounts : IsAtStart first.broker → Accounts first.broker (take (length answers) (happening.Crash ∷ happenings)) answers last.state.broker

@@ -36,7 +36,7 @@ IsSoundBroker b = (number : ℕ) → IsSoundTopic (topic_at b number)
 
 -- a new node is sound, and each step and each happening keeps that
 pub record StaysSound : Type 0 where
-  pub fresh : (per_ledger : ℕ) → 0 < per_ledger → IsSoundBroker (fresh_broker per_ledger)
+  pub fresh : (per_ledger : ℕ) (url : List ℕ) → 0 < per_ledger → IsSoundBroker (fresh_broker per_ledger url)
   pub run : (old : State) (events : List Event) (outputs : List Output) (new : State) → Run old events outputs new → IsSoundBroker old.broker → IsSoundBroker new.broker
   pub life : (old : Life) (happenings : List Happening) (outputs : List Output) (new : Life) → AllowedRun old happenings outputs new → IsSoundBroker old.state.broker → IsSoundBroker new.state.broker
   pub cut : (old : Life) (turns : List Turn) (outputs : List Output) (new : Life) → AllowedLife old turns outputs new → IsSoundBroker old.state.broker → IsSoundBroker new.state.broker
@@ -110,7 +110,7 @@ pub record IsAtStart (b : Broker) : Type 0 where
 -- The headline: whatever happens to a node from such a start, with device failures and crashes anywhere, within events too, it
 -- can account for all that its sessions were told.
 pub record LivesAccount : Type 0 where
-  pub fresh : (per_ledger : ℕ) → 0 < per_ledger → IsAtStart (fresh_broker per_ledger)
+  pub fresh : (per_ledger : ℕ) (url : List ℕ) → 0 < per_ledger → IsAtStart (fresh_broker per_ledger url)
   pub life : (old : Life) (happenings : List Happening) (outputs : List Output) (new : Life) → AllowedRun old happenings outputs new → IsAtStart old.state.broker
       → Accounts old.state.broker happenings outputs new.state.broker
   pub cut : (old : Life) (turns : List Turn) (outputs : List Output) (new : Life) → AllowedLife old turns outputs new → IsAtStart old.state.broker

@@ -3,11 +3,15 @@ pub mod Flights
 pub mod Matching
 pub mod Numbers
 pub mod Lists
+pub mod Brokers
+pub mod Naming
 pub mod Steps
 pub mod Parts
+pub mod Uses
 pub mod Standing
 pub mod Opening
 pub mod Passing
+pub mod Growing
 pub mod Runs
 pub mod Driving
 pub mod Moves

@@ -48,22 +48,10 @@ get_push (a ∷ xs) y (suc j) x is = ⊎_elim
     (λ other. inr (λ e. other.0 (omega (arith, e)), other.1))
     (get_push xs y j x is)
 
-pub got_map : {X Y : Type 0} (f : X → Y) (xs : List X) (k : ℕ) (x : X) → slice_get xs k ≡ Some x → slice_get (map f xs) k ≡ Some (f x)
-got_map f [] k x is = absurd (none-some x is)
-got_map f (a ∷ xs) zero x is = ap (λ y. Some (f y)) (same_Some a x is)
-got_map f (a ∷ xs) (suc k) x is = got_map f xs k x is
-
 pub got_set : {X : Type 0} (xs : List X) (k : ℕ) (x y : X) → slice_get xs k ≡ Some x → slice_get (slice_set xs k y) k ≡ Some y
 got_set [] k x y is = absurd (none-some x is)
 got_set (a ∷ xs) zero x y is = refl
 got_set (a ∷ xs) (suc k) x y is = got_set xs k x y is
-
-pub got_other : {X : Type 0} (xs : List X) (k j : ℕ) (y x : X) → j ≢ k → slice_get xs j ≡ Some x → slice_get (slice_set xs k y) j ≡ Some x
-got_other [] k j y x differ is = is
-got_other (a ∷ xs) zero zero y x differ is = absurd (differ refl)
-got_other (a ∷ xs) zero (suc j) y x differ is = is
-got_other (a ∷ xs) (suc k) zero y x differ is = is
-got_other (a ∷ xs) (suc k) (suc j) y x differ is = got_other xs k j y x (λ e. differ (ap suc e)) is
 
 pub same_or_not : (j k : ℕ) → (j ≡ k) ⊎ (j ≢ k)
 same_or_not zero zero = inl refl
@@ -71,27 +59,19 @@ same_or_not zero (suc k) = inr (λ e. omega (arith, e))
 same_or_not (suc j) zero = inr (λ e. omega (arith, e))
 same_or_not (suc j) (suc k) = ⊎_elim (λ e. inl (ap suc e)) (λ d. inr (λ e. d (omega (arith, e)))) (same_or_not j k)
 
--- other places stay
-pub set_else : {X : Type 0} (xs : List X) (k j : ℕ) (y d : X) → j ≢ k → slice_index_or (slice_set xs k y) j d ≡ slice_index_or xs j d
-set_else [] k j y d differ = refl
-set_else (a ∷ xs) zero zero y d differ = absurd (differ refl)
-set_else (a ∷ xs) zero (suc j) y d differ = refl
-set_else (a ∷ xs) (suc k) zero y d differ = refl
-set_else (a ∷ xs) (suc k) (suc j) y d differ = set_else xs k j y d (λ e. differ (ap suc e))
-
 -- a place that isn't there
 pub set_beyond : {X : Type 0} (xs : List X) (k : ℕ) (y : X) → ¬ (k < length xs) → slice_set xs k y ≡ xs
 set_beyond [] k y beyond = refl
 set_beyond (a ∷ xs) zero y beyond = absurd (beyond (omega arith))
 set_beyond (a ∷ xs) (suc k) y beyond = ap (λ zs. a ∷ zs) (set_beyond xs k y (λ low. beyond (omega (arith, low))))
 
--- what stands in a list of one
-pub only_one : {X : Type 0} (x : X) (k : ℕ) (y : X) → slice_get (x ∷ []) k ≡ Some y → (k ≡ 0) × (y ≡ x)
-only_one x zero y is = (refl, sym (same_Some x y is))
-only_one x (suc k) y is = absurd (none-some y is)
+-- what each of them has, and what stands for those that aren't there, this place has
+pub at_each : {X Y : Type 0} (P : Y → Type 0) (f : X → Y) (xs : List X) (k : ℕ) (d : Y) → P d → ((j : ℕ) (x : X) → slice_get xs j ≡ Some x → P (f x)) → P (slice_index_or (map f xs) k d)
+at_each P f [] k d none each = none
+at_each P f (a ∷ xs) zero d none each = each zero a refl
+at_each P f (a ∷ xs) (suc k) d none each = at_each P f xs k d none (λ j x is. each (suc j) x is)
 
--- a list of one element
-pub of_one : {X : Type 0} (xs : List X) → length xs ≡ 1 → (x : X) × (xs ≡ x ∷ [])
-of_one [] is = absurd (omega (arith, is))
-of_one (x ∷ []) is = (x, refl)
-of_one (x ∷ y ∷ ys) is = absurd (omega (arith, is))
+pub get_at : {X : Type 0} (xs : List X) (k : ℕ) → k < length xs → (x : X) × (slice_get xs k ≡ Some x)
+get_at [] k low = absurd (omega (arith, low))
+get_at (a ∷ xs) zero low = (a, refl)
+get_at (a ∷ xs) (suc k) low = get_at xs k (omega (arith, low))

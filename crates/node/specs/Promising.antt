@@ -15,7 +15,7 @@ use Rattle.reply_queues.specs.Replies.{refused}
 use Rattle.subscriptions.specs.State.{Subscription}
 use Rattle.subscriptions.specs.Steps.{is_on}
 use Rattle.subscriptions.specs.Progress.{listed}
-use Rattle.topic_core.specs.declared.command.Ack.{Ack}
+use Rattle.commands.specs.declared.consuming.Ack.{Ack}
 use Rattle.topic_core.specs.declared.command.Answer.{Answer}
 use Rattle.topic_core.specs.declared.command.Answer.TheVariants.{Now, Later, Nothing, NoMemory}
 use Rattle.topic_core.specs.declared.command.TopicCommand.{TopicCommand}
@@ -46,7 +46,7 @@ acked_by Cumulative [] = set.empty
 acked_by Cumulative (position ∷ positions) = below (position + 1)
 
 abbrev pub positions_of : ℕ → Ack → List ℕ
-positions_of per_ledger ack = map (λ id. position_at per_ledger id) ack.ids
+positions_of per_ledger ack = map (λ id. position_at per_ledger id) ack.message_ids
 
 -- What an accepted command's answer promises: of a SUBSCRIBE that the subscription is there, of an ACK that its positions
 -- are acknowledged on the consumer's subscription, of an UNSUBSCRIBE that the consumer's subscription is gone, and of other

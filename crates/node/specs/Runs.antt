@@ -1,11 +1,11 @@
 -- Runs of events, and of events and crashes.
-use Rattle.std.specs.Prelude.{◌≡◌, ◌⊎◌, ◌<◌, ◌≤◌, ℕ, Bool, true, false, Result, OnOk, List, [], ◌∷◌, ◌++◌, length, take}
+use Rattle.std.specs.Prelude.{◌≡◌, ◌⊎◌, ◌<◌, ◌≤◌, ℕ, Bool, true, false, None, Result, OnOk, List, [], ◌∷◌, ◌++◌, length, take}
 use Rattle.std.specs.declared.alloc.AllocError.{AllocError}
 use Rattle.gated_log.specs.declared.refusal.Refusal.TheVariants as refusal
 use Rattle.topic_core.specs.Crashes.{TopicCrash}
-use Rattle.session.specs.Broker.{Broker, topic_at}
+use Rattle.session.specs.Broker.{Broker, topic_at, Settles}
 use Rattle.node.specs.State.{State, Resting, stage_at}
-use Rattle.node.specs.Steps.{BrokerStep, during}
+use Rattle.node.specs.Steps.{BrokerStep, Amid}
 use Rattle.node.specs.declared.event.Event.{Event}
 use Rattle.node.specs.declared.event.Verdict.{Verdict}
 use Rattle.node.specs.declared.event.Verdict.TheVariants as verdict
@@ -35,14 +35,18 @@ pub record Reached (old : State) (events : List Event) (broker : Broker) : Type 
   pub between : State
   pub run : Run old worked outputs between
   pub front : events ≡ worked ++ rest
-  pub here : (broker ≡ between.broker) ⊎ ((next : Event) × (later : List Event) × (rest ≡ next ∷ later) × (broker ≡ during between.broker next))
+  pub here : (broker ≡ between.broker) ⊎ ((next : Event) × (later : List Event) × (rest ≡ next ∷ later) × Amid between.broker next broker)
 
--- what a crash leaves of a node, as it is opened again: each topic as a crash leaves it, and no session
+-- what a crash leaves of a node, as it is opened again: the name in doubt is settled, each topic is as a crash leaves it, and there
+-- is no session
 pub record StateCrash (old new : State) : Type 0 where
   pub per_ledger : new.broker.per_ledger ≡ old.broker.per_ledger
   pub service_url : new.broker.service_url ≡ old.broker.service_url
-  pub names : new.broker.names ≡ old.broker.names
-  pub count : length new.broker.topics ≡ length old.broker.topics
+  pub settled : Broker
+  pub settles : Settles old.broker.doubtful old.broker settled
+  pub names : new.broker.names ≡ settled.names
+  pub sure : new.broker.doubtful ≡ None
+  pub count : length new.broker.topics ≡ length settled.topics
   pub each : (number : ℕ) → TopicCrash (topic_at old.broker number) (topic_at new.broker number)
   pub stages : (number : ℕ) → stage_at new number ≡ Resting
   pub sessions : new.sessions ≡ []

@@ -1,6 +1,10 @@
 -- How a node and its device hold the abstract node together.
-use Rattle.std.specs.Prelude.{◌≡◌, ◌≤◌, ℕ, Some, List, map, slice_get}
+use Rattle.std.specs.Prelude.{◌≡◌, ◌⊎◌, ◌<◌, ◌≤◌, ℕ, true, false, Option, Some, None, List, [], ◌∷◌, ◌++◌, length, map as each, slice_get}
+use Rattle.std.specs.List.{list_any}
+use Rattle.std.specs.FinMap as map
 use Rattle.disk.specs.Disk.{Disk, Image, Leaves}
+use Rattle.disk.specs.Contents.{Settled}
+use Rattle.catalog.specs.Catalogs.{StandsFor as NamesStand, Holds as NamesHeld, remembered, per_ledger, failed}
 use Rattle.gated_log.specs.declared.read_error.ReadError.{ReadError}
 use Rattle.managed_ledger.specs.Entries.{Entries}
 use Rattle.records.specs.Maps.{Kept}
@@ -10,16 +14,33 @@ use Rattle.topic_stores.specs.Writing.{StandsFor}
 use Rattle.topic_core.specs.Crashes.{IsLeft}
 use Rattle.topic_core.specs.Standing.{Phase, Standing}
 use Rattle.topic_core.specs.State.{Topic}
-use Rattle.session.specs.Broker.{Broker}
-use Rattle.node.specs.State.{State, Stage, MayRefuse, broker_with}
+use Rattle.reply_queues.specs.Replies.{is_for}
+use Rattle.session.specs.Broker.{Broker, topic_at}
+use Rattle.node.specs.State.{State, Stage, MayRefuse, stage_in}
+use Rattle.node.specs.Naming.{IsFormed, Gains, Grows}
 use Rattle.node.specs.Flights.{stage_of, phase_at}
+use Rattle.node.specs.Uses.{is_used}
 use Rattle.node.specs.declared.held.Held.{Held}
 use Rattle.node.specs.declared.topics.Topics.{Topics}
+use Rattle.node.specs.declared.uses.Uses.{Uses}
 use Rattle.node.specs.declared.node.Node.{Node}
 
--- the files stand for what a crash leaves of each topic of the broker
-abbrev pub StandsForBroker : (ℕ → Image → Entries → Kept → Type 0) → Broker → Image → Type 0
-StandsForBroker files_stand b files = (number : ℕ) (t : Topic) → slice_get b.topics number ≡ Some t → StandsFor (files_stand number) (IsLeft t) files
+-- The catalog's file stands for the broker's names; where a name is in doubt, for these or for that one too, and the files of its
+-- topic stand for a fresh one.
+abbrev pub NamesLeft : (ℕ → Image → Entries → Kept → Type 0) → Option (List ℕ) → Broker → Image → Type 0
+NamesLeft files_stand None b files = NamesStand b.per_ledger files b.names
+NamesLeft files_stand (Some name) b files =
+    NamesStand b.per_ledger files b.names ⊎ (NamesStand b.per_ledger files (b.names ++ name ∷ []) × files_stand (length b.topics) files [] map.empty)
+
+-- the files stand for what a crash leaves of the broker: its names, and each topic
+pub record StandsForBroker (files_stand : ℕ → Image → Entries → Kept → Type 0) (b : Broker) (files : Image) : Type 0 where
+  pub formed : IsFormed b
+  pub names : NamesLeft files_stand b.doubtful b files
+  pub topics : (number : ℕ) (t : Topic) → slice_get b.topics number ≡ Some t → StandsFor (files_stand number) (IsLeft t) files
+
+-- they stand for what a crash leaves of one of these brokers
+abbrev pub StandsForSome : (ℕ → Image → Entries → Kept → Type 0) → (Broker → Type 0) → Image → Type 0
+StandsForSome files_stand Is files = (broker : Broker) × Is broker × StandsForBroker files_stand broker files
 
 -- ---- one topic
 
@@ -36,34 +57,66 @@ module _ {T : Type 0} {store : StoreMembers T} where
   abbrev pub HeldStands : Held T store → Disk → Type 0
   HeldStands h disk = Standing store.stands (phase_in h) h.core (view_in h) disk
 
+  -- whoever has a queue at a topic uses it
+  abbrev pub AreMarked : Uses → List (Held T store) → Type 0
+  AreMarked uses items = (number : ℕ) (h : Held T store) → slice_get items number ≡ Some h → (who : ℕ) → list_any (is_for who) h.core.queues ≡ true → is_used uses who number ≡ true
+
 -- ---- all of them
 
 module _ {T S : Type 0} {store : StoreMembers T} where
   abbrev pub broker_of : Topics T S store → Broker
-  broker_of t = broker_with t.per_ledger (map (λ h. h.core) t.held.items)
+  broker_of t = record {
+    per_ledger = per_ledger t.catalog;
+    service_url = t.url;
+    names = remembered t.catalog;
+    doubtful = t.doubtful;
+    topics = each (λ h. h.core) t.held.items;
+  }
 
   -- how far the flushes are that come in parts, by the numbers of their topics
   abbrev pub stages_of : Topics T S store → List Stage
-  stages_of t = map (λ h. stage_of h.flight) t.held.items
+  stages_of t = each (λ h. stage_of h.flight) t.held.items
 
   module _ (disk : S → Disk) where
-    -- The device is honest, and holds each topic.
+    -- The device is honest, and holds each topic; whatever a crash leaves stands for their names, or one more that is in doubt. Who
+    -- has a queue at a topic counts as one that uses it.
     pub record TopicsStand (t : Topics T S store) : Type 0 where
       pub honest : (disk t.shelf).honest
       pub each : (number : ℕ) (h : Held T store) → slice_get t.held.items number ≡ Some h → HeldStands h (disk t.shelf)
+      pub names : (files : Image) → (disk t.shelf).may_leave files → NamesLeft store.stands t.doubtful (broker_of t) files
+      pub settled : failed t.catalog ≡ false → Settled (NamesHeld t.catalog) (disk t.shelf) (remembered t.catalog)
+      pub marked : AreMarked t.uses t.held.items
 
     -- A call of a port, which writes nothing: the device still holds the topics; what a crash leaves of them, it left before, and
     -- so at any moment of the call.
     pub record Passed (old new : Topics T S store) : Type 0 where
       pub standing : TopicsStand new
-      pub left : (files : Image) → StandsForBroker store.stands (broker_of new) files → StandsForBroker store.stands (broker_of old) files
+      pub left : (number : ℕ) (ledger : Entries) (kept : Kept) → IsLeft (topic_at (broker_of new) number) ledger kept → IsLeft (topic_at (broker_of old) number) ledger kept
       pub any_moment : Leaves (StandsForBroker store.stands (broker_of old)) (disk old.shelf) (disk new.shelf)
-      pub per_ledger : new.per_ledger ≡ old.per_ledger
+      pub url : new.url ≡ old.url
+      pub catalog : new.catalog ≡ old.catalog
+      pub doubtful : new.doubtful ≡ old.doubtful
       pub stages : stages_of new ≡ stages_of old
       pub faults : (disk old.shelf).faults ≤ (disk new.shelf).faults
 
+    -- A call of a port that may make topics: of the others, what a crash leaves it left before; what it leaves of those that are
+    -- made is that of fresh ones; and so at any moment of the call.
+    pub record Worked (old new : Topics T S store) : Type 0 where
+      pub standing : TopicsStand new
+      pub grows : Grows (broker_of old) (broker_of new)
+      pub any_moment : Leaves (StandsForSome store.stands (λ broker. Gains (broker_of old) broker)) (disk old.shelf) (disk new.shelf)
+      pub stages : (number : ℕ) → stage_in (stages_of new) number ≡ stage_in (stages_of old) number
+      pub faults : (disk old.shelf).faults ≤ (disk new.shelf).faults
+
+    abbrev pub Works : Topics T S store → Topics T S store → Type 0
+    Works old new = (length old.held.items ≤ length new.held.items) × (TopicsStand old → Worked old new)
+
     abbrev pub Passes : Topics T S store → Topics T S store → Type 0
-    Passes old new = TopicsStand old → Passed old new
+    Passes old new = (length old.held.items ≤ length new.held.items) × (TopicsStand old → Passed old new)
+
+    -- the device failed between the two
+    abbrev pub Fails : Topics T S store → Topics T S store → Type 0
+    Fails old new = TopicsStand old → (disk old.shelf).faults < (disk new.shelf).faults
 
     -- a message was refused so between the two
     abbrev pub Refuses : Topics T S store → ReadError → Topics T S store → Type 0

@@ -1,5 +1,5 @@
 -- The abstract node.
-use Rattle.std.specs.Prelude.{◌≡◌, ◌⊎◌, ◌<◌, ℕ, ◌+◌, ◌^◌, ◌||◌, Option, Some, None, Result, Ok, Err, Bool, List, [], ◌∷◌, ◌++◌, length, nat_lt, nat_le, nat_eq, cond, remove, position, codes, slice_index_or}
+use Rattle.std.specs.Prelude.{◌≡◌, ◌⊎◌, ◌<◌, ℕ, ◌+◌, ◌^◌, ◌||◌, Option, Some, None, Result, Ok, Err, Bool, List, [], ◌∷◌, ◌++◌, length, nat_lt, nat_le, nat_eq, cond, remove, position, slice_index_or}
 use Rattle.gated_log.specs.declared.read_error.ReadError.{ReadError}
 use Rattle.gated_log.specs.declared.read_error.ReadError.TheVariants as read
 use Rattle.gated_log.specs.declared.refusal.Refusal.{Refusal}
@@ -13,7 +13,7 @@ use Rattle.session.specs.declared.fault.Fault.{Fault}
 use Rattle.session.specs.declared.pumping.More.{More}
 use Rattle.session.specs.declared.pumping.PumpFault.{PumpFault}
 use Rattle.session.specs.declared.pumping.PumpFault.TheVariants.{Ended, Device, Damaged}
-use Rattle.session.specs.Broker.{Broker, fresh}
+use Rattle.session.specs.Broker.{Broker}
 use Rattle.session.specs.Client.{Client, new_client}
 use Rattle.node.specs.declared.event.Verdict.{Verdict}
 use Rattle.node.specs.declared.event.Verdict.TheVariants as verdict
@@ -38,13 +38,13 @@ stage_in stages number = slice_index_or stages number Resting
 abbrev pub stage_at : State → ℕ → Stage
 stage_at s number = stage_in s.stages number
 
--- a broker of these topics; for now there is one, of this name
-abbrev pub broker_with : ℕ → List Topic → Broker
-broker_with per_ledger topics = record { per_ledger = per_ledger; service_url = codes "pulsar://replay"; names = codes "persistent://a/b/c" ∷ []; topics = topics }
+-- the broker with these topics
+abbrev pub over : Broker → List Topic → Broker
+over b topics = record b { topics = topics }
 
--- nothing happened to it yet
-abbrev pub fresh_broker : ℕ → Broker
-fresh_broker per_ledger = broker_with per_ledger (fresh per_ledger ∷ [])
+-- a broker without topics, whose ledger ids have so many entry ids, and that clients find so
+abbrev pub fresh_broker : ℕ → List ℕ → Broker
+fresh_broker per_ledger url = record { per_ledger = per_ledger; service_url = url; names = []; doubtful = None; topics = [] }
 
 -- the place of a topic's number, where there is one
 abbrev pub place_in : List Topic → ℕ → Option ℕ

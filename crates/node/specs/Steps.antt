@@ -16,6 +16,7 @@ use Rattle.session.specs.Client.{Client, Play, play}
 use Rattle.session.specs.Working.{FeedStep}
 use Rattle.session.specs.Pumping as pumping
 use Rattle.node.specs.State.{State, MayRefuse, Stage, Resting, Taken, Written, stage_at, place_in, place_of, is_full, with_session, verdict_of, verdict_of_pump, verdict_for, verdict_of_flush, stage_after, settled}
+use Rattle.node.specs.Naming.{Gains}
 use Rattle.node.specs.declared.event.Event.{Event}
 use Rattle.node.specs.declared.event.Event.TheVariants.{Open, Bytes, Pump, Close, Flush, Take, Write, Finish, Reopen}
 use Rattle.node.specs.declared.event.Verdict.{Verdict}
@@ -47,18 +48,18 @@ OpenStep false old output new = OpensAs output.result old output new
 pub record Settles (old : State) (place : ℕ) (played : Play) (result : Verdict) (output : Output) (new : State) : Type 0 where
   pub answer : output ≡ record { bytes = played.out; result = result }
   pub broker : new.broker ≡ played.broker
-  pub stages : new.stages ≡ old.stages
+  pub stages : (number : ℕ) → stage_at new number ≡ stage_at old number
   pub sessions : new.sessions ≡ settled played.client.fault (slice_set old.sessions place played.client) place
   pub used : new.used ≡ old.used
   pub faults : old.faults ≤ new.faults
 
--- bytes come to an open session
+-- bytes come to an open session; a search of a topic fails only where the device did
 pub record Feeds (old : State) (place : ℕ) (bytes : List ℕ) (output : Output) (new : State) : Type 0 where
   pub client : Client
   pub stands : slice_get old.sessions place ≡ Some client
   pub result : Result (Unit {0}) Fault
   pub played : Play
-  pub step : FeedStep (play client old.broker []) bytes result played
+  pub step : FeedStep (old.faults < new.faults) (play client old.broker []) bytes result played
   pub settles : Settles old place played (verdict_of played.client.fault) output new
 
 -- an open session collects, and gets messages, of which one is refused only for a cause
@@ -76,7 +77,7 @@ pub record Closes (old : State) (place : ℕ) (output : Output) (new : State) : 
   pub stands : slice_get old.sessions place ≡ Some client
   pub answer : output ≡ record { bytes = []; result = verdict.Done }
   pub broker : new.broker ≡ left_all old.broker client.number
-  pub stages : new.stages ≡ old.stages
+  pub stages : (number : ℕ) → stage_at new number ≡ stage_at old number
   pub sessions : new.sessions ≡ remove old.sessions place
   pub used : new.used ≡ old.used
   pub faults : old.faults ≤ new.faults
@@ -196,14 +197,14 @@ flushing false false t = topics.handed_on t
 abbrev pub in_flush : Topic → Topic
 in_flush t = flushing t.failed (topics.has_no_flush t) t
 
--- the broker while an event goes on
-abbrev pub during : Broker → Event → Broker
-during old Open = old
-during old (Bytes who bytes) = old
-during old (Pump who) = old
-during old (Close who) = old
-during old (Flush topic) = with_topic old topic (in_flush (topic_at old topic))
-during old (Take topic) = old
-during old (Write topic) = old
-during old (Finish topic) = old
-during old (Reopen topic) = old
+-- A broker while an event goes on: bytes may make topics, and in a flush all that waits is in doubt.
+abbrev pub Amid : Broker → Event → Broker → Type 0
+Amid old Open new = new ≡ old
+Amid old (Bytes who bytes) new = Gains old new
+Amid old (Pump who) new = new ≡ old
+Amid old (Close who) new = new ≡ old
+Amid old (Flush topic) new = new ≡ with_topic old topic (in_flush (topic_at old topic))
+Amid old (Take topic) new = new ≡ old
+Amid old (Write topic) new = new ≡ old
+Amid old (Finish topic) new = new ≡ old
+Amid old (Reopen topic) new = new ≡ old

@@ -1,7 +1,10 @@
 ghost use Rattle.node.specs.Cuts.{CutsAreTurns};
 ghost use Rattle.node.specs.Failing.{FailsForACause};
 ghost use Rattle.node.specs.Hearing.{FramesAreAccountedFor};
+ghost use Rattle.node.specs.Opening.{HaveOneFault};
 ghost use Rattle.node.specs.Laws.{RunsUnfold, LivesUnfold, StaysSound, MovesPublish, ReceiptsAreCovered, ReceiptsAreFound, WordsAreKept, MessagesAreAdmitted, LivesAccount};
+
+use topic_core::TopicStore;
 
 /// The bytes that go out to each session are frames, each whole, and each topic moves by allowed moves, on which it
 /// hands out just those replies that don't answer a command at once.
@@ -71,4 +74,9 @@ pub fn lives_account()
 /// So each receipt that can be read in the bytes that went out to a session is found, and each message was admitted.
 pub fn frames_are_accounted_for()
     ensures { FramesAreAccountedFor }
+{}
+
+/// The files of a node have one first fault: the catalog's, or that of the first of its topics whose files have one.
+pub fn openings_have_one_fault<T: TopicStore>()
+    ensures { HaveOneFault T.stands T.faulty }
 {}

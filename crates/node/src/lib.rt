@@ -3,6 +3,7 @@
 //! the device fails in, and wherever the power is cut, each opening finds every entry that a receipt was told for.
 #![tactic(auto)]
 
+mod beginning;
 mod event;
 mod flight;
 mod held;
@@ -13,19 +14,25 @@ mod open;
 mod parts;
 mod port;
 mod power;
+mod searching;
 mod serving;
+mod site;
 mod status;
 mod topics;
+mod uses;
 
+pub use catalog::EntriesPerLedger;
+pub use commands::ReplyText;
 pub use event::{Event, Happening, Output, Verdict};
 pub use gated_log::Refusal;
 pub use laws::{
     cuts_are_turns, frames_are_accounted_for, lives_account, lives_unfold, messages_are_admitted,
-    moves_publish, receipts_are_covered, receipts_are_found, runs_unfold, stays_sound,
-    topics_fail_for_a_cause, words_are_kept,
+    moves_publish, openings_have_one_fault, receipts_are_covered, receipts_are_found, runs_unfold,
+    stays_sound, topics_fail_for_a_cause, words_are_kept,
 };
 pub use node::Node;
 pub use octets::Octets;
 pub use power::{Machine, drive};
 pub use session::Fault;
+pub use site::Site;
 pub use status::TopicStatus;

@@ -1,9 +1,9 @@
 ghost use Rattle.std.specs.Prelude.{◌≡◌, ◌<◌, ◌≤◌, [], length, IfSome, vec_len};
 ghost use Rattle.disk.specs.Disk.{Leaves};
-ghost use Rattle.session.specs.Broker.{Broker, topic_at};
+ghost use Rattle.session.specs.Broker.{topic_at};
 ghost use Rattle.node.specs.State.{is_full, place_in, place_of, verdict_of, verdict_of_pump, verdict_for, verdict_of_flush, settled};
-ghost use Rattle.node.specs.Standing.{state_of, disk_of, broker_of, Stands, StandsForBroker, Passes};
-ghost use Rattle.node.specs.Steps.{OpenStep, BytesStep, PumpStep, CloseStep, FlushStep, TakeStep, WriteStep, FinishStep, ReopenStep, BrokerStep, during};
+ghost use Rattle.node.specs.Standing.{state_of, disk_of, broker_of, Stands, StandsForBroker, StandsForSome, Passes, Works};
+ghost use Rattle.node.specs.Steps.{OpenStep, BytesStep, PumpStep, CloseStep, FlushStep, TakeStep, WriteStep, FinishStep, ReopenStep, BrokerStep, Amid};
 ghost use Rattle.node.specs.Opening.{ReopenTells, TellsIn};
 ghost use Rattle.node.specs.Runs.{Ran, Reached};
 ghost use Rattle.node.specs.declared.event.Event.TheVariants as event;
@@ -122,7 +122,7 @@ impl<T: TopicStore, S: Shelf> Node<T, S> {
     fn bytes(&mut self, who: u64, bytes: &[u8]) -> Output
         ensures step { Stands S.disk self.old →
             BytesStep (place_of self.old.sessions.items who) (state_of S.disk self.old) bytes.now result (state_of S.disk self.new) }
-        ensures passes { Passes S.disk self.old.topics self.new.topics }
+        ensures works { Works S.disk self.old.topics self.new.topics }
     {
         let Some(place) = place_of(self.sessions.as_slice(), who) else {
             return only(self.alloc, Verdict::Unknown);
@@ -175,8 +175,7 @@ impl<T: TopicStore, S: Shelf> Node<T, S> {
             FlushStep (place_in (state_of S.disk self.old).broker.topics topic) (state_of S.disk self.old) result (state_of S.disk self.new) }
         ensures stands { Stands S.disk self.old → Stands S.disk self.new }
         ensures any_moment { Stands S.disk self.old →
-            Leaves (StandsForBroker T.stands (during (state_of S.disk self.old).broker (event.Flush topic))) (disk_of S.disk self.old) (disk_of S.disk self.new) }
-        ensures numbered { self.new.topics.per_ledger ≡ self.old.topics.per_ledger }
+            Leaves (StandsForSome T.stands (λ broker. Amid (state_of S.disk self.old).broker (event.Flush topic) broker)) (disk_of S.disk self.old) (disk_of S.disk self.new) }
     {
         if topic >= self.topics.count() {
             return only(self.alloc, Verdict::Unknown);
@@ -191,7 +190,6 @@ impl<T: TopicStore, S: Shelf> Node<T, S> {
             TakeStep (place_in (state_of S.disk self.old).broker.topics topic) (state_of S.disk self.old) result (state_of S.disk self.new) }
         ensures stands { Stands S.disk self.old → Stands S.disk self.new }
         ensures shelf { self.new.topics.shelf ≡ self.old.topics.shelf }
-        ensures numbered { self.new.topics.per_ledger ≡ self.old.topics.per_ledger }
     {
         if topic >= self.topics.count() {
             return only(self.alloc, Verdict::Unknown);
@@ -206,7 +204,6 @@ impl<T: TopicStore, S: Shelf> Node<T, S> {
         ensures stands { Stands S.disk self.old → Stands S.disk self.new }
         ensures any_moment { Stands S.disk self.old →
             Leaves (StandsForBroker T.stands (state_of S.disk self.old).broker) (disk_of S.disk self.old) (disk_of S.disk self.new) }
-        ensures numbered { self.new.topics.per_ledger ≡ self.old.topics.per_ledger }
     {
         if topic >= self.topics.count() {
             return only(self.alloc, Verdict::Unknown);
@@ -223,7 +220,6 @@ impl<T: TopicStore, S: Shelf> Node<T, S> {
             FinishStep (place_in (state_of S.disk self.old).broker.topics topic) (state_of S.disk self.old) result (state_of S.disk self.new) }
         ensures stands { Stands S.disk self.old → Stands S.disk self.new }
         ensures shelf { self.new.topics.shelf ≡ self.old.topics.shelf }
-        ensures numbered { self.new.topics.per_ledger ≡ self.old.topics.per_ledger }
     {
         if topic >= self.topics.count() {
             return only(self.alloc, Verdict::Unknown);
@@ -241,7 +237,6 @@ impl<T: TopicStore, S: Shelf> Node<T, S> {
         ensures tells { ReopenTells T.stands T.faulty topic (topic_at (broker_of self.old.topics) topic) (topic_at (broker_of self.new.topics) topic) (disk_of S.disk self.old) (disk_of S.disk self.new) result.result }
         ensures any_moment { Stands S.disk self.old →
             Leaves (StandsForBroker T.stands (state_of S.disk self.old).broker) (disk_of S.disk self.old) (disk_of S.disk self.new) }
-        ensures numbered { self.new.topics.per_ledger ≡ self.old.topics.per_ledger }
     {
         if topic >= self.topics.count() {
             return only(self.alloc, Verdict::Unknown);
@@ -260,8 +255,7 @@ impl<T: TopicStore, S: Shelf> Node<T, S> {
         // Whatever the device holds, this is what the opening of a topic tells.
         ensures tells { TellsIn T.stands T.faulty event (broker_of self.old.topics) (broker_of self.new.topics) (disk_of S.disk self.old) (disk_of S.disk self.new) result.result }
         ensures any_moment { Stands S.disk self.old →
-            Leaves (StandsForBroker T.stands (during (state_of S.disk self.old).broker event)) (disk_of S.disk self.old) (disk_of S.disk self.new) }
-        ensures numbered { Stands S.disk self.old → self.new.topics.per_ledger ≡ self.old.topics.per_ledger }
+            Leaves (StandsForSome T.stands (λ broker. Amid (state_of S.disk self.old).broker event broker)) (disk_of S.disk self.old) (disk_of S.disk self.new) }
     {
         match event {
             Event::Open => self.open_session(),
@@ -283,7 +277,7 @@ impl<T: TopicStore, S: Shelf> Node<T, S> {
             Ran (state_of S.disk self.old) events.items outputs.old.items result outputs.new.items (state_of S.disk self.new) }
         ensures stands { Stands S.disk self.old → Stands S.disk self.new }
         ensures any_moment { Stands S.disk self.old →
-            Leaves (λ files. (broker : Broker) × Reached (state_of S.disk self.old) events.items broker × StandsForBroker T.stands broker files)
+            Leaves (StandsForSome T.stands (λ broker. Reached (state_of S.disk self.old) events.items broker))
             (disk_of S.disk self.old) (disk_of S.disk self.new) }
     {
         for event in events {

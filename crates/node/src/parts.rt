@@ -8,7 +8,6 @@ ghost use Rattle.topic_stores.specs.declared.error.WriteError.TheVariants.{Devic
 ghost use Rattle.topic_stores.specs.Writing.{StandsFor};
 ghost use Rattle.topic_core.specs.Crashes.{IsLeft, ReopenStep};
 ghost use Rattle.topic_core.specs.Flush.{FlushStep, FinishStep};
-ghost use Rattle.topic_core.specs.Standing.{Match, resting};
 ghost use Rattle.node.specs.Flights.{stage_of};
 ghost use Rattle.node.specs.Numbers.{StaysNumbered};
 ghost use Rattle.node.specs.Parts.{TakesPart, FinishesPart};
@@ -21,21 +20,9 @@ use crate::flight::Flight;
 use crate::held::Held;
 use disk::Shelf;
 use gated_log::Refusal;
-use topic_core::{TopicCore, TopicStore, WriteError};
+use topic_core::{TopicStore, WriteError};
 
 impl<T: TopicStore> Held<T> {
-    /// A topic over its store, with no flush under way.
-    pub(crate) fn at_rest(core: TopicCore, stores: T) -> Held<T>
-        requires { Match (resting core.failed) core (T.view stores) }
-        ensures { (result.core ≡ core) × (result.stores ≡ stores) × (result.flight ≡ None) }
-    {
-        Held {
-            core,
-            stores,
-            flight: None,
-        }
-    }
-
     /// Commits what waits, in one call.
     pub(crate) fn flush<S: Shelf>(&mut self, shelf: &mut S) -> Result<usize, WriteError>
         ensures step { FlushStep self.old.core result self.new.core }

@@ -3,14 +3,12 @@ ghost use Rattle.std.specs.Prelude.{◌≡◌, length};
 use crate::topics::Topics;
 use commands::Reply;
 use disk::Shelf;
+use names::TopicName;
 use session::{Found, Port};
 use topic_core::{Answer, Outgoing, ReadError, TooManyPermits, TopicCommand, TopicStore};
 
-/// Where clients find the broker, for now: a node is driven by a replay alone.
-const SERVICE_URL: &str = "pulsar://replay";
-
 impl<T: TopicStore, S: Shelf> Port for Topics<T, S> {
-    ghost use Rattle.node.specs.Standing.{broker_of, TopicsStand, Passes, Refuses};
+    ghost use Rattle.node.specs.Standing.{broker_of, TopicsStand, Passes, Works, Fails, Refuses};
 
     ghost broker = { broker_of };
 
@@ -20,10 +18,14 @@ impl<T: TopicStore, S: Shelf> Port for Topics<T, S> {
 
     ghost passes = { Passes S.disk };
 
+    ghost works = { Works S.disk };
+
+    ghost fails = { Fails S.disk };
+
     ghost refuses = { Refuses S.disk };
 
     fn service_url(&self) -> &str {
-        SERVICE_URL
+        self.url.as_str()
     }
 
     fn topics(&self) -> u64 {
@@ -42,11 +44,12 @@ impl<T: TopicStore, S: Shelf> Port for Topics<T, S> {
             .has_consumer(who, consumer_id)
     }
 
-    fn find(&mut self, _name: &str) -> Found {
-        Found::Topic(0)
+    fn find(&mut self, name: &TopicName) -> Found {
+        self.find_or_make(name)
     }
 
     fn command(&mut self, topic: u64, who: u64, command: TopicCommand) -> Answer {
+        self.uses.mark(who, topic);
         self.held[topic as usize].command(who, command)
     }
 
@@ -69,26 +72,42 @@ impl<T: TopicStore, S: Shelf> Port for Topics<T, S> {
         self.held[topic as usize].dispatch(&mut self.shelf, who, consumer_id)
     }
 
+    fn next_due(&self, who: u64, from: u64) -> Option<u64> {
+        self.uses.next(who, from, self.count())
+    }
+
     fn collect(&mut self, topic: u64, who: u64) -> Option<Reply> {
         self.held[topic as usize].collect(who)
     }
 
     fn leave(&mut self, topic: u64, who: u64) {
-        self.held[topic as usize].leave(who)
+        self.held[topic as usize].leave(who);
+        self.uses.forget(who, topic);
     }
 
-    ghost use Rattle.std.proofs.Common.{sym, arith};
+    ghost use Rattle.std.proofs.Common.{sym};
     ghost use Rattle.node.specs.Passing.{passes_nothing, passes_both, refuses_within, count_is};
+    ghost use Rattle.node.specs.Growing.{passes_works, works_both, fails_within};
 
     ghost passes_nothing = { passes_nothing S.disk };
 
     ghost passes_both = { passes_both S.disk };
 
-    ghost passes_sole = { λ old new passes standing. (passes standing).standing };
+    ghost passes_sole = { λ old new passes standing. (passes.1 standing).standing };
+
+    ghost passes_works = { passes_works S.disk };
+
+    ghost works_both = { works_both S.disk };
+
+    ghost works_sole = { λ old new works standing. (works.1 standing).standing };
+
+    ghost works_count = { λ old new works. works.0 };
+
+    ghost fails_within = { fails_within S.disk };
 
     ghost refuses_within = { refuses_within S.disk };
 
-    ghost passes_count = { λ a b h. omega (arith, a.one, b.one) };
+    ghost passes_count = { λ old new passes. passes.0 };
 
     ghost counts_topics = { λ port s. sym (count_is port) };
 }

@@ -5,74 +5,74 @@ ghost use Rattle.disk.specs.Disk.{Same, Advances, Kept, Stays, Leaves};
 ghost use Rattle.disk.specs.Laid.{after_arm, after_crash};
 ghost use Rattle.gated_log.specs.declared.refusal.Refusal.TheVariants as refusal;
 ghost use Rattle.node.specs.State.{State};
-ghost use Rattle.node.specs.Standing.{AtRest, StandsForBroker};
-ghost use Rattle.node.specs.Cuts.{amid_event, amid};
-ghost use Rattle.node.specs.Driving.{Cut, Holds, IsServed, StatusOf, SegmentsTold, shelf_in, disk_in, StandsAmidst, Drove};
+ghost use Rattle.node.specs.Standing.{AtRest, StandsForBroker, StandsForSome};
+ghost use Rattle.node.specs.Cuts.{AmidEvent, AmidHappening};
+ghost use Rattle.node.specs.Driving.{Cut, Holds, StatusOf, SegmentsTold, shelf_in, disk_in, StandsAmidst, Drove};
 ghost use Rattle.node.specs.Runs.{Life, OpeningStep, HappeningStep};
 ghost use Rattle.node.specs.declared.event.Happening.TheVariants as happening;
 ghost use Rattle.node.specs.declared.event.Verdict.TheVariants as verdict;
 
 use crate::event::{Event, Happening, Output, Verdict};
 use crate::node::{Node, only};
+use crate::site::Site;
 use crate::status::TopicStatus;
 use disk::{CrashShelf, Fuse};
 use std::alloc::{AllocError, Global};
 use topic_core::TopicStore;
 
-/// A machine: its node where that works, or its device alone where the node is down.
+/// A machine: its node where that works, or its site alone where the node is down.
 #[derive(Drop)]
 pub enum Machine<T: TopicStore, S> {
     Up(Node<T, S>),
-    Down(S),
+    Down(Site<S>),
 }
 
 impl<T: TopicStore, S: CrashShelf + Drop> Machine<T, S> {
     /// The power comes, and the node is opened, which writes nothing. The output has no bytes.
-    pub fn start(alloc: Global, per_ledger: u32, shelf: S) -> (Machine<T, S>, Output)
-        requires numbered { 1 ≤ per_ledger }
-        ensures seen { (S.disk shelf).honest → result.1.result ≢ verdict.Refused refusal.Device →
-            Same (S.disk shelf).seen (disk_in S.disk result.0).seen }
-        ensures step { (old : State) → AtRest T.stands old (S.disk shelf) → IsServed per_ledger old →
-            (life : Life) × OpeningStep old result.1 life × Holds S.disk per_ledger result.0 life }
-        ensures any_moment { (old : State) → AtRest T.stands old (S.disk shelf) →
-            Leaves (StandsForBroker T.stands old.broker) (S.disk shelf) (disk_in S.disk result.0) }
+    pub fn start(alloc: Global, site: Site<S>) -> (Machine<T, S>, Output)
+        ensures seen { (S.disk site.shelf).honest → result.1.result ≢ verdict.Refused refusal.Device →
+            Same (S.disk site.shelf).seen (disk_in S.disk result.0).seen }
+        ensures step { (old : State) → AtRest T.stands old (S.disk site.shelf) → site.url ≡ old.broker.service_url →
+            (life : Life) × OpeningStep old result.1 life × Holds S.disk result.0 life }
+        ensures any_moment { (old : State) → AtRest T.stands old (S.disk site.shelf) →
+            Leaves (StandsForBroker T.stands old.broker) (S.disk site.shelf) (disk_in S.disk result.0) }
     {
-        match Node::open(alloc, per_ledger, shelf) {
+        match Node::open(alloc, site) {
             Ok(node) => (Machine::Up(node), only(alloc, Verdict::Done)),
-            Err((why, shelf)) => (Machine::Down(shelf), only(alloc, Verdict::Refused(why))),
+            Err((why, site)) => (Machine::Down(site), only(alloc, Verdict::Refused(why))),
         }
     }
 
-    /// The device alone, with what the node wrote.
-    pub fn into_shelf(self) -> S
-        ensures at_rest { (per_ledger : ℕ) (life : Life) → Holds S.disk per_ledger self life → AtRest T.stands life.state (S.disk result) }
-        ensures device { result ≡ shelf_in self }
+    /// The site alone, with what the node wrote.
+    pub fn into_site(self) -> Site<S>
+        ensures at_rest { (life : Life) → Holds S.disk self life → AtRest T.stands life.state (S.disk result.shelf) × (result.url ≡ life.state.broker.service_url) }
+        ensures device { result.shelf ≡ shelf_in self }
     {
         match self {
-            Machine::Up(node) => node.into_shelf(),
-            Machine::Down(shelf) => shelf,
+            Machine::Up(node) => node.into_site(),
+            Machine::Down(site) => site,
         }
     }
 
     /// The power is cut, in the form that was ordered last, and comes again.
-    pub fn crash(self, alloc: Global, per_ledger: u32) -> (Machine<T, S>, Output)
-        requires numbered { 1 ≤ per_ledger }
+    pub fn crash(self, alloc: Global) -> (Machine<T, S>, Output)
         ensures cut { Cut S.disk S.laid S.left_as (shelf_in self) result.1.result (shelf_in result.0) }
-        ensures step { (old : Life) → Holds S.disk per_ledger self old →
-            (new : Life) × HappeningStep old (happening.Crash) result.1 new × Holds S.disk per_ledger result.0 new }
-        ensures any_moment { (old : Life) → Holds S.disk per_ledger self old →
+        ensures step { (old : Life) → Holds S.disk self old →
+            (new : Life) × HappeningStep old (happening.Crash) result.1 new × Holds S.disk result.0 new }
+        ensures any_moment { (old : Life) → Holds S.disk self old →
             Leaves (StandsForBroker T.stands old.state.broker) (disk_in S.disk self) (disk_in S.disk result.0) }
     {
-        let shelf = cut_power(self.into_shelf());
-        Machine::start(alloc, per_ledger, shelf)
+        let Site { url, shelf } = self.into_site();
+        let shelf = cut_power(shelf);
+        Machine::start(alloc, Site { url, shelf })
     }
 
     /// Works an event. A node that is down knows no session and no topic.
     pub fn event(&mut self, alloc: Global, event: Event) -> Output
-        ensures step { (per_ledger : ℕ) (old : Life) → Holds S.disk per_ledger self.old old →
-            (new : Life) × HappeningStep old (happening.Event event) result new × Holds S.disk per_ledger self.new new }
-        ensures any_moment { (per_ledger : ℕ) (old : Life) → Holds S.disk per_ledger self.old old →
-            Leaves (StandsForBroker T.stands (amid_event old.up old.state.broker event)) (disk_in S.disk self.old) (disk_in S.disk self.new) }
+        ensures step { (old : Life) → Holds S.disk self.old old →
+            (new : Life) × HappeningStep old (happening.Event event) result new × Holds S.disk self.new new }
+        ensures any_moment { (old : Life) → Holds S.disk self.old old →
+            Leaves (StandsForSome T.stands (λ broker. AmidEvent old.up old.state.broker event broker)) (disk_in S.disk self.old) (disk_in S.disk self.new) }
     {
         match self {
             Machine::Up(node) => node.step(event),
@@ -86,18 +86,18 @@ impl<T: TopicStore, S: CrashShelf + Drop> Machine<T, S> {
         ensures refused { OnErr result (S.laid (shelf_in self.new) ≡ S.laid (shelf_in self.old)) }
         ensures same { (form : CrashForm) (after : S) → S.left_as form (shelf_in self.new) after → S.left_as form (shelf_in self.old) after }
         ensures stays { Stays (disk_in S.disk self.old) (disk_in S.disk self.new) }
-        ensures holds { (per_ledger : ℕ) (life : Life) → Holds S.disk per_ledger self.old life → Holds S.disk per_ledger self.new life }
+        ensures holds { (life : Life) → Holds S.disk self.old life → Holds S.disk self.new life }
     {
         match self {
             Machine::Up(node) => node.topics.shelf.arm(fuse),
-            Machine::Down(shelf) => shelf.arm(fuse),
+            Machine::Down(site) => site.shelf.arm(fuse),
         }
     }
 
     /// What the topic of a number has; none where there is no such topic, or the node is down. An error is want of memory.
     pub fn status(&self, topic: u64) -> Result<Option<TopicStatus>, AllocError>
-        ensures files { (per_ledger : ℕ) (life : Life) → Holds S.disk per_ledger self.now life → IfOk result (SegmentsTold S.disk T.laid self.now topic) }
-        ensures status { (per_ledger : ℕ) (life : Life) → Holds S.disk per_ledger self.now life → IfOk result (StatusOf life.up life.state topic) }
+        ensures files { (life : Life) → Holds S.disk self.now life → IfOk result (SegmentsTold S.disk T.laid self.now topic) }
+        ensures status { (life : Life) → Holds S.disk self.now life → IfOk result (StatusOf life.up life.state topic) }
     {
         match self {
             Machine::Up(node) => node.status(topic),
@@ -106,24 +106,18 @@ impl<T: TopicStore, S: CrashShelf + Drop> Machine<T, S> {
     }
 
     /// An event, or the power is cut and comes again.
-    fn happen(
-        mut self,
-        alloc: Global,
-        per_ledger: u32,
-        happening: Happening,
-    ) -> (Machine<T, S>, Output)
-        requires numbered { 1 ≤ per_ledger }
-        ensures step { (old : Life) → Holds S.disk per_ledger self old →
-            (new : Life) × HappeningStep old happening result.1 new × Holds S.disk per_ledger result.0 new }
-        ensures any_moment { (old : Life) → Holds S.disk per_ledger self old →
-            Leaves (StandsForBroker T.stands (amid old.up old.state.broker happening)) (disk_in S.disk self) (disk_in S.disk result.0) }
+    fn happen(mut self, alloc: Global, happening: Happening) -> (Machine<T, S>, Output)
+        ensures step { (old : Life) → Holds S.disk self old →
+            (new : Life) × HappeningStep old happening result.1 new × Holds S.disk result.0 new }
+        ensures any_moment { (old : Life) → Holds S.disk self old →
+            Leaves (StandsForSome T.stands (λ broker. AmidHappening old.up old.state.broker happening broker)) (disk_in S.disk self) (disk_in S.disk result.0) }
     {
         match happening {
             Happening::Event(event) => {
                 let output = self.event(alloc, event);
                 (self, output)
             }
-            Happening::Crash => self.crash(alloc, per_ledger),
+            Happening::Crash => self.crash(alloc),
         }
     }
 }
@@ -143,23 +137,21 @@ fn cut_power<S: CrashShelf>(mut shelf: S) -> S
 /// at any moment, within calls too, leaves what a crash leaves of a broker that a front of them reaches.
 pub fn drive<T: TopicStore, S: CrashShelf + Drop>(
     alloc: Global,
-    per_ledger: u32,
-    shelf: S,
+    site: Site<S>,
     happenings: Vec<Happening>,
     outputs: &mut Vec<Output>,
 ) -> Result<Machine<T, S>, AllocError>
-    requires numbered { 1 ≤ per_ledger }
-    ensures drove { (first : State) → AtRest T.stands first (S.disk shelf) → IsServed per_ledger first →
-        Drove S.disk per_ledger first happenings.items outputs.old.items result outputs.new.items }
-    ensures any_moment { (first : State) → AtRest T.stands first (S.disk shelf) → IsServed per_ledger first →
-        IfOk result (λ machine. Leaves (StandsAmidst T.stands first happenings.items) (S.disk shelf) (disk_in S.disk machine)) }
+    ensures drove { (first : State) → AtRest T.stands first (S.disk site.shelf) → site.url ≡ first.broker.service_url →
+        Drove S.disk first happenings.items outputs.old.items result outputs.new.items }
+    ensures any_moment { (first : State) → AtRest T.stands first (S.disk site.shelf) → site.url ≡ first.broker.service_url →
+        IfOk result (λ machine. Leaves (StandsAmidst T.stands first happenings.items) (S.disk site.shelf) (disk_in S.disk machine)) }
 {
     outputs.reserve(1)?;
-    let (mut machine, output) = Machine::start(alloc, per_ledger, shelf);
+    let (mut machine, output) = Machine::start(alloc, site);
     outputs.push(output).unwrap();
     for happening in happenings {
         outputs.reserve(1)?;
-        let (next, output) = machine.happen(alloc, per_ledger, happening);
+        let (next, output) = machine.happen(alloc, happening);
         machine = next;
         outputs.push(output).unwrap();
     }

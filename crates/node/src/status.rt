@@ -8,6 +8,7 @@ ghost use Rattle.node.specs.State.{place_in};
 use crate::held::Held;
 use crate::node::Node;
 use disk::Shelf;
+use names::TopicName;
 use std::alloc::AllocError;
 use subscriptions::SubscriptionStatus;
 use topic_core::TopicStore;
@@ -16,6 +17,7 @@ use topic_core::TopicStore;
 #[derive(Drop)]
 pub struct TopicStatus {
     pub number: u64,
+    pub name: TopicName,
     /// How many entries are committed.
     pub entries: u64,
     /// How many segment files its entries are in, as the store remembers them.
@@ -25,15 +27,17 @@ pub struct TopicStatus {
 }
 
 impl<T: TopicStore> Held<T> {
-    /// What the topic, which has this number, tells. An error is want of memory.
-    fn status(&self, number: u64) -> Result<TopicStatus, AllocError>
+    /// What the topic, which has this number and this name, tells. An error is want of memory.
+    fn status(&self, number: u64, name: TopicName) -> Result<TopicStatus, AllocError>
         ensures number { IfOk result (λ status. status.number ≡ number) }
+        ensures name { IfOk result (λ status. status.name ≡ name) }
         ensures entries { IfOk result (λ status. status.entries ≡ self.now.core.committed) }
         ensures segments { IfOk result (λ status. status.segments ≡ length (T.view self.now.stores).counts) }
         ensures subscriptions { IfOk result (λ status. AreStatuses self.now.core.subs.subs status.subscriptions.items) }
     {
         Ok(TopicStatus {
             number,
+            name,
             entries: self.core.committed(),
             segments: self.stores.segments(),
             subscriptions: self.core.statuses()?,
@@ -50,7 +54,10 @@ impl<T: TopicStore, S: Shelf> Node<T, S> {
         if topic >= self.topics.count() {
             return Ok(None);
         }
-        let status = self.topics.held[topic as usize].status(topic)?;
+        let Some(name) = self.topics.catalog.name(topic as u16) else {
+            unreachable!();
+        };
+        let status = self.topics.held[topic as usize].status(topic, name.clone()?)?;
         Ok(Some(status))
     }
 }

@@ -2,13 +2,17 @@
 use disk::{CursorSlot, FileId, Fuse, Shelf};
 use disk_mem::MemShelf;
 use node::{
-    Event, Fault, Happening, Machine, Node, Octets, Output, Refusal, Verdict, drive, lives_account,
-    lives_unfold, messages_are_admitted, moves_publish, receipts_are_covered, receipts_are_found,
-    runs_unfold, stays_sound, words_are_kept,
+    EntriesPerLedger, Event, Fault, Happening, Machine, Node, Octets, Output, Refusal, ReplyText,
+    Site, Verdict, drive, lives_account, lives_unfold, messages_are_admitted, moves_publish,
+    openings_have_one_fault, receipts_are_covered, receipts_are_found, runs_unfold, stays_sound,
+    words_are_kept,
 };
 use std::alloc::{AllocError, Global};
 use std::test::Fail;
 use topic_core::FileStores;
+
+mod exchanges;
+mod stops;
 
 /// A node and a machine whose device is in memory.
 type MemNode = Node<FileStores, MemShelf>;
@@ -52,31 +56,50 @@ fn octets(alloc: Global, bytes: &[u8]) -> Result<Octets, AllocError> {
     Ok(Octets::from(bytes.to_vec(alloc)?))
 }
 
-/// A device with the files of a new topic, which were once long, so that it takes no more memory for their bytes.
-fn made(alloc: Global) -> Result<MemShelf, Fail> {
+/// The files of a node of two topics.
+const FILES: [FileId; 7] = [
+    FileId::Catalog,
+    FileId::Segment {
+        topic: 0,
+        number: 0,
+    },
+    FileId::Slot {
+        topic: 0,
+        slot: CursorSlot::Zero,
+    },
+    FileId::Slot {
+        topic: 0,
+        slot: CursorSlot::One,
+    },
+    FileId::Segment {
+        topic: 1,
+        number: 0,
+    },
+    FileId::Slot {
+        topic: 1,
+        slot: CursorSlot::Zero,
+    },
+    FileId::Slot {
+        topic: 1,
+        slot: CursorSlot::One,
+    },
+];
+
+/// The site of a new node, whose files were once long, so that its device takes no more memory for their bytes.
+fn made(alloc: Global) -> Result<Site<MemShelf>, Fail> {
     let mut shelf = MemShelf::new(alloc);
-    let files = [
-        FileId::Segment {
-            topic: 0,
-            number: 0,
-        },
-        FileId::Slot {
-            topic: 0,
-            slot: CursorSlot::Zero,
-        },
-        FileId::Slot {
-            topic: 0,
-            slot: CursorSlot::One,
-        },
-    ];
-    for file in files {
+    for file in FILES {
         shelf.write_at(file, 0, &[b'-'; 512])?;
         shelf.sync(file)?;
         shelf.cut(file, 0)?;
         shelf.sync(file)?;
     }
-    MemNode::init(alloc, 1_000, &mut shelf)?;
-    Ok(shelf)
+    let Some(entries_per_ledger) = EntriesPerLedger::new(1_000) else {
+        return Err(Fail::new("a ledger may have a thousand entries"));
+    };
+    MemNode::init(alloc, entries_per_ledger, &mut shelf)?;
+    let url = ReplyText::new(String::from_str(alloc, "pulsar://test")?);
+    Ok(Site { url, shelf })
 }
 
 /// An output other than want of memory.
@@ -106,7 +129,10 @@ fn are(outputs: Vec<Output>, expected: &[(&[u8], Verdict)]) -> Result<bool, Refu
 #[test]
 fn open_never_has_memory(rt: HostRuntime) -> Result<(), Fail> {
     let mut node = opened(rt.alloc())?;
-    assert_eq!(rt; worked(node.step(Event::Flush(0)))?.result, Verdict::Done);
+    assert_eq!(rt;
+        worked(node.step(Event::Flush(0)))?.result,
+        Verdict::Unknown
+    );
     Ok(())
 }
 
@@ -134,9 +160,9 @@ fn connecting(alloc: Global) -> Result<Vec<Event>, AllocError> {
     Ok(events)
 }
 
-/// A node over the files of a new topic.
+/// A node without topics.
 fn opened(alloc: Global) -> Result<MemNode, Fail> {
-    match Node::open(alloc, 1_000, made(alloc)?) {
+    match Node::open(alloc, made(alloc)?) {
         Ok(node) => Ok(node),
         Err((refusal, _)) => Err(Fail::from(refusal)),
     }
@@ -185,13 +211,13 @@ fn driven(
     happenings: Vec<Happening>,
     outputs: &mut Vec<Output>,
 ) -> Result<MemMachine, Fail> {
-    let shelf = made(alloc)?;
-    Ok(drive(alloc, 1_000, shelf, happenings, outputs)?)
+    let site = made(alloc)?;
+    Ok(drive(alloc, site, happenings, outputs)?)
 }
 
 /// The machine behind a crash, and what its opening answered.
 fn crashed(alloc: Global, machine: MemMachine) -> (MemMachine, Output) {
-    machine.crash(alloc, 1_000)
+    machine.crash(alloc)
 }
 
 /// How many entries the topic has, where the node is up.
@@ -247,10 +273,10 @@ fn finds_the_entry(alloc: Global, machine: MemMachine) -> Result<bool, Fail> {
     Ok(worked(output)?.result == Verdict::Done && entries(&machine)? == Some(1))
 }
 
-// Each read of an opening fails in turn: of the heads of three files, and of the gates and the entry behind them.
+// Each read of an opening fails in turn: of the heads of four files, and of the gates, the name and the entry behind them.
 #[test]
 fn a_failing_read_refuses_an_opening(rt: HostRuntime) -> Result<(), Fail> {
-    for read in 1..=7u64 {
+    for read in 1..=11u64 {
         let mut machine = with_an_entry(rt.alloc())?;
         machine.arm(Fuse::FailRead(read))?;
         let machine = refused(rt.alloc(), machine)?;

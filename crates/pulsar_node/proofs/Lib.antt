@@ -1,2 +1,3 @@
 pub mod Written
 pub mod Worked
+pub mod Told

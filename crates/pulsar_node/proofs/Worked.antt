@@ -1,5 +1,5 @@
 -- Lines that were worked, and one more.
-use Rattle.std.proofs.Common.{◌≡◌, ℕ, suc, ◌+◌, Bool, true, false, List, [], ◌∷◌, ◌++◌, length, take, Option, Some, None, Result, Ok, Err, refl, sym, ap, ◌∙◌, subst, append_assoc, append-nil, inl, inr, ⊎_elim, arith}
+use Rattle.std.proofs.Common.{◌≡◌, ℕ, suc, ◌+◌, true, false, List, [], ◌∷◌, ◌++◌, length, take, Option, Some, None, Result, Ok, Err, refl, sym, ap, ◌∙◌, subst, append_assoc, append-nil, inl, inr, ⊎_elim, arith}
 use Rattle.std.specs.Io.KnownBytes.{Appends, Keeps}
 use Rattle.std.proofs.KnownBytes.{Appends-trans, Appends-kept, Keeps-refl}
 use Rattle.std.proofs.Math.Seq.{take-append_seam}
@@ -11,17 +11,13 @@ use Rattle.disk.specs.declared.crash_shelf.Fuse.{Fuse}
 use Rattle.disk.specs.Laid.{after_arm}
 use Rattle.disk_mem.specs.declared.shelf.MemShelf.{MemShelf}
 use Rattle.disk_mem.specs.Device.{laid, LeftAs}
-use Rattle.session.specs.Broker.{Broker}
-use Rattle.node.specs.State.{State, place_in}
-use Rattle.node.specs.Driving as node
-use Rattle.node.specs.declared.status.TopicStatus.{TopicStatus}
 use Rattle.script.specs.declared.line.Line.{Line}
 use Rattle.script.specs.declared.script.Script.{Script}
 use Rattle.script.specs.Script.{IsScript}
 use Rattle.pulsar_node.specs.declared.event.Task.{Task}
 use Rattle.pulsar_node.specs.declared.fault.ProgramFault.{ProgramFault}
 use Rattle.pulsar_node.specs.declared.fault.ProgramFault.TheVariants.{Device, NoMemory, ScriptLine}
-use Rattle.pulsar_node.specs.Replay.{status_lines, Moment, Armed, IfRemembered, TaskStep, WorksTask, Begun, StatusOf, Tells, LineStep, Prints, Begins, Plays, IsFront, Writes, WorksFront, WorksLines, Replays, ReplaysAll, ReplaysFront, IsAllOf, IsOutage}
+use Rattle.pulsar_node.specs.Replay.{Moment, Armed, IfRemembered, TaskStep, WorksTask, Begun, LineStep, Prints, Begins, Plays, IsFront, Writes, WorksFront, WorksLines, Replays, ReplaysAll, ReplaysFront, IsAllOf, IsOutage}
 
 -- one line more
 pub Prints-more : (number : ℕ) (old : Moment) (lines : List Line) (text : List ℕ) (mid : Moment) (line : Line) (more : List ℕ) (new : Moment)
@@ -129,37 +125,6 @@ module _ (old : Moment) (before device : MemShelf) (is : old.device ≡ before) 
 
   pub lays_none : laid device ≡ laid before → Armed (laid old.device) old with_device
   lays_none now = record { life = refl; files = files_before; laid = now ∙ ap (λ (d : MemShelf). laid d) (sym is) }
-
--- what a status tells of a machine, as lines
-abbrev pub lines_of : TopicStatus → List ℕ
-lines_of status = status_lines status.number status.entries status.segments status.subscriptions.items
-
--- where topic 0 is there
-module _ (state : State) (at : place_in state.broker.topics 0 ≡ Some 0) where
-  told_lines : (up : Bool) (status : TopicStatus) → node.StatusOf up state 0 (Some status) → StatusOf up state (lines_of status)
-  told_lines true status told =
-      let h : node.StatusIn (Some 0) state (Some status) = subst (λ (o : Option ℕ). node.StatusIn o state (Some status)) at told in (
-        status.segments,
-        status.subscriptions.items,
-        h.2,
-        (λ i. status_lines (h.0 i) (h.1 i) status.segments status.subscriptions.items),
-      )
-  told_lines false status told = absurd (let no : ⊥ = cc in no)
-
-  no_lines : (up : Bool) → node.StatusOf up state 0 None → StatusOf up state []
-  no_lines true told = let h : node.StatusIn (Some 0) state None = subst (λ (o : Option ℕ). node.StatusIn o state None) at told in absurd h
-  no_lines false told = refl
-
--- a node that is served has topic 0
-pub topic_there : (per_ledger : ℕ) (state : State) → node.IsServed per_ledger state → place_in state.broker.topics 0 ≡ Some 0
-topic_there per_ledger state served = ap (λ (b : Broker). place_in b.topics 0) served.broker
-
-pub tells : (old : Moment) (status : TopicStatus) → place_in old.life.state.broker.topics 0 ≡ Some 0 → node.StatusOf old.life.up old.life.state 0 (Some status) → Tells old (lines_of status) old
-tells old status at told = record { same = refl; printed = told_lines old.life.state at old.life.up status told }
-
-pub tells_nothing : (old : Moment) (told : Option TopicStatus) → told ≡ None → place_in old.life.state.broker.topics 0 ≡ Some 0 → node.StatusOf old.life.up old.life.state 0 told → Tells old [] old
-tells_nothing old told none at is =
-    record { same = refl; printed = no_lines old.life.state at old.life.up (subst (λ (o : Option TopicStatus). node.StatusOf old.life.up old.life.state 0 o) none is) }
 
 -- the lines that were worked, the next one and the others are the whole
 pub next_of_whole : (yielded rest after lines : List Line) (line : Line) → yielded ++ rest ≡ lines → rest ≡ line ∷ after → (yielded ++ line ∷ []) ++ after ≡ lines

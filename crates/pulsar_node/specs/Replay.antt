@@ -1,5 +1,5 @@
 -- What a replay reads and writes.
-use Rattle.std.specs.Prelude.{◌≡◌, ℕ, ◌+◌, Bool, true, false, List, [], ◌∷◌, ◌++◌, length, take, codes, ◌⊎◌, Option, Some, None, Result, Ok, Err, IfOk}
+use Rattle.std.specs.Prelude.{◌≡◌, ℕ, ◌+◌, Bool, true, false, List, [], ◌∷◌, ◌++◌, length, take, slice_get, codes, ◌⊎◌, Option, Some, None, Result, Ok, Err, IfOk}
 use Rattle.std.specs.List.{flat_map}
 use Rattle.std.specs.Io.KnownBytes.{Appends, Keeps}
 use Rattle.disk.specs.declared.crash_shelf.CrashForm.{CrashForm}
@@ -8,12 +8,11 @@ use Rattle.disk.specs.declared.crash_shelf.Fuse.TheVariants as fuse
 use Rattle.disk.specs.Laid.{Laid, after_arm}
 use Rattle.disk_mem.specs.declared.shelf.MemShelf.{MemShelf}
 use Rattle.disk_mem.specs.Device.{disk_of, laid, LeftAs}
-use Rattle.subscriptions.specs.Statuses.{AreStatuses}
 use Rattle.subscriptions.specs.declared.status.SubscriptionStatus.{SubscriptionStatus}
-use Rattle.session.specs.Broker.{topic_at}
 use Rattle.node.specs.State.{State, fresh_broker}
 use Rattle.node.specs.Runs.{Life, OpeningStep, HappeningStep}
-use Rattle.node.specs.Driving.{Cut}
+use Rattle.node.specs.Driving.{Cut, StatusIn}
+use Rattle.node.specs.declared.status.TopicStatus.{TopicStatus}
 use Rattle.node.specs.declared.event.Output.{Output}
 use Rattle.node.specs.declared.event.Event.{Event}
 use Rattle.node.specs.declared.event.Happening.TheVariants as happening
@@ -70,16 +69,23 @@ Cuts number old form text new =
     ⊎ (Armed (laid old.device) old new × (text ≡ output_line number [] (Refused refusal.NoMemory)))
 
 -- the status line of a topic, and behind it those of its subscriptions
-abbrev pub status_lines : ℕ → ℕ → ℕ → List SubscriptionStatus → List ℕ
-status_lines number entries segments statuses =
-    topic_line number entries segments (codes "persistent://a/b/c")
+abbrev pub status_lines : ℕ → List ℕ → ℕ → ℕ → List SubscriptionStatus → List ℕ
+status_lines number name entries segments statuses =
+    topic_line number entries segments name
     ++ flat_map (λ status. subscription_line number status.mark_delete status.ranges status.name) statuses
 
--- the status lines of the topic, with the entries of its ledger, and of its subscriptions; a node that is down has none
+-- those of what is told of a topic
+abbrev pub lines_of : TopicStatus → List ℕ
+lines_of topic = status_lines topic.number topic.name topic.entries topic.segments topic.subscriptions.items
+
+-- what is told of the topics: one status for each, in the order of their numbers
+pub record AreTold (state : State) (told : List TopicStatus) : Type 0 where
+  pub all : length told ≡ length state.broker.topics
+  pub each : (number : ℕ) (status : TopicStatus) → slice_get told number ≡ Some status → StatusIn (Some number) state (Some status)
+
+-- the status lines of each topic, one after another; a node that is down has none
 abbrev pub StatusOf : Bool → State → List ℕ → Type 0
-StatusOf true state text =
-    (segments : ℕ) × (statuses : List SubscriptionStatus) × AreStatuses (topic_at state.broker 0).subs.subs statuses
-    × (text ≡ status_lines 0 (length (topic_at state.broker 0).ledger) segments statuses)
+StatusOf true state text = (told : List TopicStatus) × AreTold state told × (text ≡ flat_map lines_of told)
 StatusOf false state text = text ≡ []
 
 pub record Tells (old : Moment) (text : List ℕ) (new : Moment) : Type 0 where
@@ -102,10 +108,11 @@ Prints number old [] text new = (text ≡ []) × (new ≡ old)
 Prints number old (line ∷ lines) text new =
     (first : List ℕ) × (rest : List ℕ) × (between : Moment) × LineStep number old line first between × Prints (number + 1) between lines rest new × (text ≡ first ++ rest)
 
--- A script is begun: the files of a new topic are made, and a node is opened over them.
+-- A script is begun: the files of a broker without topics are made, which clients find by the URL of replays, and a node is opened
+-- over them.
 pub record Begins (per_ledger : ℕ) (text : List ℕ) (new : Moment) : Type 0 where
   pub made : State
-  pub broker : made.broker ≡ fresh_broker per_ledger
+  pub broker : made.broker ≡ fresh_broker per_ledger (codes "pulsar://replay")
   pub output : Output
   pub opening : OpeningStep made output new.life
   pub printed : text ≡ printed_output 1 output

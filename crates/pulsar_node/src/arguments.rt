@@ -29,12 +29,14 @@ const REPLAY: &str = "Runs a script of events over a broker in memory.
 The script is read whole before its first line is worked. Its lines are words one space apart,
 with numbers in decimal and bytes in hex:
 
-  init N          a broker with N entries a ledger, 1 to 50000; first, and only there
+  init N          a broker with N entries a ledger, 1 to 50000: an empty catalog of topics is
+                  written; first, and only there
   open            opens the next session; sessions are numbered from 0
   bytes S HEX     session S receives these bytes
   pump S          session S collects its replies and messages
   close S         session S ends
-  flush T         topic T commits what waits; topics are numbered from 0
+  flush T         topic T commits what waits; topics are numbered from 0 in the order in which
+                  they were made
   take T          a flush of topic T begins that comes in parts: a batch is taken of what waits
   write T         the batch that was taken is written
   finish T        that flush ends as its write did
@@ -44,14 +46,15 @@ with numbers in decimal and bytes in hex:
                   sync left; `crash new`: what reads gave; `crash fill HH`: this byte
                   wherever a byte may be anything
   reopen T        topic T's files are opened again, after a failure
-  status          prints a line for each topic and each of its subscriptions
+  status          prints a line for each topic, in the order of their numbers, and behind it one
+                  for each of its subscriptions; none where the node is down
 
-For each line one line is printed: its number, the bytes out in hex or `-`, and the result: `ok`,
-`F1` to `F9` for a fault that ended the session, `S1` to `S6` for a refusal of the stores (`S1` a
-failed device, `S2` a damaged file, `S5` want of memory), `full`, or `none` for a session, topic
-or batch that isn't there. A status line of a topic is `T`, its number, its entries, its segment files and
-its name; one of a subscription is `S`, its topic's number, its mark-delete position, how many
-ranges it acknowledged behind that, and its name.";
+For each line but `status` one line is printed: its number, the bytes out in hex or `-`, and the
+result: `ok`, `F1` to `F9` for a fault that ended the session, `S1` to `S6` for a refusal of the
+stores (`S1` a failed device, `S2` a damaged file, `S5` want of memory), `full`, or `none` for a
+session, topic or batch that isn't there. A status line of a topic is `T`, its number, its entries,
+its segment files and its name; one of a subscription is `S`, its topic's number, its mark-delete
+position, how many ranges it acknowledged behind that, and its name.";
 
 /// The file of the script, or none for the standard input.
 pub(crate) fn script_file<'a>(matches: &ArgMatches<'a>) -> Option<&'a str>

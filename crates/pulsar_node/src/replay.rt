@@ -11,7 +11,7 @@ use std::alloc::Global;
 
 /// Runs the script that the source holds over a machine whose device is in memory, and writes a line for each of its lines. Where the
 /// source's or the sink's bytes aren't known, the contract speaks of some bytes. A device fault is told of a source or a
-/// sink that can fail, and where the files of the new topic can't be made; of a source and of the files before anything is
+/// sink that can fail, and where the files of the new broker can't be made; of a source and of the files before anything is
 /// written.
 pub fn replay<R: Source, W: Sink>(
     alloc: Global,
@@ -26,7 +26,7 @@ pub fn replay<R: Source, W: Sink>(
     replay_script(alloc, bytes.as_slice(), sink)
 }
 
-/// The same from memory to memory: a device fault is told only where the files of the new topic can't be made, and then nothing was
+/// The same from memory to memory: a device fault is told only where the files of the new broker can't be made, and then nothing was
 /// written.
 pub fn replay_in_memory(
     alloc: Global,

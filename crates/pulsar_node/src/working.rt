@@ -1,22 +1,26 @@
 // A replay under way: the machine that it works the lines of a script on.
 ghost use Rattle.std.specs.Prelude.{◌≡◌, ◌⊎◌, ◌+◌, ◌<◌, ◌≤◌, ◌^◌, [], IfOk, string_bytes};
+ghost use Rattle.catalog.specs.Names.{IsPerLedger};
 ghost use Rattle.node.specs.Driving.{shelf_in, Holds};
+ghost use Rattle.node.specs.Runs.{Life};
 ghost use Rattle.script.specs.Output.{output_line as line_of_output};
 ghost use Rattle.pulsar_node.specs.declared.event.Task.TheVariants as task;
 ghost use Rattle.pulsar_node.specs.Cause.{DeviceOnlyIf, NewDeviceFailed};
 ghost use Rattle.pulsar_node.specs.Event.{task_of};
-ghost use Rattle.pulsar_node.specs.Replay.{printed_output, status_lines as lines_of_status, Moment, Begun, WorksTask, WorksLines, Writes};
+ghost use Rattle.pulsar_node.specs.Replay.{printed_output, lines_of, StatusOf, Moment, Begun, WorksTask, WorksLines, Writes};
 
 use crate::event::{Task, outcome_of, task_of};
 use crate::fault::ProgramFault;
 use crate::sink::Sink;
 use disk::{CrashForm, Fuse, Shelf};
 use disk_mem::MemShelf;
-use node::{Event, Machine, Node, Output, TopicStatus};
+use node::{EntriesPerLedger, Event, Machine, Node, Output, ReplyText, Site, TopicStatus};
 use script::{Line, Outcome, StorageRefusal, output_line, subscription_line, topic_line};
-use session::SERVED_TOPIC;
 use std::alloc::{AllocError, Global};
 use topic_core::FileStores;
+
+/// By which clients find a replay's broker.
+const SERVICE_URL: &str = "pulsar://replay";
 
 /// A broker whose device is in memory.
 type Broker = Machine<FileStores, MemShelf>;
@@ -25,7 +29,6 @@ type Broker = Machine<FileStores, MemShelf>;
 #[derive(Drop)]
 pub(crate) struct Replay {
     alloc: Global,
-    per_ledger: u32,
     machine: Broker,
     /// Of the last line that was worked.
     line: u64,
@@ -37,29 +40,31 @@ trait Living {
 }
 
 impl Living for Replay {
-    ghost lives = { λ replay moment. (moment.device ≡ shelf_in replay.machine) × Holds (⟦<MemShelf as Shelf>⟧.disk) replay.per_ledger replay.machine moment.life };
+    ghost lives = { λ replay moment. (moment.device ≡ shelf_in replay.machine) × Holds (⟦<MemShelf as Shelf>⟧.disk) replay.machine moment.life };
 }
 
 impl Replay {
-    /// Makes the files of a new topic, opens a node over them, and writes the line of this.
+    /// Makes the files of a broker without topics, opens a node over them, and writes the line of this.
     pub(crate) fn begin<W: Sink>(
         alloc: Global,
         per_ledger: u32,
         sink: &mut W,
     ) -> Result<Replay, ProgramFault>
-        requires numbered { 1 ≤ per_ledger }
+        requires ledgers { IsPerLedger per_ledger }
         ensures begun { Begun (⟦<Replay as Living>⟧.lives) per_ledger (W.contents sink.old) (W.contents sink.new) result }
         ensures line { IfOk result (λ replay. replay.line ≡ 1) }
-        ensures numbered { IfOk result (λ replay. 1 ≤ replay.per_ledger) }
         ensures cause { DeviceOnlyIf ((NewDeviceFailed × (sink.new ≡ sink.old)) ⊎ W.can_fail) result }
     {
+        let Some(per_ledger) = EntriesPerLedger::new(per_ledger) else {
+            unreachable!();
+        };
+        let url = ReplyText::new(String::from_str(alloc, SERVICE_URL)?);
         let mut shelf = MemShelf::new(alloc);
         Node::<FileStores, MemShelf>::init(alloc, per_ledger, &mut shelf)?;
-        let (machine, output) = Machine::start(alloc, per_ledger, shelf);
+        let (machine, output) = Machine::start(alloc, Site { url, shelf });
         write_output(alloc, 1, &output, sink)?;
         Ok(Replay {
             alloc,
-            per_ledger,
             machine,
             line: 1,
         })
@@ -72,7 +77,6 @@ impl Replay {
         sink: &mut W,
     ) -> Result<(), ProgramFault>
         requires line { self.line ≡ 1 }
-        requires numbered { 1 ≤ self.per_ledger }
         ensures works { (old : Moment) → ⟦<Replay as Living>⟧.lives self old → WorksLines 2 old lines.items (W.contents sink.old) (W.contents sink.new) result }
         ensures cause { DeviceOnlyIf W.can_fail result }
     {
@@ -85,10 +89,8 @@ impl Replay {
     // Works one line more.
     fn work_line<W: Sink>(mut self, line: Line, sink: &mut W) -> Result<Replay, ProgramFault>
         requires line { self.line + 1 < 2 ^ 64 }
-        requires numbered { 1 ≤ self.per_ledger }
         ensures works { (old : Moment) → ⟦<Replay as Living>⟧.lives self old → WorksTask (⟦<Replay as Living>⟧.lives) (self.line + 1) old (task_of line) (W.contents sink.old) (W.contents sink.new) result }
         ensures line { IfOk result (λ replay. replay.line ≡ self.line + 1) }
-        ensures per_ledger { IfOk result (λ replay. replay.per_ledger ≡ self.per_ledger) }
         ensures cause { DeviceOnlyIf W.can_fail result }
     {
         self.line += 1;
@@ -103,7 +105,6 @@ impl Replay {
     fn event<W: Sink>(mut self, event: Event, sink: &mut W) -> Result<Replay, ProgramFault>
         ensures works { (old : Moment) → ⟦<Replay as Living>⟧.lives self old → WorksTask (⟦<Replay as Living>⟧.lives) self.line old (task.Event event) (W.contents sink.old) (W.contents sink.new) result }
         ensures line { IfOk result (λ replay. replay.line ≡ self.line) }
-        ensures per_ledger { IfOk result (λ replay. replay.per_ledger ≡ self.per_ledger) }
         ensures cause { DeviceOnlyIf W.can_fail result }
     {
         let output = self.machine.event(self.alloc, event);
@@ -113,7 +114,6 @@ impl Replay {
     fn arm<W: Sink>(mut self, fuse: Fuse, sink: &mut W) -> Result<Replay, ProgramFault>
         ensures works { (old : Moment) → ⟦<Replay as Living>⟧.lives self old → WorksTask (⟦<Replay as Living>⟧.lives) self.line old (task.Arm fuse) (W.contents sink.old) (W.contents sink.new) result }
         ensures line { IfOk result (λ replay. replay.line ≡ self.line) }
-        ensures per_ledger { IfOk result (λ replay. replay.per_ledger ≡ self.per_ledger) }
         ensures cause { DeviceOnlyIf W.can_fail result }
     {
         if self.machine.arm(fuse).is_err() {
@@ -123,16 +123,14 @@ impl Replay {
     }
 
     fn crash<W: Sink>(mut self, form: CrashForm, sink: &mut W) -> Result<Replay, ProgramFault>
-        requires numbered { 1 ≤ self.per_ledger }
         ensures works { (old : Moment) → ⟦<Replay as Living>⟧.lives self old → WorksTask (⟦<Replay as Living>⟧.lives) self.line old (task.Crash form) (W.contents sink.old) (W.contents sink.new) result }
         ensures line { IfOk result (λ replay. replay.line ≡ self.line) }
-        ensures per_ledger { IfOk result (λ replay. replay.per_ledger ≡ self.per_ledger) }
         ensures cause { DeviceOnlyIf W.can_fail result }
     {
         if self.machine.arm(Fuse::CrashAs(form)).is_err() {
             return self.tell(Outcome::Refused(StorageRefusal::NoMemory), sink);
         }
-        let (machine, output) = self.machine.crash(self.alloc, self.per_ledger);
+        let (machine, output) = self.machine.crash(self.alloc);
         self.machine = machine;
         self.print(&output, sink)
     }
@@ -140,15 +138,25 @@ impl Replay {
     fn status<W: Sink>(self, sink: &mut W) -> Result<Replay, ProgramFault>
         ensures works { (old : Moment) → ⟦<Replay as Living>⟧.lives self old → WorksTask (⟦<Replay as Living>⟧.lives) self.line old task.Status (W.contents sink.old) (W.contents sink.new) result }
         ensures line { IfOk result (λ replay. replay.line ≡ self.line) }
-        ensures per_ledger { IfOk result (λ replay. replay.per_ledger ≡ self.per_ledger) }
         ensures cause { DeviceOnlyIf W.can_fail result }
     {
-        let Some(status) = self.machine.status(0)? else {
-            return Ok(self);
-        };
-        let text = status_text(self.alloc, &status)?;
+        let text = self.topics_text()?;
         sink.write_whole(text.as_bytes())?;
         Ok(self)
+    }
+
+    // The lines of all topics, in the order of their numbers; none where the node is down. An error is want of memory.
+    fn topics_text(&self) -> Result<String, AllocError>
+        ensures { (life : Life) → Holds (⟦<MemShelf as Shelf>⟧.disk) self.now.machine life → IfOk result (λ text. StatusOf life.up life.state (string_bytes text)) }
+    {
+        let mut text = String::new(self.alloc);
+        let mut topic = 0;
+        while let Some(status) = self.machine.status(topic)? {
+            let lines = status_text(self.alloc, &status)?;
+            text.push_str(lines.as_str())?;
+            topic += 1;
+        }
+        Ok(text)
     }
 
     // Writes the line of an output, and goes on.
@@ -174,14 +182,14 @@ impl Replay {
 
 // The line of a topic, and behind it those of its subscriptions.
 fn status_text(alloc: Global, status: &TopicStatus) -> Result<String, AllocError>
-    ensures { IfOk result (λ text. string_bytes text ≡ lines_of_status status.now.number status.now.entries status.now.segments status.now.subscriptions.items) }
+    ensures { IfOk result (λ text. string_bytes text ≡ lines_of status.now) }
 {
     let mut text = topic_line(
         alloc,
         status.number,
         status.entries,
         status.segments,
-        SERVED_TOPIC,
+        status.name.as_str(),
     )?;
     for subscription in &status.subscriptions {
         let line = subscription_line(

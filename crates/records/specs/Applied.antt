@@ -7,7 +7,8 @@ use Rattle.std.specs.Str.{IsUtf8, IsAscii}
 use Rattle.std.specs.List.{list_all, All}
 use Rattle.records.specs.declared.record.Record.{Record}
 use Rattle.records.specs.declared.record.Record.TheVariants.{Made, Removed, Acknowledged, AcknowledgedThrough, AcknowledgedRange}
-use Rattle.records.specs.Names.{is_name_byte, is_subscription_name}
+use Rattle.names.specs.Names.{is_name_byte}
+use Rattle.records.specs.Names.{is_subscription_name}
 use Rattle.records.specs.Maps.{Kept}
 use Rattle.records.specs.Records.{name_of, IsPlaced, IsFormed, AreFormed, HasPositions, after, after_all}
 

@@ -4,7 +4,7 @@ use Rattle.std.specs.List.{list_any}
 use Rattle.std.specs.Ordering.{nat_cmp, eq_by_cmp}
 use Rattle.std.specs.Cmp.Lexicographic.{slice_cmp}
 use Rattle.std.specs.FinMap as map
-use Rattle.records.specs.declared.names.Names.{Names}
+use Rattle.records.specs.declared.name_set.Names.{Names}
 use Rattle.records.specs.Maps.{Kept}
 
 abbrev pub texts : Names → List (List ℕ)

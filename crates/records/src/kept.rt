@@ -14,7 +14,7 @@ ghost use Rattle.records.specs.Records.{IsFormed, AreFormed, HasPositions, after
 
 use crate::kept_cursor::KeptCursor;
 use crate::name::{Name, is_subscription_name};
-use crate::names::{MOST_SUBSCRIPTIONS, Names, name_of};
+use crate::name_set::{MOST_SUBSCRIPTIONS, Names, name_of};
 use crate::record::Record;
 use cursor::Cursor;
 use std::alloc::{AllocError, Global};

@@ -6,7 +6,7 @@
 mod kept;
 mod kept_cursor;
 mod name;
-mod names;
+mod name_set;
 mod read;
 mod record;
 mod write;

@@ -1,13 +1,10 @@
 // Names of subscriptions.
 ghost use Rattle.std.specs.Prelude.{◌≡◌};
-ghost use Rattle.std.specs.List.{list_all};
-ghost use Rattle.records.specs.Names.{is_name_byte, is_subscription_name};
+ghost use Rattle.records.specs.Names.{is_subscription_name};
 
+use names::is_name_part;
 use std::alloc::{AllocError, Global};
 use std::marker::Model;
-
-// Our own rule: the longest name of a subscription, in bytes.
-const LONGEST_NAME: usize = 255;
 
 /// The name of a subscription, as bytes of UTF-8.
 #[derive(Drop)]
@@ -52,26 +49,9 @@ impl Name {
     }
 }
 
-// Whether a byte may stand in the name of a subscription.
-fn is_name_byte(byte: u8) -> bool
-    ensures { result ≡ is_name_byte byte }
-{
-    match byte {
-        b'0'..=b'9' | b'A'..=b'Z' | b'a'..=b'z' | b'-' | b'_' | b'.' => true,
-        _ => false,
-    }
-}
-
-// Whether all of these bytes may stand in the name of a subscription.
-fn are_name_bytes(bytes: &[u8]) -> bool
-    ensures { result ≡ list_all is_name_byte bytes.now }
-{
-    bytes.iter().all(|byte| is_name_byte(*byte))
-}
-
-/// Whether these bytes are the name of a subscription: 1 to 255 digits and letters of ASCII, `-`, `_` and `.`.
+/// Whether these bytes are the name of a subscription. Our own rule: it is what a part of a topic's name is.
 pub fn is_subscription_name(name: &[u8]) -> bool
     ensures { result ≡ is_subscription_name name.now }
 {
-    1 <= name.len() && name.len() <= LONGEST_NAME && are_name_bytes(name)
+    is_name_part(name)
 }

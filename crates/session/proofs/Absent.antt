@@ -100,15 +100,15 @@ asks-absent old number send new h s = record {
 
 -- a topic without subscriptions refuses an ACK
 over-acks : (n who id : ℕ) (kind : AckType) (ids : List MessageIdData) (request : Option ℕ) →
-    TopicStep (over n no_subs) who (command.Ack (record { consumer_id = id; ack_type = kind; ids = ids; request_id = request })) (ack_refused id request ConsumerNotFound) (over n no_subs)
+    TopicStep (over n no_subs) who (command.Ack (record { consumer_id = id; ack_type = kind; message_ids = ids; request_id = request })) (ack_refused id request ConsumerNotFound) (over n no_subs)
 over-acks n who id kind ids None = (refl, refl)
 over-acks n who id kind ids (Some request) = (refl, refl)
 
 -- so does a fresh one
 fresh-acks : (n who id : ℕ) (kind : AckType) (ids : List MessageIdData) (request : Option ℕ) →
-    TopicStep (fresh n) who (command.Ack (record { consumer_id = id; ack_type = kind; ids = ids; request_id = request })) (ack_refused id request ConsumerNotFound) (fresh n)
+    TopicStep (fresh n) who (command.Ack (record { consumer_id = id; ack_type = kind; message_ids = ids; request_id = request })) (ack_refused id request ConsumerNotFound) (fresh n)
 fresh-acks n who id kind ids request =
-    let P : Topic → Type 0 = λ t. TopicStep t who (command.Ack (record { consumer_id = id; ack_type = kind; ids = ids; request_id = request })) (ack_refused id request ConsumerNotFound) t in
+    let P : Topic → Type 0 = λ t. TopicStep t who (command.Ack (record { consumer_id = id; ack_type = kind; message_ids = ids; request_id = request })) (ack_refused id request ConsumerNotFound) t in
     subst P (sym (fresh-over n)) (over-acks n who id kind ids request)
 
 -- so does one that isn't there

@@ -12,7 +12,7 @@ use Rattle.session.specs.Broker.{Broker, fresh, topic_at, with_topic}
 use Rattle.session.specs.Client.{Play, left_if}
 use Rattle.session.specs.Pumping.{AdmitsNothing, Sends, SendsOne, FindsNoMemory, ServesEach, ServesAll, ServesIf, PumpIn, pump_result}
 use Rattle.session.specs.Laws.{PumpsServe}
-use Rattle.session.specs.declared.consumer_entry.ConsumerEntry.{ConsumerEntry}
+use Rattle.session.specs.declared.entry.Entry.{Entry}
 use Rattle.session.specs.declared.fault.Fault.{Fault}
 use Rattle.session.specs.declared.pumping.More.{More}
 use Rattle.session.specs.declared.pumping.More.TheVariants.{Yes, No}
@@ -32,46 +32,46 @@ set-kept N (x ∷ xs) (suc at) t zero d to h = h
 set-kept N (x ∷ xs) (suc at) t (suc number) d to h = set-kept N xs at t number d to h
 
 -- the consumer's topic admits nothing to it
-abbrev None_of : ConsumerEntry → ℕ → Topic → Type 0
-None_of c who t = (i : ℕ) → topics.Admits t (key_of who c.consumer_id) i → ⊥
+abbrev None_of : Entry → ℕ → Topic → Type 0
+None_of c who t = (i : ℕ) → topics.Admits t (key_of who c.id) i → ⊥
 
 topic_sent : (t : Topic) (other key : ConsumerKey) (i : ℕ) → topics.Admits t other i → ((j : ℕ) → topics.Admits t key j → ⊥) → (j : ℕ) → topics.Admits (topics.sent t other i) key j → ⊥
 topic_sent t other key i may none = λ j h. none_sent t.subs other key t.committed i may.admitted (λ k x. none k (record { works = may.works; admitted = x })) j h.admitted
 
-module _ (c : ConsumerEntry) where
-  kept_by_one : (other : ConsumerEntry) (a b : Play) → SendsOne other a b → AdmitsNothing c a → AdmitsNothing c b
+module _ (c : Entry) where
+  kept_by_one : (other : Entry) (a b : Play) → SendsOne other a b → AdmitsNothing c a → AdmitsNothing c b
   kept_by_one other a b h none =
       let who = a.client.number in
       let t = topic_at b.broker other.topic in
       let sent = h.takes.step in
-      let key = key_of who c.consumer_id in
+      let key = key_of who c.id in
       let to : None_of c who (topic_at a.broker other.topic) → None_of c who t =
-      λ n. subst (None_of c who) (sym sent.1.sent) (topic_sent (topic_at a.broker other.topic) (key_of who other.consumer_id) key sent.0 sent.1.admitted n) in
+      λ n. subst (None_of c who) (sym sent.1.sent) (topic_sent (topic_at a.broker other.topic) (key_of who other.id) key sent.0 sent.1.admitted n) in
       let now : None_of c who (topic_at (with_topic a.broker other.topic t) c.topic) = set-kept (None_of c who) a.broker.topics other.topic t c.topic (fresh a.broker.per_ledger) to none in
       subst (λ (x : Broker). None_of c b.client.number (topic_at x c.topic)) (sym h.takes.others)
       (subst (λ n. None_of c n (topic_at (with_topic a.broker other.topic t) c.topic)) (sym (says-number a.client a.out h.message b.client b.out h.says)) now)
 
-  kept_by_some : (other : ConsumerEntry) (n : ℕ) (a b : Play) → Sends other n a b → AdmitsNothing c a → AdmitsNothing c b
+  kept_by_some : (other : Entry) (n : ℕ) (a b : Play) → Sends other n a b → AdmitsNothing c a → AdmitsNothing c b
   kept_by_some other zero a b h none = subst (AdmitsNothing c) (sym h) none
   kept_by_some other (suc n) a b h none = kept_by_one other h.0 b h.2 (kept_by_some other n a h.0 h.1 none)
 
 module _ (Refused : ReadError → Type 0) where
-  kept_by_stop : (c : ConsumerEntry) (a b : Play) → (b ≡ a) ⊎ FindsNoMemory Refused a b → b.client.fault ≡ None → AdmitsNothing c a → AdmitsNothing c b
+  kept_by_stop : (c : Entry) (a b : Play) → (b ≡ a) ⊎ FindsNoMemory Refused a b → b.client.fault ≡ None → AdmitsNothing c a → AdmitsNothing c b
   kept_by_stop c a b (inl same) goes_on none = subst (AdmitsNothing c) (sym same) none
   kept_by_stop c a b (inr stops) goes_on none = absurd (not_none _ (sym (ap (λ (p : Play). p.client.fault) stops.ends) ∙ goes_on))
 
-  kept_by_each : (c : ConsumerEntry) (others : List ConsumerEntry) (most n : ℕ) (a b : Play) → ServesEach Refused others most n a b → b.client.fault ≡ None → AdmitsNothing c a → AdmitsNothing c b
+  kept_by_each : (c : Entry) (others : List Entry) (most n : ℕ) (a b : Play) → ServesEach Refused others most n a b → b.client.fault ≡ None → AdmitsNothing c a → AdmitsNothing c b
   kept_by_each c [] most n a b h goes_on none = subst (AdmitsNothing c) (sym h.1) none
   kept_by_each c (other ∷ others) most n a b h goes_on none =
       kept_by_each c others (most - h.0) h.1 h.2 b h.4 goes_on
       (kept_by_stop c h.3.sent h.2 h.3.stops (serves_each-fault Refused others (most - h.0) h.1 h.2 b h.4 goes_on) (kept_by_some c other h.0 a h.3.sent h.3.sends none))
 
-  each_within : (cs : List ConsumerEntry) (most n : ℕ) (a b : Play) → ServesEach Refused cs most n a b → n ≤ most
+  each_within : (cs : List Entry) (most n : ℕ) (a b : Play) → ServesEach Refused cs most n a b → n ≤ most
   each_within [] most n a b h = omega (arith, h.0)
   each_within (c ∷ cs) most n a b h = let first = h.3.within in let rest = each_within cs (most - h.0) h.1 h.2 b h.4 in omega (arith, h.5, first, rest)
 
   -- below the bound each consumer got all that was admitted to it
-  each_all : (cs : List ConsumerEntry) (most n : ℕ) (a b : Play) → ServesEach Refused cs most n a b → b.client.fault ≡ None → n < most → AllByRecursion (λ c. AdmitsNothing c b) cs
+  each_all : (cs : List Entry) (most n : ℕ) (a b : Play) → ServesEach Refused cs most n a b → b.client.fault ≡ None → n < most → AllByRecursion (λ c. AdmitsNothing c b) cs
   each_all [] most n a b h goes_on few = tt
   each_all (c ∷ cs) most n a b h goes_on few =
       let between = serves_each-fault Refused cs (most - h.0) h.1 h.2 b h.4 goes_on in (

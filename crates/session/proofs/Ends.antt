@@ -92,7 +92,7 @@ fault_of-feed (Some x) why h = cc
 
 pub ended_feeds_leave : EndedFeedsLeave
 ended_feeds_leave old bytes why new none h =
-    let P : Option Fault → Type 0 = λ f. FeedIn f old bytes (Err why) new in
+    let P : Option Fault → Type 0 = λ f. FeedIn (Unit {0}) f old bytes (Err why) new in
     let s = subst P none h in
     ended_leaves _ new why s.0.ends (fault_of-feed new.client.fault why s.1)
 

@@ -3,6 +3,7 @@ pub mod Absorbing
 pub mod Admitted
 pub mod Admitting
 pub mod AllRanges
+pub mod Causes
 pub mod Ends
 pub mod Leaving
 pub mod Names
@@ -13,5 +14,6 @@ pub mod Refusals
 pub mod Rising
 pub mod Serving
 pub mod Speaking
+pub mod Unknown
 pub mod Wanting
 pub mod WholeFrames

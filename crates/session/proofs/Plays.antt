@@ -1,6 +1,6 @@
 -- Steps, one after another.
-use Rattle.std.proofs.Common.{◌≡◌, ◌≢◌, List, [], ◌∷◌, ◌++◌, length, set, get_or, refl, sym, subst, ap, ◌∙◌, ℕ, zero, suc, ◌+◌, ◌-◌, ◌⊎◌, Bool, true, false, Ok, arith, add-zero, add-suc, Option, Some, None, Result, Err, inl, inr}
-use Rattle.std.proofs.lemmas.List.{length-set, get_or-set_other}
+use Rattle.std.proofs.Common.{◌≡◌, ◌≢◌, List, [], ◌∷◌, ◌++◌, set, get_or, refl, sym, subst, ap, ◌∙◌, ℕ, zero, suc, ◌+◌, ◌-◌, ◌⊎◌, Bool, true, false, Ok, arith, add-zero, add-suc, Option, Some, None, Result, Err, inl, inr}
+use Rattle.std.proofs.lemmas.List.{get_or-set_other}
 use Rattle.frames.specs.declared.fault.Fault.{Fault as FrameFault}
 use Rattle.frames.specs.declared.frame.Frame.{Frame}
 use Rattle.frames.specs.Streams.{Progress, FeedsOn}
@@ -14,20 +14,20 @@ use Rattle.session.specs.Client.{Client, Play, play, Says, left_if, left_if_ende
 use Rattle.session.specs.Working.{FrameStep, FramesStep, first_fault, ended_if, feed_result, FeedIn, FeedStep}
 use Rattle.session.specs.Pumping.{CollectsFrom, CollectsAt, Collects, HasNothingDue, SendsOne, Sends, FindsNoMemory, Serves, ServesEach, ServesAll, ServesIf}
 use Rattle.session.specs.declared.pumping.PumpFault.{PumpFault}
-use Rattle.session.specs.declared.consumer_entry.ConsumerEntry.{ConsumerEntry}
+use Rattle.session.specs.declared.entry.Entry.{Entry}
 
 -- one frame more
-pub frames_step-push : (a : Play) (frames : List Frame) (m : Play) (frame : Frame) (b : Play) → FramesStep a frames m → FrameStep m frame b → FramesStep a (frames ++ frame ∷ []) b
-frames_step-push a [] m frame b h s = let P : Play → Type 0 = λ p. FrameStep p frame b in (b, subst P h s, refl)
-frames_step-push a (f ∷ fs) m frame b h s = (h.0, h.1, frames_step-push h.0 fs m frame b h.2 s)
+pub frames_step-push : (F : Type 0) (a : Play) (frames : List Frame) (m : Play) (frame : Frame) (b : Play) → FramesStep F a frames m → FrameStep F m frame b → FramesStep F a (frames ++ frame ∷ []) b
+frames_step-push F a [] m frame b h s = let P : Play → Type 0 = λ p. FrameStep F p frame b in (b, subst P h s, refl)
+frames_step-push F a (f ∷ fs) m frame b h s = (h.0, h.1, frames_step-push F h.0 fs m frame b h.2 s)
 
 -- a feed of a session that has no fault, from its parts
-pub feed_made : (v : Client) (b : Broker) (out bytes : List ℕ) (frames : List Frame) (read : Result (Unit {0}) FrameFault) (progress : Progress) (worked : Play)
+pub feed_made : (F : Type 0) (v : Client) (b : Broker) (out bytes : List ℕ) (frames : List Frame) (read : Result (Unit {0}) FrameFault) (progress : Progress) (worked : Play)
     (result : Result (Unit {0}) Fault) (new : Play) →
-    v.fault ≡ None → FeedsOn v.progress bytes [] frames read progress → FramesStep (play (record v { progress = progress }) b out) frames worked →
-    new ≡ left_if_ended (ended_if read worked) → result ≡ feed_result new.client.fault → FeedStep (play v b out) bytes result new
-feed_made v b out bytes frames read progress worked result new none feeds works ends is =
-    let P : Option Fault → Type 0 = λ f. FeedIn f (play v b out) bytes result new in
+    v.fault ≡ None → FeedsOn v.progress bytes [] frames read progress → FramesStep F (play (record v { progress = progress }) b out) frames worked →
+    new ≡ left_if_ended (ended_if read worked) → result ≡ feed_result new.client.fault → FeedStep F (play v b out) bytes result new
+feed_made F v b out bytes frames read progress worked result new none feeds works ends is =
+    let P : Option Fault → Type 0 = λ f. FeedIn F f (play v b out) bytes result new in
     subst P (sym none) (record { frames = frames; read = read; progress = progress; feeds = feeds; worked = worked; works = works; ends = ends }, is)
 
 -- a session that has ended has left
@@ -58,13 +58,6 @@ collects_at-others topic (suc k) a b h other who ne =
     ∙ ap (λ (t : Topic). due_to who t.queues) (get_or-set_other h.0.broker.topics topic other w.0 (fresh h.0.broker.per_ledger) ne)
     ∙ collects_at-others topic k a h.0 h.1 other who ne
 
--- no topic comes or goes
-pub collects-length : (n : ℕ) (a b : Play) → Collects n a b → length b.broker.topics ≡ length a.broker.topics
-collects-length zero a b h = ap (λ (p : Play). length p.broker.topics) h
-collects-length (suc n) a b h =
-    let w = collects_from-broker h.2 h.0 b h.3 in
-    ap (λ (x : Broker). length x.topics) w.1 ∙ length-set h.0.broker.topics h.2 w.0 ∙ collects-length n a h.0 h.1
-
 -- what is due stays where another topic with the same is set
 set-due : (topics : List Topic) (at : ℕ) (t : Topic) (number who n : ℕ) → due_to who t.queues ≡ due_to who (get_or topics at (fresh n)).queues →
     due_to who (get_or (set topics at t) number (fresh n)).queues ≡ due_to who (get_or topics number (fresh n)).queues
@@ -80,23 +73,23 @@ says-number c out o d out' (inl went) = ap (λ (x : Client). x.number) went.0
 says-number c out o d out' (inr lost) = ap (λ (x : Client). x.number) lost.0
 
 -- a session that hasn't ended hadn't before
-pub sends-fault : (consumer : ConsumerEntry) (n : ℕ) (a b : Play) → Sends consumer n a b → b.client.fault ≡ None → a.client.fault ≡ None
+pub sends-fault : (consumer : Entry) (n : ℕ) (a b : Play) → Sends consumer n a b → b.client.fault ≡ None → a.client.fault ≡ None
 sends-fault consumer zero a b h none = sym (ap (λ (p : Play). p.client.fault) h) ∙ none
 sends-fault consumer (suc n) a b h none = sends-fault consumer n a h.0 h.1 h.2.goes_on
 
 module _ (Refused : ReadError → Type 0) where
-  stops-fault : (consumer : ConsumerEntry) (a b : Play) → (b ≡ a) ⊎ FindsNoMemory Refused a b → b.client.fault ≡ None → a.client.fault ≡ None
+  stops-fault : (consumer : Entry) (a b : Play) → (b ≡ a) ⊎ FindsNoMemory Refused a b → b.client.fault ≡ None → a.client.fault ≡ None
   stops-fault consumer a b (inl same) none = sym (ap (λ (p : Play). p.client.fault) same) ∙ none
   stops-fault consumer a b (inr stops) none = stops.goes_on
 
-  pub serves-fault : (consumer : ConsumerEntry) (most n : ℕ) (a b : Play) → Serves Refused consumer most n a b → b.client.fault ≡ None → a.client.fault ≡ None
+  pub serves-fault : (consumer : Entry) (most n : ℕ) (a b : Play) → Serves Refused consumer most n a b → b.client.fault ≡ None → a.client.fault ≡ None
   serves-fault consumer most n a b h none = sends-fault consumer n a h.sent h.sends (stops-fault consumer h.sent b h.stops none)
 
-  pub serves_each-fault : (consumers : List ConsumerEntry) (most n : ℕ) (a b : Play) → ServesEach Refused consumers most n a b → b.client.fault ≡ None → a.client.fault ≡ None
+  pub serves_each-fault : (consumers : List Entry) (most n : ℕ) (a b : Play) → ServesEach Refused consumers most n a b → b.client.fault ≡ None → a.client.fault ≡ None
   serves_each-fault [] most n a b h none = sym (ap (λ (p : Play). p.client.fault) h.1) ∙ none
   serves_each-fault (c ∷ cs) most n a b h none = serves-fault c most h.0 a h.2 h.3 (serves_each-fault cs (most - h.0) h.1 h.2 b h.4 none)
 
-  serves_all-fault : (consumers : List ConsumerEntry) (most : ℕ) (result : Result ℕ PumpFault) (a b : Play) → ServesAll Refused consumers most result a b → b.client.fault ≡ None → a.client.fault ≡ None
+  serves_all-fault : (consumers : List Entry) (most : ℕ) (result : Result ℕ PumpFault) (a b : Play) → ServesAll Refused consumers most result a b → b.client.fault ≡ None → a.client.fault ≡ None
   serves_all-fault consumers most (Ok n) a b h none = serves_each-fault consumers most n a b h none
   serves_all-fault consumers most (Err why) a b h none =
       serves_each-fault h.before most h.count a h.between h.served (sends-fault h.consumer h.until.count h.between b h.until.sends none)
@@ -111,12 +104,12 @@ dispatch-due b c number who id message h topic other =
     ap (λ (x : Broker). due_at x topic other) h.others ∙ set-due b.topics number (topic_at c number) topic other b.per_ledger
     (ap (λ (x : Topic). due_to other x.queues) h.step.1.sent)
 
-sends_one-due : (consumer : ConsumerEntry) (a b : Play) → SendsOne consumer a b → HasNothingDue a → HasNothingDue b
+sends_one-due : (consumer : Entry) (a b : Play) → SendsOne consumer a b → HasNothingDue a → HasNothingDue b
 sends_one-due consumer a b h none = λ topic.
-    dispatch-due a.broker b.broker consumer.topic a.client.number consumer.consumer_id h.message h.takes topic b.client.number
+    dispatch-due a.broker b.broker consumer.topic a.client.number consumer.id h.message h.takes topic b.client.number
     ∙ ap (λ who. due_at a.broker topic who) (says-number a.client a.out h.message b.client b.out h.says) ∙ none topic
 
-sends-due : (consumer : ConsumerEntry) (n : ℕ) (a b : Play) → Sends consumer n a b → HasNothingDue a → HasNothingDue b
+sends-due : (consumer : Entry) (n : ℕ) (a b : Play) → Sends consumer n a b → HasNothingDue a → HasNothingDue b
 sends-due consumer zero a b h none = subst HasNothingDue (sym h) none
 sends-due consumer (suc n) a b h none = sends_one-due consumer h.0 b h.2 (sends-due consumer n a h.0 h.1 none)
 
@@ -125,12 +118,12 @@ module _ (Refused : ReadError → Type 0) where
   stops-due a b (inl same) none = subst HasNothingDue (sym same) none
   stops-due a b (inr stops) none = subst HasNothingDue (sym stops.ends) none
 
-  serves_each-due : (consumers : List ConsumerEntry) (most n : ℕ) (a b : Play) → ServesEach Refused consumers most n a b → HasNothingDue a → HasNothingDue b
+  serves_each-due : (consumers : List Entry) (most n : ℕ) (a b : Play) → ServesEach Refused consumers most n a b → HasNothingDue a → HasNothingDue b
   serves_each-due [] most n a b h none = subst HasNothingDue (sym h.1) none
   serves_each-due (c ∷ cs) most n a b h none =
       serves_each-due cs (most - h.0) h.1 h.2 b h.4 (stops-due h.3.sent h.2 h.3.stops (sends-due c h.0 a h.3.sent h.3.sends none))
 
-  serves_all-due : (consumers : List ConsumerEntry) (most : ℕ) (result : Result ℕ PumpFault) (a b : Play) → ServesAll Refused consumers most result a b → HasNothingDue a → HasNothingDue b
+  serves_all-due : (consumers : List Entry) (most : ℕ) (result : Result ℕ PumpFault) (a b : Play) → ServesAll Refused consumers most result a b → HasNothingDue a → HasNothingDue b
   serves_all-due consumers most (Ok n) a b h none = serves_each-due consumers most n a b h none
   serves_all-due consumers most (Err why) a b h none =
       sends-due h.consumer h.until.count h.between b h.until.sends (serves_each-due h.before most h.count a h.between h.served none)
@@ -141,7 +134,7 @@ module _ (Refused : ReadError → Type 0) where
 
 module _ (Refused : ReadError → Type 0) where
   -- one consumer more is served
-  pub serves_each-push : (consumers : List ConsumerEntry) (most n k : ℕ) (a m b : Play) (consumer : ConsumerEntry) → ServesEach Refused consumers most n a m → Serves Refused consumer (most - n) k m b → ServesEach Refused (consumers ++ consumer ∷ []) most (n + k) a b
+  pub serves_each-push : (consumers : List Entry) (most n k : ℕ) (a m b : Play) (consumer : Entry) → ServesEach Refused consumers most n a m → Serves Refused consumer (most - n) k m b → ServesEach Refused (consumers ++ consumer ∷ []) most (n + k) a b
   serves_each-push [] most n k a m b consumer h s =
       let P : Play → Type 0 = λ p. Serves Refused consumer (most - n) k p b in
       let Q : ℕ → Type 0 = λ i. Serves Refused consumer i k a b in

@@ -6,13 +6,13 @@ use Rattle.commands.specs.declared.consuming.Subscribe.{Subscribe}
 use Rattle.commands.specs.declared.producing.Producer.{Producer}
 use Rattle.commands.specs.declared.server_error.ServerError.{ServerError}
 use Rattle.commands.specs.declared.server_error.ServerError.TheVariants.{TooManyRequests, InvalidTopicName, NotAllowedError}
+use Rattle.names.specs.Names.{is_topic_name}
 use Rattle.records.specs.Names.{is_subscription_name}
 use Rattle.topic_core.specs.Steps.{first_standing}
-use Rattle.session.specs.TopicName.{is_topic_name}
 use Rattle.session.specs.Producing as producing
-use Rattle.session.specs.Consuming.{has_entry, own_refusals, IsNamed}
-use Rattle.session.specs.declared.consumer_entry.ConsumerEntry.{ConsumerEntry}
-use Rattle.session.specs.declared.producer_entry.ProducerEntry.{ProducerEntry}
+use Rattle.session.specs.Table.{has_entry}
+use Rattle.session.specs.Consuming.{own_refusals, IsNamed}
+use Rattle.session.specs.declared.entry.Entry.{Entry}
 
 none-first : (b : Bool) (e : ServerError) (o : Option ServerError) → cond b (Some e) o ≡ None → b ≡ false
 none-first true e o h = cc
@@ -27,28 +27,28 @@ turned true h = refl
 turned false h = absurd (true≢false h)
 
 -- a PRODUCER is for a topic's name
-pub producer_topic : (producers : List ProducerEntry) (asked : Producer) → first_standing (producing.own_refusals producers asked) ≡ None → is_topic_name asked.topic ≡ true
+pub producer_topic : (producers : List Entry) (asked : Producer) → first_standing (producing.own_refusals producers asked) ≡ None → is_topic_name asked.topic ≡ true
 producer_topic producers asked none =
-    let second = none-rest (producing.has_entry producers asked.producer_id) NotAllowedError _ none in
+    let second = none-rest (has_entry producers asked.producer_id) NotAllowedError _ none in
     let third = none-rest (nat_le 64 (length producers)) TooManyRequests _ second in
     turned _ (none-first (not (is_topic_name asked.topic)) InvalidTopicName _ third)
 
 -- what stands behind the first two refusals of a SUBSCRIBE
-third_row : (consumers : List ConsumerEntry) (asked : Subscribe) (o : Option ServerError) →
+third_row : (consumers : List Entry) (asked : Subscribe) (o : Option ServerError) →
     cond (has_entry consumers asked.consumer_id) (Some NotAllowedError) (cond (nat_le 64 (length consumers)) (Some TooManyRequests) o) ≡ None → o ≡ None
 third_row consumers asked o none = none-rest (nat_le 64 (length consumers)) TooManyRequests o (none-rest (has_entry consumers asked.consumer_id) NotAllowedError _ none)
 
 -- so is a SUBSCRIBE
-pub subscribe_topic : (consumers : List ConsumerEntry) (asked : Subscribe) → first_standing (own_refusals consumers asked) ≡ None → is_topic_name asked.topic ≡ true
+pub subscribe_topic : (consumers : List Entry) (asked : Subscribe) → first_standing (own_refusals consumers asked) ≡ None → is_topic_name asked.topic ≡ true
 subscribe_topic consumers asked none = turned _ (none-first (not (is_topic_name asked.topic)) InvalidTopicName _ (third_row consumers asked _ none))
 
 -- what stands behind the first four
-fifth_row : (consumers : List ConsumerEntry) (asked : Subscribe) → first_standing (own_refusals consumers asked) ≡ None →
+fifth_row : (consumers : List Entry) (asked : Subscribe) → first_standing (own_refusals consumers asked) ≡ None →
     cond (not (is_subscription_name asked.subscription)) (Some NotAllowedError) None ≡ None
 fifth_row consumers asked none =
     let fourth = none-rest (not (is_topic_name asked.topic)) InvalidTopicName _ (third_row consumers asked _ none) in
     none-rest (not asked.durable || is_some asked.start_message_id) NotAllowedError _ fourth
 
 -- and its subscription has the name of one
-pub subscribe_named : (consumers : List ConsumerEntry) (asked : Subscribe) → first_standing (own_refusals consumers asked) ≡ None → IsNamed asked
+pub subscribe_named : (consumers : List Entry) (asked : Subscribe) → first_standing (own_refusals consumers asked) ≡ None → IsNamed asked
 subscribe_named consumers asked none = turned _ (none-first (not (is_subscription_name asked.subscription)) NotAllowedError _ (fifth_row consumers asked none))

@@ -26,7 +26,7 @@ use Rattle.topic_core.specs.declared.command.Answer.TheVariants.{Now, Later, Not
 use Rattle.topic_core.specs.declared.command.SentEntry.{SentEntry}
 use Rattle.topic_core.specs.declared.dispatch.Outgoing.{Outgoing}
 use Rattle.topic_core.specs.Steps.{first_standing}
-use Rattle.session.specs.declared.consumer_entry.ConsumerEntry.{ConsumerEntry}
+use Rattle.session.specs.declared.entry.Entry.{Entry}
 use Rattle.session.specs.declared.fault.Fault.{Fault}
 use Rattle.session.specs.declared.port.Found.{Found}
 use Rattle.session.specs.declared.port.Found.TheVariants as found
@@ -35,7 +35,8 @@ use Rattle.gated_log.specs.declared.read_error.ReadError.{ReadError}
 use Rattle.session.specs.declared.pumping.PumpFault.{PumpFault}
 use Rattle.session.specs.Client.{Client, Play, plain, Ends, Says, SaysAlone, Answered}
 use Rattle.session.specs.Producing as producing
-use Rattle.session.specs.Consuming.{is_live, has_entry, own_refusals, with_entry, is_later, with_consumer, granting, with_live_consumers, FoundStep, SubscribeIn, FlowIn, RefusesAck, AckIn, UnsubscribeIn}
+use Rattle.session.specs.Table.{has_entry}
+use Rattle.session.specs.Consuming.{is_live, own_refusals, with_entry, is_later, with_consumer, granting, with_live_consumers, FoundStep, SubscribeIn, FlowIn, RefusesAck, AckIn, UnsubscribeIn}
 use Rattle.session.specs.GivingBack.{CloseConsumerIn, RedeliverIn}
 use Rattle.session.specs.Lookup.{LookupIn, PartitionsIn}
 use Rattle.session.specs.Working.{WorksCommand, connected_client, Connects, FrameIn, FramesStep, FeedIn, FeedStep}
@@ -43,28 +44,28 @@ use Rattle.session.specs.Pumping.{Collects, Sends, FindsNoMemory, ServesEach, Se
 use Rattle.session.specs.Laws.{AreRising}
 
 -- all are greater than an id
-abbrev AreAbove : ℕ → List ConsumerEntry → Type 0
-AreAbove id entries = AllByRecursion (λ other. id < other.consumer_id) entries
+abbrev AreAbove : ℕ → List Entry → Type 0
+AreAbove id entries = AllByRecursion (λ other. id < other.id) entries
 
-above-less : (a b : ℕ) (entries : List ConsumerEntry) → a ≤ b → AreAbove b entries → AreAbove a entries
+above-less : (a b : ℕ) (entries : List Entry) → a ≤ b → AreAbove b entries → AreAbove a entries
 above-less a b [] h all = tt
 above-less a b (e ∷ es) h all = (omega (arith, all.0), above-less a b es h all.1)
 
-above-filter : (id : ℕ) (keep : ConsumerEntry → Bool) (entries : List ConsumerEntry) → AreAbove id entries → AreAbove id (filter keep entries)
+above-filter : (id : ℕ) (keep : Entry → Bool) (entries : List Entry) → AreAbove id entries → AreAbove id (filter keep entries)
 above-filter id keep [] all = tt
 above-filter id keep (e ∷ es) all = elim (keep e) as (λ b. AreAbove id (cond b (e ∷ filter keep es) (filter keep es))) [
   | true ↦ (all.0, above-filter id keep es all.1)
   | false ↦ above-filter id keep es all.1
 ]
 
-rising-filter : (keep : ConsumerEntry → Bool) (entries : List ConsumerEntry) → AreRising entries → AreRising (filter keep entries)
+rising-filter : (keep : Entry → Bool) (entries : List Entry) → AreRising entries → AreRising (filter keep entries)
 rising-filter keep [] rise = tt
 rising-filter keep (e ∷ es) rise = elim (keep e) as (λ b. AreRising (cond b (e ∷ filter keep es) (filter keep es))) [
-  | true ↦ (above-filter e.consumer_id keep es rise.0, rising-filter keep es rise.1)
+  | true ↦ (above-filter e.id keep es rise.0, rising-filter keep es rise.1)
   | false ↦ rising-filter keep es rise.1
 ]
 
-above-insert : (id : ℕ) (entries : List ConsumerEntry) (place : ℕ) (one : ConsumerEntry) → id < one.consumer_id → AreAbove id entries → AreAbove id (insert entries place one)
+above-insert : (id : ℕ) (entries : List Entry) (place : ℕ) (one : Entry) → id < one.id → AreAbove id entries → AreAbove id (insert entries place one)
 above-insert id [] zero one h all = (h, tt)
 above-insert id [] (suc place) one h all = (h, tt)
 above-insert id (e ∷ es) zero one h all = (h, all)
@@ -79,29 +80,29 @@ or-right true b h = absurd (let no : ⊥ = cc in no)
 or-right false b h = h
 
 -- one more, which isn't there, stands behind those with a smaller id
-abbrev placed : ConsumerEntry → List ConsumerEntry → ℕ
-placed one entries = position_or_len (λ entry. nat_lt one.consumer_id entry.consumer_id) entries
+abbrev placed : Entry → List Entry → ℕ
+placed one entries = position_or_len (λ entry. nat_lt one.id entry.id) entries
 
-rising-at : (one e : ConsumerEntry) (es : List ConsumerEntry) (n : ℕ) (b : Bool) → nat_lt one.consumer_id e.consumer_id ≡ b → nat_eq e.consumer_id one.consumer_id ≡ false →
+rising-at : (one e : Entry) (es : List Entry) (n : ℕ) (b : Bool) → nat_lt one.id e.id ≡ b → nat_eq e.id one.id ≡ false →
     AreRising (e ∷ es) → AreRising (insert es n one) → AreRising (insert (e ∷ es) (cond (not b) (1 + n) 0) one)
 rising-at one e es n true is other rise rest =
-    let below : one.consumer_id < e.consumer_id = ltb-true one.consumer_id e.consumer_id is in
-    ((below, above-less one.consumer_id e.consumer_id es (omega arith) rise.0), rise)
+    let below : one.id < e.id = ltb-true one.id e.id is in
+    ((below, above-less one.id e.id es (omega arith) rise.0), rise)
 rising-at one e es n false is other rise rest =
-    let after : e.consumer_id ≤ one.consumer_id = ltb-false one.consumer_id e.consumer_id is in
-    let apart : e.consumer_id ≡ one.consumer_id → ⊥ = eqb-false e.consumer_id one.consumer_id other in
-    let below : e.consumer_id < one.consumer_id = ⊎_elim (λ (l : e.consumer_id < one.consumer_id). l) (λ (same : one.consumer_id ≤ e.consumer_id). absurd (apart (omega (arith, same, after)))) (cases_lt e.consumer_id one.consumer_id) in
+    let after : e.id ≤ one.id = ltb-false one.id e.id is in
+    let apart : e.id ≡ one.id → ⊥ = eqb-false e.id one.id other in
+    let below : e.id < one.id = ⊎_elim (λ (l : e.id < one.id). l) (λ (same : one.id ≤ e.id). absurd (apart (omega (arith, same, after)))) (cases_lt e.id one.id) in
     let P : ℕ → Type 0 = λ k. AreRising (insert (e ∷ es) k one) in
     let one_more : suc n ≡ 1 + n = omega arith in
-    subst P one_more (above-insert e.consumer_id es n one below rise.0, rest)
+    subst P one_more (above-insert e.id es n one below rise.0, rest)
 
-rising-insert : (one : ConsumerEntry) (entries : List ConsumerEntry) → has_entry entries one.consumer_id ≡ false → AreRising entries → AreRising (insert entries (placed one entries) one)
+rising-insert : (one : Entry) (entries : List Entry) → has_entry entries one.id ≡ false → AreRising entries → AreRising (insert entries (placed one entries) one)
 rising-insert one [] fresh rise = (tt, tt)
 rising-insert one (e ∷ es) fresh rise =
-    rising-at one e es (placed one es) (nat_lt one.consumer_id e.consumer_id) refl (or-left _ _ fresh) rise (rising-insert one es (or-right _ _ fresh) rise.1)
+    rising-at one e es (placed one es) (nat_lt one.id e.id) refl (or-left _ _ fresh) rise (rising-insert one es (or-right _ _ fresh) rise.1)
 
-rising-with : (entries : List ConsumerEntry) (accepted : Bool) (id topic : ℕ) → has_entry entries id ≡ false → AreRising entries → AreRising (with_entry entries accepted id topic)
-rising-with entries true id topic fresh rise = rising-insert (record { consumer_id = id; topic = topic }) entries fresh rise
+rising-with : (entries : List Entry) (accepted : Bool) (id topic : ℕ) → has_entry entries id ≡ false → AreRising entries → AreRising (with_entry entries accepted id topic)
+rising-with entries true id topic fresh rise = rising-insert (record { id = id; topic = topic }) entries fresh rise
 rising-with entries false id topic fresh rise = rise
 
 -- what rises, where the consumers are the same
@@ -131,13 +132,14 @@ still p q is = ap (λ (x : Play). x.client.consumers) is
 ends : (old new : Play) (why : Fault) → Ends old why new → Keeps old new
 ends old new why h = ap (λ (x : Play). x.client.consumers) h
 
-producing_found : (f : Found) (old : Play) (asked : Asked) (new : Play) → producing.FoundStep old asked f new → Keeps old new
+producing_found : (f : Found) (old : Play) (asked : Asked) (new : Play) → producing.FoundStep (Unit {0}) old asked f new → Keeps old new
 producing_found (found.Topic number) old asked new (inl h) = answered h.answer _ old.out new.client new.out h.answered
 producing_found (found.Topic number) old asked new (inr h) = ends old new _ h
 producing_found found.TooMany old asked new h = said_alone old _ new h
 producing_found found.NoMemory old asked new h = ends old new _ h
+producing_found found.Failed old asked new h = said_alone old _ new h.1
 
-produces : (refusal : Option ServerError) (old : Play) (asked : Asked) (new : Play) → producing.ProducerIn refusal old asked new → Keeps old new
+produces : (refusal : Option ServerError) (old : Play) (asked : Asked) (new : Play) → producing.ProducerIn (Unit {0}) refusal old asked new → Keeps old new
 produces (Some error) old asked new h = said_alone old _ new h
 produces None old asked new h = producing_found h.found (record old { broker = h.between }) asked new h.asks
 
@@ -186,15 +188,16 @@ Rises p q = AreRising p.client.consumers → AreRising q.client.consumers
 rises : (p q : Play) → Keeps p q → Rises p q
 rises p q k = same p.client q.client k
 
-subscribing_found : (f : Found) (old : Play) (asked : Wanted) (new : Play) → has_entry old.client.consumers asked.consumer_id ≡ false → FoundStep old asked f new → Rises old new
+subscribing_found : (f : Found) (old : Play) (asked : Wanted) (new : Play) → has_entry old.client.consumers asked.consumer_id ≡ false → FoundStep (Unit {0}) old asked f new → Rises old new
 subscribing_found (found.Topic number) old asked new fresh (inl h) = λ rise.
     same (with_consumer old.client (is_later h.answer) asked.consumer_id number) new.client (answered h.answer _ old.out new.client new.out h.answered)
     (rising-with old.client.consumers (is_later h.answer) asked.consumer_id number fresh rise)
 subscribing_found (found.Topic number) old asked new fresh (inr h) = rises old new (ends old new _ h)
 subscribing_found found.TooMany old asked new fresh h = rises old new (said_alone old _ new h)
 subscribing_found found.NoMemory old asked new fresh h = rises old new (ends old new _ h)
+subscribing_found found.Failed old asked new fresh h = rises old new (said_alone old _ new h.1)
 
-subscribes_in : (refusal : Option ServerError) (old : Play) (asked : Wanted) (new : Play) → (refusal ≡ None → has_entry old.client.consumers asked.consumer_id ≡ false) → SubscribeIn refusal old asked new → Rises old new
+subscribes_in : (refusal : Option ServerError) (old : Play) (asked : Wanted) (new : Play) → (refusal ≡ None → has_entry old.client.consumers asked.consumer_id ≡ false) → SubscribeIn (Unit {0}) refusal old asked new → Rises old new
 subscribes_in (Some error) old asked new fresh h = rises old new (said_alone old _ new h)
 subscribes_in None old asked new fresh h = subscribing_found h.found (record old { broker = h.between }) asked new (fresh refl) h.asks
 
@@ -203,7 +206,7 @@ first_is_false : (b : Bool) (error : ServerError) (others : Option ServerError) 
 first_is_false true error others h = absurd (let no : ⊥ = cc in no)
 first_is_false false error others h = refl
 
-subscribes : (old : Play) (asked : Wanted) (new : Play) → SubscribeIn (first_standing (own_refusals old.client.consumers asked)) old asked new → Rises old new
+subscribes : (old : Play) (asked : Wanted) (new : Play) → SubscribeIn (Unit {0}) (first_standing (own_refusals old.client.consumers asked)) old asked new → Rises old new
 subscribes old asked new h = subscribes_in (first_standing (own_refusals old.client.consumers asked)) old asked new (first_is_false _ _ _) h
 
 looks_up : (named : Bool) (old : Play) (asked : LookupTopic) (new : Play) → LookupIn named old asked new → Keeps old new
@@ -214,7 +217,7 @@ tells_partitions : (named : Bool) (old : Play) (asked : PartitionedTopicMetadata
 tells_partitions true old asked new h = said_alone old _ new h
 tells_partitions false old asked new h = said_alone old _ new h
 
-works : (c : Command) (old : Play) (entry : FrameEntry) (new : Play) → WorksCommand old c entry new → Rises old new
+works : (c : Command) (old : Play) (entry : FrameEntry) (new : Play) → WorksCommand (Unit {0}) old c entry new → Rises old new
 works (Connect c) old entry new h = rises old new (ends old new _ h)
 works (Producer c) old entry new h = rises old new (produces _ (producing.with_live_producers old) c new h)
 works (Send c) old entry new h = rises old new (sends _ _ old c new h)
@@ -248,28 +251,28 @@ connects (PartitionedMetadata c) old new h = ends old new _ h
 connects (Lookup c) old new h = ends old new _ h
 connects (Other k) old new h = ends old new _ h
 
-frame_rises : (fault : Option Fault) (connected : Bool) (old : Play) (frame : Frame) (new : Play) → FrameIn fault connected old frame new → Rises old new
+frame_rises : (fault : Option Fault) (connected : Bool) (old : Play) (frame : Frame) (new : Play) → FrameIn (Unit {0}) fault connected old frame new → Rises old new
 frame_rises None true old frame new h = works frame.command old frame.entry new h
 frame_rises None false old frame new h = rises old new (connects frame.command old new h)
 frame_rises (Some why) connected old frame new h = rises old new (still old new h)
 
-frames_rise : (frames : List Frame) (old new : Play) → FramesStep old frames new → Rises old new
+frames_rise : (frames : List Frame) (old new : Play) → FramesStep (Unit {0}) old frames new → Rises old new
 frames_rise [] old new h = rises old new (still old new h)
 frames_rise (frame ∷ frames) old new h = λ rise. frames_rise frames h.0 new h.2 (frame_rises _ _ old frame h.0 h.1 rise)
 
-feed_rises : (fault : Option Fault) (old : Play) (bytes : List ℕ) (result : Result (Unit {0}) Fault) (new : Play) → FeedIn fault old bytes result new → Rises old new
+feed_rises : (fault : Option Fault) (old : Play) (bytes : List ℕ) (result : Result (Unit {0}) Fault) (new : Play) → FeedIn (Unit {0}) fault old bytes result new → Rises old new
 feed_rises None old bytes result new h = λ rise.
     same h.0.worked.client new.client (ap (λ (p : Play). p.client.consumers) h.0.ends) (frames_rise h.0.frames _ h.0.worked h.0.works rise)
 feed_rises (Some why) old bytes result new h = rises old new (still old new h.1)
 
-pub feeds_rise : (old : Play) (bytes : List ℕ) (result : Result (Unit {0}) Fault) (new : Play) → FeedStep old bytes result new → Rises old new
+pub feeds_rise : (old : Play) (bytes : List ℕ) (result : Result (Unit {0}) Fault) (new : Play) → FeedStep (Unit {0}) old bytes result new → Rises old new
 feeds_rise old bytes result new h = feed_rises old.client.fault old bytes result new h
 
 collects : (count : ℕ) (old new : Play) → Collects count old new → Keeps old new
 collects zero old new h = still old new h
 collects (suc count) old new h = said h.0.client h.0.out (plain h.3.reply) new.client new.out h.3.says ∙ collects count old h.0 h.1
 
-sends_messages : (consumer : ConsumerEntry) (count : ℕ) (old new : Play) → Sends consumer count old new → Keeps old new
+sends_messages : (consumer : Entry) (count : ℕ) (old new : Play) → Sends consumer count old new → Keeps old new
 sends_messages consumer zero old new h = still old new h
 sends_messages consumer (suc count) old new h = said h.0.client h.0.out h.2.message new.client new.out h.2.says ∙ sends_messages consumer count old h.0 h.1
 
@@ -278,12 +281,12 @@ module _ (Refused : ReadError → Type 0) where
   stops old new (inl h) = still old new h
   stops old new (inr h) = ends old new _ h.ends
 
-  pub serves_each : (consumers : List ConsumerEntry) (most count : ℕ) (old new : Play) → ServesEach Refused consumers most count old new → Keeps old new
+  pub serves_each : (consumers : List Entry) (most count : ℕ) (old new : Play) → ServesEach Refused consumers most count old new → Keeps old new
   serves_each [] most count old new h = still old new h.1
   serves_each (c ∷ cs) most count old new h =
       serves_each cs (most - h.0) h.1 h.2 new h.4 ∙ stops h.3.sent h.2 h.3.stops ∙ sends_messages c h.0 old h.3.sent h.3.sends
 
-  serves_all : (consumers : List ConsumerEntry) (most : ℕ) (result : Result ℕ PumpFault) (old new : Play) → ServesAll Refused consumers most result old new → Keeps old new
+  serves_all : (consumers : List Entry) (most : ℕ) (result : Result ℕ PumpFault) (old new : Play) → ServesAll Refused consumers most result old new → Keeps old new
   serves_all consumers most (Ok count) old new h = serves_each consumers most count old new h
   serves_all consumers most (Err why) old new h = sends_messages h.consumer h.until.count h.between new h.until.sends ∙ serves_each h.before most h.count old h.between h.served
 

@@ -6,7 +6,7 @@ use Rattle.std.proofs.lemmas.List.{take-append-drop}
 use Rattle.session.specs.declared.fault.Fault.{Fault}
 use Rattle.gated_log.specs.declared.read_error.ReadError.{ReadError}
 use Rattle.gated_log.specs.declared.read_error.ReadError.TheVariants as read
-use Rattle.session.specs.declared.consumer_entry.ConsumerEntry.{ConsumerEntry}
+use Rattle.session.specs.declared.entry.Entry.{Entry}
 use Rattle.session.specs.Broker.{Broker}
 use Rattle.session.specs.Client.{Client, Play, play, left_if}
 use Rattle.session.specs.Pumping.{Collects, HasNothingDue, pump_result, AdmitsNothing, Sends, IsTold, FindsNoMemory, SendsNothing, Serves, ServesEach, ServesUntil, ServesEachUntil, ServesAll, ServesIf, PumpIn, PumpStep}
@@ -26,7 +26,7 @@ module _ (R S : ReadError → Type 0) (more : (why : ReadError) → R why → S 
   finds_no_memory-more : (a b : Play) → FindsNoMemory R a b → FindsNoMemory S a b
   finds_no_memory-more a b h = record { goes_on = h.goes_on; refused = more read.NoMemory h.refused; ends = h.ends }
 
-  pub sends_nothing-more : (consumer : ConsumerEntry) (a b : Play) → SendsNothing R consumer a b → SendsNothing S consumer a b
+  pub sends_nothing-more : (consumer : Entry) (a b : Play) → SendsNothing R consumer a b → SendsNothing S consumer a b
   sends_nothing-more consumer a b (inl nothing) = inl nothing
   sends_nothing-more consumer a b (inr finds) = inr (finds_no_memory-more a b finds)
 
@@ -34,17 +34,17 @@ module _ (R S : ReadError → Type 0) (more : (why : ReadError) → R why → S 
   stops-more a b (inl same) = inl same
   stops-more a b (inr finds) = inr (finds_no_memory-more a b finds)
 
-  pub serves-more : (consumer : ConsumerEntry) (most n : ℕ) (a b : Play) → Serves R consumer most n a b → Serves S consumer most n a b
+  pub serves-more : (consumer : Entry) (most n : ℕ) (a b : Play) → Serves R consumer most n a b → Serves S consumer most n a b
   serves-more consumer most n a b h = record { sent = h.sent; sends = h.sends; within = h.within; stops = stops-more h.sent b h.stops; all = h.all }
 
-  pub serves_each-more : (consumers : List ConsumerEntry) (most n : ℕ) (a b : Play) → ServesEach R consumers most n a b → ServesEach S consumers most n a b
+  pub serves_each-more : (consumers : List Entry) (most n : ℕ) (a b : Play) → ServesEach R consumers most n a b → ServesEach S consumers most n a b
   serves_each-more [] most n a b h = h
   serves_each-more (c ∷ cs) most n a b h = (h.0, h.1, h.2, serves-more c most h.0 a h.2 h.3, serves_each-more cs (most - h.0) h.1 h.2 b h.4, h.5)
 
-  pub serves_until-more : (consumer : ConsumerEntry) (most : ℕ) (why : PumpFault) (a b : Play) → ServesUntil R consumer most why a b → ServesUntil S consumer most why a b
+  pub serves_until-more : (consumer : Entry) (most : ℕ) (why : PumpFault) (a b : Play) → ServesUntil R consumer most why a b → ServesUntil S consumer most why a b
   serves_until-more consumer most why a b h = record { count = h.count; sends = h.sends; within = h.within; goes_on = h.goes_on; device = h.device; refused = more read.Device h.refused }
 
-  serves_all-more : (consumers : List ConsumerEntry) (most : ℕ) (result : Result ℕ PumpFault) (a b : Play) → ServesAll R consumers most result a b → ServesAll S consumers most result a b
+  serves_all-more : (consumers : List Entry) (most : ℕ) (result : Result ℕ PumpFault) (a b : Play) → ServesAll R consumers most result a b → ServesAll S consumers most result a b
   serves_all-more consumers most (Ok n) a b h = serves_each-more consumers most n a b h
   serves_all-more consumers most (Err why) a b h = record {
     before = h.before;
@@ -104,7 +104,7 @@ not_none why is = cc
 
 module _ (Refused : ReadError → Type 0) where
   -- by a topic that isn't there
-  pub serves-absent : (consumer : ConsumerEntry) (most : ℕ) (p : Play) → length p.broker.topics ≤ consumer.topic → Serves Refused consumer most 0 p p
+  pub serves-absent : (consumer : Entry) (most : ℕ) (p : Play) → length p.broker.topics ≤ consumer.topic → Serves Refused consumer most 0 p p
   serves-absent consumer most p h = record {
     sent = p;
     sends = refl;
@@ -114,7 +114,7 @@ module _ (Refused : ReadError → Type 0) where
   }
 
   -- without a message more
-  pub serves-stopped : (consumer : ConsumerEntry) (most n : ℕ) (a m b : Play) → n ≤ most → Sends consumer n a m → SendsNothing Refused consumer m b → Serves Refused consumer most n a b
+  pub serves-stopped : (consumer : Entry) (most n : ℕ) (a m b : Play) → n ≤ most → Sends consumer n a m → SendsNothing Refused consumer m b → Serves Refused consumer most n a b
   serves-stopped consumer most n a m b within sends (inl nothing) = record {
     sent = m;
     sends = sends;
@@ -131,7 +131,7 @@ module _ (Refused : ReadError → Type 0) where
   }
 
   -- at its bound, or with the session
-  pub serves-bound : (consumer : ConsumerEntry) (most n : ℕ) (a b : Play) → n ≤ most → Sends consumer n a b → (b.client.fault ≡ None → n < most → ⊥) → Serves Refused consumer most n a b
+  pub serves-bound : (consumer : Entry) (most n : ℕ) (a b : Play) → n ≤ most → Sends consumer n a b → (b.client.fault ≡ None → n < most → ⊥) → Serves Refused consumer most n a b
   serves-bound consumer most n a b within sends ends = record {
     sent = b;
     sends = sends;
@@ -141,7 +141,7 @@ module _ (Refused : ReadError → Type 0) where
   }
 
   -- until the device fails
-  pub serves-refused : (consumer : ConsumerEntry) (most n : ℕ) (why : PumpFault) (a m b : Play) → n < most → Sends consumer n a m → m.client.fault ≡ None → (why ≡ Device) × (b ≡ m) → IsTold Refused why → ServesUntil Refused consumer most why a b
+  pub serves-refused : (consumer : Entry) (most n : ℕ) (why : PumpFault) (a m b : Play) → n < most → Sends consumer n a m → m.client.fault ≡ None → (why ≡ Device) × (b ≡ m) → IsTold Refused why → ServesUntil Refused consumer most why a b
   serves-refused consumer most n why a m b within sends none stops told = record {
     count = n;
     sends = subst (Sends consumer n a) (sym stops.1) sends;
@@ -152,22 +152,22 @@ module _ (Refused : ReadError → Type 0) where
   }
 
   -- the consumer at the next place is served
-  pub serves_each-next : (consumers : List ConsumerEntry) (place most n k : ℕ) (a m b : Play) (consumer other : ConsumerEntry) → place < length consumers → consumer ≡ get_or consumers place other →
+  pub serves_each-next : (consumers : List Entry) (place most n k : ℕ) (a m b : Play) (consumer other : Entry) → place < length consumers → consumer ≡ get_or consumers place other →
       ServesEach Refused (take place consumers) most n a m → Serves Refused consumer (most - n) k m b → ServesEach Refused (take (suc place) consumers) most (n + k) a b
   serves_each-next consumers place most n k a m b consumer other within is h s =
-      let P : List ConsumerEntry → Type 0 = λ xs. ServesEach Refused xs most (n + k) a b in
-      subst P (ap (λ (x : ConsumerEntry). take place consumers ++ x ∷ []) is ∙ sym (take-suc consumers place other within)) (serves_each-push Refused (take place consumers) most n k a m b consumer h s)
+      let P : List Entry → Type 0 = λ xs. ServesEach Refused xs most (n + k) a b in
+      subst P (ap (λ (x : Entry). take place consumers ++ x ∷ []) is ∙ sym (take-suc consumers place other within)) (serves_each-push Refused (take place consumers) most n k a m b consumer h s)
 
   -- until the device fails for the consumer at the next place
-  pub serves_each-refused : (consumers : List ConsumerEntry) (place most n : ℕ) (why : PumpFault) (a m b : Play) (consumer other : ConsumerEntry) → place < length consumers → consumer ≡ get_or consumers place other →
+  pub serves_each-refused : (consumers : List Entry) (place most n : ℕ) (why : PumpFault) (a m b : Play) (consumer other : Entry) → place < length consumers → consumer ≡ get_or consumers place other →
       ServesEach Refused (take place consumers) most n a m → ServesUntil Refused consumer (most - n) why m b → ServesEachUntil Refused consumers most why a b
   serves_each-refused consumers place most n why a m b consumer other within is h s = record {
     before = take place consumers;
     consumer = consumer;
     behind = drop (suc place) consumers;
     are = sym (take-append-drop place consumers)
-        ∙ ap (λ (xs : List ConsumerEntry). take place consumers ++ xs) (drop-cons consumers place other within)
-        ∙ ap (λ (x : ConsumerEntry). take place consumers ++ x ∷ drop (suc place) consumers) (sym is);
+        ∙ ap (λ (xs : List Entry). take place consumers ++ xs) (drop-cons consumers place other within)
+        ∙ ap (λ (x : Entry). take place consumers ++ x ∷ drop (suc place) consumers) (sym is);
     count = n;
     between = m;
     served = h;

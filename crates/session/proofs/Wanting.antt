@@ -17,7 +17,8 @@ use Rattle.topic_core.specs.Steps.{Fits}
 use Rattle.topic_core.proofs.Steps.{step-fits}
 use Rattle.session.specs.Broker.{topic_at}
 use Rattle.session.specs.Client.{Client, Play, plain, Says, Answered, Ends}
-use Rattle.session.specs.Consuming.{FlowIn, granting, topic_of}
+use Rattle.session.specs.Consuming.{FlowIn, granting}
+use Rattle.session.specs.Table.{topic_of}
 use Rattle.session.specs.GivingBack.{close_consumer_command, redeliver_command, CloseConsumerIn, RedeliverIn}
 use Rattle.session.specs.Working.{WorksCommand, Connects, FrameIn}
 use Rattle.session.specs.Laws.{may_lack_memory}
@@ -68,7 +69,7 @@ grants : (topic : Option ℕ) (old : Play) (asked : Flow) (new : Play) → old.c
 grants None old asked new none s some = goes_on old new none (ap (λ (p : Play). p.client) s) some
 grants (Some topic) old asked new none s some = granted old new s.result none s.client some
 
-works : (old : Play) (c : Command) (entry : FrameEntry) (new : Play) → old.client.fault ≡ None → WorksCommand old c entry new → new.client.fault ≡ Some fault.NoMemory → may_lack_memory c ≡ true
+works : (old : Play) (c : Command) (entry : FrameEntry) (new : Play) → old.client.fault ≡ None → WorksCommand (Unit {0}) old c entry new → new.client.fault ≡ Some fault.NoMemory → may_lack_memory c ≡ true
 works old (command.Connect c) entry new none s some = refl
 works old (command.Producer c) entry new none s some = refl
 works old (command.Send c) entry new none s some = refl
@@ -102,7 +103,7 @@ connects old (command.PartitionedMetadata c) new s some = refl
 connects old (command.Lookup c) new s some = refl
 connects old (command.Other k) new s some = unknown old new s some
 
-pub frame_wants : (why : Option Fault) (connected : Bool) (old : Play) (frame : Frame) (new : Play) → why ≡ None → old.client.fault ≡ None → FrameIn why connected old frame new
+pub frame_wants : (why : Option Fault) (connected : Bool) (old : Play) (frame : Frame) (new : Play) → why ≡ None → old.client.fault ≡ None → FrameIn (Unit {0}) why connected old frame new
     → new.client.fault ≡ Some fault.NoMemory → may_lack_memory frame.command ≡ true
 frame_wants None true old frame new went none s some = works old frame.command frame.entry new none s some
 frame_wants None false old frame new went none s some = connects old frame.command new s some

@@ -21,10 +21,10 @@ use Rattle.topic_core.specs.declared.command.SentEntry.{SentEntry}
 use Rattle.session.specs.declared.fault.Fault.{Fault}
 use Rattle.session.specs.declared.port.Found.{Found}
 use Rattle.gated_log.specs.declared.read_error.ReadError.{ReadError}
-use Rattle.session.specs.declared.port.Found.TheVariants.{Topic, TooMany, NoMemory}
+use Rattle.session.specs.declared.port.Found.TheVariants.{Topic, TooMany, NoMemory, Failed}
 use Rattle.session.specs.declared.pumping.More.{More}
 use Rattle.session.specs.declared.pumping.PumpFault.{PumpFault}
-use Rattle.session.specs.declared.consumer_entry.ConsumerEntry.{ConsumerEntry}
+use Rattle.session.specs.declared.entry.Entry.{Entry}
 use Rattle.session.specs.Client.{Play, plain, Ends, SaysAlone, Writes}
 use Rattle.session.specs.Producing.{FoundStep, ProducerIn, SendIn, CloseIn}
 use Rattle.session.specs.Consuming as consuming
@@ -46,13 +46,14 @@ ends_writes old new why h = writes_same old new (ap (λ (p : Play). p.out) h)
 pub says_writes : (old new : Play) (r : Reply) → SaysAlone old r new → Writes old.out new.out
 says_writes old new r h = (speaks_says old.client new.client old.out new.out (plain r) h.0).writes
 
-pub found_writes : (found : Found) (old : Play) (asked : Asked) (new : Play) → FoundStep old asked found new → Writes old.out new.out
+pub found_writes : (found : Found) (old : Play) (asked : Asked) (new : Play) → FoundStep (Unit {0}) old asked found new → Writes old.out new.out
 found_writes (Topic number) old asked new (inl h) = (speaks_answered _ new.client old.out new.out h.answer h.answered).writes
 found_writes (Topic number) old asked new (inr h) = ends_writes old new _ h
 found_writes TooMany old asked new h = says_writes old new _ h
 found_writes NoMemory old asked new h = ends_writes old new _ h
+found_writes Failed old asked new h = says_writes old new _ h.1
 
-pub producer_writes : (refusal : Option ServerError) (old : Play) (asked : Asked) (new : Play) → ProducerIn refusal old asked new → Writes old.out new.out
+pub producer_writes : (refusal : Option ServerError) (old : Play) (asked : Asked) (new : Play) → ProducerIn (Unit {0}) refusal old asked new → Writes old.out new.out
 producer_writes (Some error) old asked new h = says_writes old new _ h
 producer_writes None old asked new h = found_writes h.found (record old { broker = h.between }) asked new h.asks
 
@@ -62,13 +63,14 @@ send_writes (Some topic) None old asked new h = ends_writes old new _ h
 send_writes None (Some entry) old asked new h = says_writes old new _ h
 send_writes (Some topic) (Some entry) old asked new h = (speaks_answered old.client new.client old.out new.out h.answer h.answered).writes
 
-pub wanted_writes : (found : Found) (old : Play) (asked : Wanted) (new : Play) → consuming.FoundStep old asked found new → Writes old.out new.out
+pub wanted_writes : (found : Found) (old : Play) (asked : Wanted) (new : Play) → consuming.FoundStep (Unit {0}) old asked found new → Writes old.out new.out
 wanted_writes (Topic number) old asked new (inl h) = (speaks_answered _ new.client old.out new.out h.answer h.answered).writes
 wanted_writes (Topic number) old asked new (inr h) = ends_writes old new _ h
 wanted_writes TooMany old asked new h = says_writes old new _ h
 wanted_writes NoMemory old asked new h = ends_writes old new _ h
+wanted_writes Failed old asked new h = says_writes old new _ h.1
 
-pub subscribe_writes : (refusal : Option ServerError) (old : Play) (asked : Wanted) (new : Play) → SubscribeIn refusal old asked new → Writes old.out new.out
+pub subscribe_writes : (refusal : Option ServerError) (old : Play) (asked : Wanted) (new : Play) → SubscribeIn (Unit {0}) refusal old asked new → Writes old.out new.out
 subscribe_writes (Some error) old asked new h = says_writes old new _ h
 subscribe_writes None old asked new h = wanted_writes h.found (record old { broker = h.between }) asked new h.asks
 
@@ -108,7 +110,7 @@ partitions_writes : (named : Bool) (old : Play) (asked : PartitionedTopicMetadat
 partitions_writes true old asked new h = says_writes old new _ h
 partitions_writes false old asked new h = says_writes old new _ h
 
-pub command_writes : (c : Command) (old : Play) (entry : FrameEntry) (new : Play) → WorksCommand old c entry new → Writes old.out new.out
+pub command_writes : (c : Command) (old : Play) (entry : FrameEntry) (new : Play) → WorksCommand (Unit {0}) old c entry new → Writes old.out new.out
 command_writes (Connect c) old entry new h = ends_writes old new _ h
 command_writes (Producer c) old entry new h = producer_writes _ _ c new h
 command_writes (Send c) old entry new h = send_writes _ _ old c new h
@@ -142,16 +144,16 @@ connects_writes (PartitionedMetadata c) old new h = ends_writes old new _ h
 connects_writes (Lookup c) old new h = ends_writes old new _ h
 connects_writes (Other k) old new h = ends_writes old new _ h
 
-pub frame_writes : (fault : Option Fault) (connected : Bool) (old : Play) (frame : Frame) (new : Play) → FrameIn fault connected old frame new → Writes old.out new.out
+pub frame_writes : (fault : Option Fault) (connected : Bool) (old : Play) (frame : Frame) (new : Play) → FrameIn (Unit {0}) fault connected old frame new → Writes old.out new.out
 frame_writes None true old frame new h = command_writes frame.command old frame.entry new h
 frame_writes None false old frame new h = connects_writes frame.command old new h
 frame_writes (Some why) connected old frame new h = writes_same old new (ap (λ (p : Play). p.out) h)
 
-pub frames_write : (frames : List Frame) (old new : Play) → FramesStep old frames new → Writes old.out new.out
+pub frames_write : (frames : List Frame) (old new : Play) → FramesStep (Unit {0}) old frames new → Writes old.out new.out
 frames_write [] old new h = writes_same old new (ap (λ (p : Play). p.out) h)
 frames_write (frame ∷ frames) old new h = writes_both old.out h.0.out new.out (frame_writes _ _ old frame h.0 h.1) (frames_write frames h.0 new h.2)
 
-pub feed_writes : (fault : Option Fault) (old : Play) (bytes : List ℕ) (result : Result (Unit {0}) Fault) (new : Play) → FeedIn fault old bytes result new → Writes old.out new.out
+pub feed_writes : (fault : Option Fault) (old : Play) (bytes : List ℕ) (result : Result (Unit {0}) Fault) (new : Play) → FeedIn (Unit {0}) fault old bytes result new → Writes old.out new.out
 feed_writes None old bytes result new h =
     writes_both old.out h.0.worked.out new.out (frames_write h.0.frames _ h.0.worked h.0.works) (writes_same h.0.worked new (ap (λ (p : Play). p.out) h.0.ends))
 feed_writes (Some why) old bytes result new h = writes_same old new (ap (λ (p : Play). p.out) h.1)
@@ -164,23 +166,23 @@ collects_writes zero old new h = writes_same old new (ap (λ (p : Play). p.out) 
 collects_writes (suc count) old new h =
     writes_both old.out h.0.out new.out (collects_writes count old h.0 h.1) ((speaks_says h.0.client new.client h.0.out new.out (plain h.3.reply) h.3.says).writes)
 
-pub sends_write : (consumer : ConsumerEntry) (count : ℕ) (old new : Play) → Sends consumer count old new → Writes old.out new.out
+pub sends_write : (consumer : Entry) (count : ℕ) (old new : Play) → Sends consumer count old new → Writes old.out new.out
 sends_write consumer zero old new h = writes_same old new (ap (λ (p : Play). p.out) h)
 sends_write consumer (suc count) old new h =
     writes_both old.out h.0.out new.out (sends_write consumer count old h.0 h.1) ((speaks_says h.0.client new.client h.0.out new.out h.2.message h.2.says).writes)
 
 module _ (Refused : ReadError → Type 0) where
-  pub serves_writes : (consumer : ConsumerEntry) (most count : ℕ) (old new : Play) → Serves Refused consumer most count old new → Writes old.out new.out
+  pub serves_writes : (consumer : Entry) (most count : ℕ) (old new : Play) → Serves Refused consumer most count old new → Writes old.out new.out
   serves_writes consumer most count old new h =
       writes_both old.out h.sent.out new.out (sends_write consumer count old h.sent h.sends)
       (⊎_elim (λ same. writes_same h.sent new (ap (λ (p : Play). p.out) same)) (λ stops. ends_writes h.sent new _ stops.ends) h.stops)
 
-  pub serves_each_writes : (consumers : List ConsumerEntry) (most count : ℕ) (old new : Play) → ServesEach Refused consumers most count old new → Writes old.out new.out
+  pub serves_each_writes : (consumers : List Entry) (most count : ℕ) (old new : Play) → ServesEach Refused consumers most count old new → Writes old.out new.out
   serves_each_writes [] most count old new h = writes_same old new (ap (λ (p : Play). p.out) h.1)
   serves_each_writes (consumer ∷ consumers) most count old new h =
       writes_both old.out h.2.out new.out (serves_writes consumer most h.0 old h.2 h.3) (serves_each_writes consumers (most - h.0) h.1 h.2 new h.4)
 
-  pub serves_all_writes : (consumers : List ConsumerEntry) (most : ℕ) (result : Result ℕ PumpFault) (old new : Play) → ServesAll Refused consumers most result old new → Writes old.out new.out
+  pub serves_all_writes : (consumers : List Entry) (most : ℕ) (result : Result ℕ PumpFault) (old new : Play) → ServesAll Refused consumers most result old new → Writes old.out new.out
   serves_all_writes consumers most (Ok count) old new h = serves_each_writes consumers most count old new h
   serves_all_writes consumers most (Err why) old new h =
       writes_both old.out h.between.out new.out (serves_each_writes h.before most h.count old h.between h.served) (sends_write h.consumer h.until.count h.between new h.until.sends)

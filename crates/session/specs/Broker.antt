@@ -1,5 +1,5 @@
 -- The abstract broker as its sessions see it: topics by their numbers.
-use Rattle.std.specs.Prelude.{◌≡◌, ◌<◌, ◌≤◌, ℕ, Option, Some, None, List, [], ◌∷◌, ◌++◌, length, map, position, slice_index_or, slice_set, Result, Ok, Err}
+use Rattle.std.specs.Prelude.{◌≡◌, ◌<◌, ◌≤◌, ◌⊎◌, ℕ, Option, Some, None, List, [], ◌∷◌, ◌++◌, length, map, position, IfSome, slice_index_or, slice_set, Result, Ok, Err}
 use Rattle.std.specs.Str.{bytes_eq}
 use Rattle.std.specs.FinMap as each
 use Rattle.commands.specs.declared.reply.Reply.{Reply}
@@ -20,6 +20,7 @@ pub record Broker : Type 0 where
   pub per_ledger : ℕ  -- how many entry ids a ledger id has
   pub service_url : List ℕ  -- where clients find the broker
   pub names : List (List ℕ)  -- the name of each topic, by its number
+  pub doubtful : Option (List ℕ)  -- a name that is there or isn't: the device failed when its topic was made
   pub topics : List Topic
 
 -- a topic that nothing happened to yet
@@ -36,29 +37,60 @@ with_topic b number topic = record b { topics = slice_set b.topics number topic 
 
 -- the number of a name
 abbrev pub number_of : Broker → List ℕ → Option ℕ
-number_of b name = position (λ other. bytes_eq other name) b.names
+number_of b name = position (bytes_eq name) b.names
+
+-- nothing is in doubt any more
+abbrev pub sure : Broker → Broker
+sure b = record b { doubtful = None }
+
+-- whether this name is there is in doubt
+abbrev pub doubting : Broker → List ℕ → Broker
+doubting b name = record b { doubtful = Some name }
 
 -- a fresh topic more, the last one
 abbrev pub made : Broker → List ℕ → Broker
 made b name = record b { names = b.names ++ name ∷ []; topics = b.topics ++ fresh b.per_ledger ∷ [] }
 
--- by the number that the name has
+-- the name in doubt is settled: it is there, with a fresh topic, or it isn't
+abbrev pub Settles : Option (List ℕ) → Broker → Broker → Type 0
+Settles None old new = new ≡ old
+Settles (Some name) old new = (new ≡ sure old) ⊎ (new ≡ made (sure old) name)
+
+-- memory was refused, or the device failed
+abbrev pub IsOutage : Found → Type 0
+IsOutage (found.Topic number) = ⊥
+IsOutage found.TooMany = ⊥
+IsOutage found.NoMemory = Unit {0}
+IsOutage found.Failed = Unit {0}
+
+-- by the number that the name has, where no name is in doubt
 abbrev pub FindIn : Option ℕ → Broker → List ℕ → Found → Broker → Type 0
 FindIn there old name found.NoMemory new = new ≡ old
 FindIn (Some number) old name (found.Topic n) new = (n ≡ number) × (new ≡ old)
 FindIn (Some number) old name found.TooMany new = ⊥
+FindIn (Some number) old name found.Failed new = ⊥
 FindIn None old name (found.Topic n) new = (length old.topics < 64) × (n ≡ length old.topics) × (new ≡ made old name)
 FindIn None old name found.TooMany new = (64 ≤ length old.topics) × (new ≡ old)
+FindIn None old name found.Failed new = (length old.topics < 64) × ((new ≡ old) ⊎ (new ≡ doubting old name))
 
--- a name that is there has its number; another one gets the next number, unless sixty-four are there
+-- A search first settles the name in doubt, unless memory is refused or the device fails. A name that is there has its number;
+-- another one gets the next number, unless sixty-four are there.
 abbrev pub FindStep : Broker → List ℕ → Found → Broker → Type 0
-FindStep old name result new = FindIn (number_of old name) old name result new
+FindStep old name result new = (IsOutage result × (new ≡ old)) ⊎ ((settled : Broker) × Settles old.doubtful old settled × FindIn (number_of settled name) settled name result new)
 
 -- what a topic's number is, where one was found
 abbrev pub IfFound : Found → (ℕ → Type 0) → Type 0
 IfFound (found.Topic number) P = P number
 IfFound found.TooMany P = Unit {0}
 IfFound found.NoMemory P = Unit {0}
+IfFound found.Failed P = Unit {0}
+
+-- the cause of a search that failed
+abbrev pub IfFailed : Found → Type 0 → Type 0
+IfFailed (found.Topic number) P = Unit {0}
+IfFailed found.TooMany P = Unit {0}
+IfFailed found.NoMemory P = Unit {0}
+IfFailed found.Failed P = P
 
 -- a topic works a session's command; the other topics stay
 pub record CommandStep (old : Broker) (number who : ℕ) (command : TopicCommand) (answer : Answer) (new : Broker) : Type 0 where
@@ -98,6 +130,10 @@ SendsTo consumer_id (Err why) = Unit {0}
 -- the replies that a topic has due to a session
 abbrev pub due_at : Broker → ℕ → ℕ → List Reply
 due_at b number who = due_to who (topic_at b number).queues
+
+-- no topic from this number on, up to the next one where there is one, has something due to the session
+abbrev pub PassesOver : Broker → ℕ → ℕ → Option ℕ → Type 0
+PassesOver b who from next = (topic : ℕ) → from ≤ topic → IfSome next (λ n. topic < n) → due_at b topic who ≡ []
 
 abbrev pub collected_at : Broker → ℕ → ℕ → Reply → Broker
 collected_at b number who reply = with_topic b number (collected (topic_at b number) who reply)

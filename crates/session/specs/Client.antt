@@ -10,17 +10,16 @@ use Rattle.topic_core.specs.declared.command.Answer.{Answer}
 use Rattle.topic_core.specs.declared.command.Answer.TheVariants.{Now, Later, Nothing, NoMemory}
 use Rattle.topic_core.specs.declared.dispatch.Outgoing.{Outgoing}
 use Rattle.session.specs.Broker.{Broker, left_all}
-use Rattle.session.specs.declared.consumer_entry.ConsumerEntry.{ConsumerEntry}
+use Rattle.session.specs.declared.entry.Entry.{Entry}
 use Rattle.session.specs.declared.fault.Fault.{Fault}
 use Rattle.session.specs.declared.fault.Fault.TheVariants as fault
-use Rattle.session.specs.declared.producer_entry.ProducerEntry.{ProducerEntry}
 
 pub record Client : Type 0 where
   pub number : ℕ
   pub progress : Progress  -- where its stream of bytes stands
   pub connected : Bool  -- whether CONNECT came
-  pub producers : List ProducerEntry  -- the topic of each producer id
-  pub consumers : List ConsumerEntry  -- the topic of each consumer id, in rising id
+  pub producers : List Entry  -- the topic of each producer id
+  pub consumers : List Entry  -- the topic of each consumer id, in rising id
   pub fault : Option Fault  -- why it ended
 
 -- nothing has come

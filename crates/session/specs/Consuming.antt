@@ -1,7 +1,6 @@
 -- SUBSCRIBE, FLOW, ACK and UNSUBSCRIBE, as a session works them.
-use Rattle.std.specs.Prelude.{◌≡◌, ◌⊎◌, ℕ, Bool, true, false, not, ◌||◌, is_some, nat_eq, nat_lt, nat_le, Option, Some, None, Result, Ok, Err, List, ◌∷◌, [], length, filter, find}
-use Rattle.std.specs.Option.{option_map}
-use Rattle.std.specs.List.{list_any, insert, position_or_len}
+use Rattle.std.specs.Prelude.{◌≡◌, ◌⊎◌, ℕ, Bool, true, false, not, ◌||◌, is_some, nat_lt, nat_le, Option, Some, None, Result, Ok, Err, List, ◌∷◌, [], length, filter}
+use Rattle.std.specs.List.{insert, position_or_len}
 use Rattle.commands.specs.declared.consuming.Subscribe.{Subscribe}
 use Rattle.commands.specs.declared.consuming.Ack.{Ack}
 use Rattle.commands.specs.declared.consuming.Flow.{Flow}
@@ -10,7 +9,7 @@ use Rattle.commands.specs.declared.consuming.SubscriptionType.{SubscriptionType}
 use Rattle.commands.specs.declared.consuming.SubscriptionType.TheVariants as type
 use Rattle.commands.specs.declared.reply.Reply.TheVariants as reply
 use Rattle.commands.specs.declared.server_error.ServerError.{ServerError}
-use Rattle.commands.specs.declared.server_error.ServerError.TheVariants.{TooManyRequests, InvalidTopicName, NotAllowedError, ConsumerNotFound}
+use Rattle.commands.specs.declared.server_error.ServerError.TheVariants.{PersistenceError, TooManyRequests, InvalidTopicName, NotAllowedError, ConsumerNotFound}
 use Rattle.subscriptions.specs.declared.consumer.Mode.{Mode}
 use Rattle.subscriptions.specs.declared.consumer.Mode.TheVariants as mode
 use Rattle.subscriptions.specs.declared.consumer.TooManyPermits.{TooManyPermits}
@@ -19,27 +18,25 @@ use Rattle.topic_core.specs.declared.command.TopicCommand.TheVariants as topic_c
 use Rattle.topic_core.specs.declared.command.Answer.{Answer}
 use Rattle.topic_core.specs.declared.command.Answer.TheVariants.{Now, Later, Nothing, NoMemory}
 use Rattle.topic_core.specs.Steps.{has_consumer, first_standing}
+use Rattle.names.specs.Names.{is_topic_name}
 use Rattle.records.specs.Names.{is_subscription_name}
 use Rattle.session.specs.HashRanges.{ranges_of}
-use Rattle.session.specs.TopicName.{is_topic_name}
 use Rattle.session.specs.Broker.{Broker, topic_at, FindStep, CommandStep, GrantAt}
 use Rattle.session.specs.Client.{Client, Play, ended, Ends, SaysAlone, Answered}
 use Rattle.session.specs.Producing.{Asks}
+use Rattle.session.specs.Table.{has_entry, topic_of}
+use Rattle.session.specs.declared.entry.Entry.{Entry}
 use Rattle.session.specs.declared.fault.Fault.TheVariants as fault
 use Rattle.session.specs.declared.port.Found.{Found}
 use Rattle.session.specs.declared.port.Found.TheVariants as found
-use Rattle.session.specs.declared.consumer_entry.ConsumerEntry.{ConsumerEntry}
 
 -- the session still has this consumer on its topic
-abbrev pub is_live : Broker → ℕ → ConsumerEntry → Bool
-is_live b who entry = has_consumer (topic_at b entry.topic) who entry.consumer_id
+abbrev pub is_live : Broker → ℕ → Entry → Bool
+is_live b who entry = has_consumer (topic_at b entry.topic) who entry.id
 
 -- the session knows no more of the consumers that it doesn't have
 abbrev pub with_live_consumers : Play → Play
 with_live_consumers p = record p { client = record p.client { consumers = filter (is_live p.broker p.client.number) p.client.consumers } }
-
-abbrev pub has_entry : List ConsumerEntry → ℕ → Bool
-has_entry consumers id = list_any (λ entry. nat_eq entry.consumer_id id) consumers
 
 -- the mode of a subscription type
 abbrev pub mode_of : SubscriptionType → Mode
@@ -49,7 +46,7 @@ mode_of type.Failover = mode.Failover
 mode_of type.KeyShared = mode.KeyShared
 
 -- SUBSCRIBE: what the session refuses by itself, in order
-abbrev pub own_refusals : List ConsumerEntry → Subscribe → List (Bool × ServerError)
+abbrev pub own_refusals : List Entry → Subscribe → List (Bool × ServerError)
 own_refusals consumers asked =
     (has_entry consumers asked.consumer_id, NotAllowedError)
     ∷ (nat_le 64 (length consumers), TooManyRequests)
@@ -82,9 +79,9 @@ is_later Nothing = false
 is_later NoMemory = false
 
 -- the consumers, and one more behind those with a smaller id where it was accepted
-abbrev pub with_entry : List ConsumerEntry → Bool → ℕ → ℕ → List ConsumerEntry
+abbrev pub with_entry : List Entry → Bool → ℕ → ℕ → List Entry
 with_entry consumers false id topic = consumers
-with_entry consumers true id topic = insert consumers (position_or_len (λ entry. nat_lt id entry.consumer_id) consumers) (record { consumer_id = id; topic = topic })
+with_entry consumers true id topic = insert consumers (position_or_len (λ entry. nat_lt id entry.id) consumers) (record { id = id; topic = topic })
 
 abbrev pub with_consumer : Client → Bool → ℕ → ℕ → Client
 with_consumer c accepted id topic = record c { consumers = with_entry c.consumers accepted id topic }
@@ -96,33 +93,30 @@ pub record Subscribes (old : Play) (topic : ℕ) (asked : Subscribe) (new : Play
   pub step : CommandStep old.broker topic old.client.number (subscribe_command asked named) answer new.broker
   pub answered : Answered (with_consumer old.client (is_later answer) asked.consumer_id topic) old.out answer new.client new.out
 
--- once its topic was looked for; want of memory may end the session before the topic works anything
-abbrev pub FoundStep : Play → Subscribe → Found → Play → Type 0
-FoundStep old asked (found.Topic number) new = Subscribes old number asked new ⊎ Ends old fault.NoMemory new
-FoundStep old asked found.TooMany new = SaysAlone old (reply.Error asked.request_id TooManyRequests) new
-FoundStep old asked found.NoMemory new = Ends old fault.NoMemory new
+-- once its topic was looked for; want of memory may end the session before the topic works anything, and a search fails only where the device did
+abbrev pub FoundStep : Type 0 → Play → Subscribe → Found → Play → Type 0
+FoundStep Fails old asked (found.Topic number) new = Subscribes old number asked new ⊎ Ends old fault.NoMemory new
+FoundStep Fails old asked found.TooMany new = SaysAlone old (reply.Error asked.request_id TooManyRequests) new
+FoundStep Fails old asked found.NoMemory new = Ends old fault.NoMemory new
+FoundStep Fails old asked found.Failed new = Fails × SaysAlone old (reply.Error asked.request_id PersistenceError) new
 
--- the topic is found, or made, and asked
-pub record Finds (old : Play) (asked : Subscribe) (new : Play) : Type 0 where
+-- the topic is found, or made, and asked; want of memory may also end the session before it is looked for, as in a search
+pub record Finds (Fails : Type 0) (old : Play) (asked : Subscribe) (new : Play) : Type 0 where
   pub found : Found
   pub between : Broker
   pub finds : FindStep old.broker asked.topic found between
-  pub asks : FoundStep (record old { broker = between }) asked found new
+  pub asks : FoundStep Fails (record old { broker = between }) asked found new
 
-abbrev pub SubscribeIn : Option ServerError → Play → Subscribe → Play → Type 0
-SubscribeIn (Some error) old asked new = SaysAlone old (reply.Error asked.request_id error) new
-SubscribeIn None old asked new = Finds old asked new
+abbrev pub SubscribeIn : Type 0 → Option ServerError → Play → Subscribe → Play → Type 0
+SubscribeIn Fails (Some error) old asked new = SaysAlone old (reply.Error asked.request_id error) new
+SubscribeIn Fails None old asked new = Finds Fails old asked new
 
 -- SUBSCRIBE of a session that knows just the consumers that it has
-abbrev pub SubscribeOf : Play → Subscribe → Play → Type 0
-SubscribeOf old asked new = SubscribeIn (first_standing (own_refusals old.client.consumers asked)) old asked new
+abbrev pub SubscribeOf : Type 0 → Play → Subscribe → Play → Type 0
+SubscribeOf Fails old asked new = SubscribeIn Fails (first_standing (own_refusals old.client.consumers asked)) old asked new
 
-abbrev pub SubscribeStep : Play → Subscribe → Play → Type 0
-SubscribeStep old asked new = SubscribeOf (with_live_consumers old) asked new
-
--- the topic of a consumer id
-abbrev pub topic_of : List ConsumerEntry → ℕ → Option ℕ
-topic_of consumers id = option_map (λ entry. entry.topic) (find (λ entry. nat_eq entry.consumer_id id) consumers)
+abbrev pub SubscribeStep : Type 0 → Play → Subscribe → Play → Type 0
+SubscribeStep Fails old asked new = SubscribeOf Fails (with_live_consumers old) asked new
 
 -- permits beyond what a consumer may have in all end the session
 abbrev pub granting : Client → Result (Unit {0}) TooManyPermits → Client
@@ -151,7 +145,7 @@ RefusesAck (Some request) old id new = SaysAlone old (reply.AckResponse id (Some
 
 -- what a session hands to the topic
 abbrev pub ack_command : Ack → TopicCommand
-ack_command asked = topic_command.Ack (record { consumer_id = asked.consumer_id; ack_type = asked.ack_type; ids = asked.message_ids; request_id = asked.request_id })
+ack_command asked = topic_command.Ack asked
 
 abbrev pub AckIn : Option ℕ → Play → Ack → Play → Type 0
 AckIn None old asked new = RefusesAck asked.request_id old asked.consumer_id new
@@ -163,7 +157,7 @@ AckStep old asked new = AckIn (topic_of old.client.consumers asked.consumer_id) 
 
 -- what an UNSUBSCRIBE hands to the topic
 abbrev pub unsubscribe_command : Unsubscribe → TopicCommand
-unsubscribe_command asked = topic_command.Unsubscribe (record { consumer_id = asked.consumer_id; request_id = asked.request_id })
+unsubscribe_command asked = topic_command.Unsubscribe asked
 
 abbrev pub UnsubscribeIn : Option ℕ → Play → Unsubscribe → Play → Type 0
 UnsubscribeIn None old asked new = SaysAlone old (reply.Error asked.request_id ConsumerNotFound) new

@@ -8,11 +8,11 @@ use Rattle.topic_core.specs.declared.command.TopicCommand.{TopicCommand}
 use Rattle.topic_core.specs.declared.command.TopicCommand.TheVariants as topic_command
 use Rattle.session.specs.Client.{Play, SaysAlone}
 use Rattle.session.specs.Producing.{Asks}
-use Rattle.session.specs.Consuming.{topic_of}
+use Rattle.session.specs.Table.{topic_of}
 
 -- what a CLOSE_CONSUMER hands to the topic
 abbrev pub close_consumer_command : CloseConsumer → TopicCommand
-close_consumer_command asked = topic_command.CloseConsumer (record { consumer_id = asked.consumer_id; request_id = asked.request_id })
+close_consumer_command asked = topic_command.CloseConsumer asked
 
 abbrev pub CloseConsumerIn : Option ℕ → Play → CloseConsumer → Play → Type 0
 CloseConsumerIn None old asked new = SaysAlone old (reply.Error asked.request_id ConsumerNotFound) new
@@ -24,7 +24,7 @@ CloseConsumerStep old asked new = CloseConsumerIn (topic_of old.client.consumers
 
 -- what a REDELIVER hands to the topic
 abbrev pub redeliver_command : Redeliver → TopicCommand
-redeliver_command asked = topic_command.Redeliver (record { consumer_id = asked.consumer_id; ids = asked.message_ids })
+redeliver_command asked = topic_command.Redeliver asked
 
 abbrev pub RedeliverIn : Option ℕ → Play → Redeliver → Play → Type 0
 RedeliverIn None old asked new = new ≡ old

@@ -16,7 +16,7 @@ use Rattle.session.specs.Client.{Play, new_client, plain, Says, frames_of, AreBo
 use Rattle.session.specs.GivingBack.{CloseConsumerStep, RedeliverStep}
 use Rattle.session.specs.Working.{FrameStep, FeedStep}
 use Rattle.session.specs.Pumping.{HasNothingDue, AdmitsNothing, PumpStep}
-use Rattle.session.specs.declared.consumer_entry.ConsumerEntry.{ConsumerEntry}
+use Rattle.session.specs.declared.entry.Entry.{Entry}
 use Rattle.session.specs.declared.fault.Fault.{Fault}
 use Rattle.session.specs.declared.fault.Fault.TheVariants.{NoMemory}
 use Rattle.session.specs.declared.pumping.More.{More}
@@ -28,9 +28,16 @@ use Rattle.session.specs.declared.pumping.PumpFault.TheVariants.{Ended}
 abbrev pub AnyPump : Play → Result More PumpFault → Play → Type 0
 AnyPump old result new = PumpStep (λ why. Unit {0}) old result new
 
+-- a feed and a frame of it, whatever a search meets
+abbrev pub AnyFeed : Play → List ℕ → Result (Unit {0}) Fault → Play → Type 0
+AnyFeed old bytes result new = FeedStep (Unit {0}) old bytes result new
+
+abbrev pub AnyFrame : Play → Frame → Play → Type 0
+AnyFrame old frame new = FrameStep (Unit {0}) old frame new
+
 -- what goes out are frames, each whole
 abbrev pub FeedsWriteFrames : Type 0
-FeedsWriteFrames = (old : Play) (bytes : List ℕ) (result : Result (Unit {0}) Fault) (new : Play) → FeedStep old bytes result new → Writes old.out new.out
+FeedsWriteFrames = (old : Play) (bytes : List ℕ) (result : Result (Unit {0}) Fault) (new : Play) → AnyFeed old bytes result new → Writes old.out new.out
 
 abbrev pub PumpsWriteFrames : Type 0
 PumpsWriteFrames = (old : Play) (result : Result More PumpFault) (new : Play) → AnyPump old result new → Writes old.out new.out
@@ -48,14 +55,14 @@ abbrev pub PumpsServe : Type 0
 PumpsServe = (old new : Play) → AnyPump old (Ok No) new → AllByRecursion (λ consumer. AdmitsNothing consumer new) new.client.consumers
 
 -- the ids of the session's consumers rise
-abbrev pub AreRising : List ConsumerEntry → Type 0
+abbrev pub AreRising : List Entry → Type 0
 AreRising [] = Unit {0}
-AreRising (entry ∷ entries) = AllByRecursion (λ other. entry.consumer_id < other.consumer_id) entries × AreRising entries
+AreRising (entry ∷ entries) = AllByRecursion (λ other. entry.id < other.id) entries × AreRising entries
 
 -- so a pump serves them in rising id
 pub record ConsumersRise : Type 0 where
   pub start : (number : ℕ) → AreRising (new_client number).consumers
-  pub feed : (old : Play) (bytes : List ℕ) (result : Result (Unit {0}) Fault) (new : Play) → FeedStep old bytes result new → AreRising old.client.consumers → AreRising new.client.consumers
+  pub feed : (old : Play) (bytes : List ℕ) (result : Result (Unit {0}) Fault) (new : Play) → AnyFeed old bytes result new → AreRising old.client.consumers → AreRising new.client.consumers
   pub pump : (old : Play) (result : Result More PumpFault) (new : Play) → AnyPump old result new → AreRising old.client.consumers → AreRising new.client.consumers
 
 -- no topic has a producer or a consumer of the session, or a reply for it
@@ -67,7 +74,7 @@ pub record HasLeft (p : Play) : Type 0 where
 
 -- a session that a call ended has left
 abbrev pub EndedFeedsLeave : Type 0
-EndedFeedsLeave = (old : Play) (bytes : List ℕ) (why : Fault) (new : Play) → old.client.fault ≡ None → FeedStep old bytes (Err why) new → HasLeft new
+EndedFeedsLeave = (old : Play) (bytes : List ℕ) (why : Fault) (new : Play) → old.client.fault ≡ None → AnyFeed old bytes (Err why) new → HasLeft new
 
 abbrev pub EndedPumpsLeave : Type 0
 EndedPumpsLeave = (old : Play) (why : Fault) (new : Play) → old.client.fault ≡ None → AnyPump old (Err (Ended why)) new → HasLeft new
@@ -104,6 +111,6 @@ may_lack_memory (command.Other k) = false
 -- A frame ends its session for want of memory only where its command may. A REDELIVER leaves its session and the bytes out as they
 -- are, and of a CLOSE_CONSUMER the reply alone may find no memory: no topic answers either by want of memory.
 pub record WantOfMemoryIsNamed : Type 0 where
-  pub ends : (old : Play) (frame : Frame) (new : Play) → old.client.fault ≡ None → FrameStep old frame new → new.client.fault ≡ Some NoMemory → may_lack_memory frame.command ≡ true
+  pub ends : (old : Play) (frame : Frame) (new : Play) → old.client.fault ≡ None → AnyFrame old frame new → new.client.fault ≡ Some NoMemory → may_lack_memory frame.command ≡ true
   pub redeliver : (old : Play) (asked : Redeliver) (new : Play) → RedeliverStep old asked new → (new.client ≡ old.client) × (new.out ≡ old.out)
   pub close_consumer : (old : Play) (asked : CloseConsumer) (new : Play) → CloseConsumerStep old asked new → (reply : Reply) × Says old.client old.out (plain reply) new.client new.out

@@ -1,7 +1,7 @@
 pub mod Faults
-pub mod TopicName
 pub mod Broker
 pub mod Client
+pub mod Table
 pub mod Producing
 pub mod HashRanges
 pub mod Consuming

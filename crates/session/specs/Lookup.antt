@@ -4,7 +4,7 @@ use Rattle.commands.specs.declared.lookup.LookupTopic.{LookupTopic}
 use Rattle.commands.specs.declared.lookup.PartitionedTopicMetadata.{PartitionedTopicMetadata}
 use Rattle.commands.specs.declared.reply.Reply.TheVariants as reply
 use Rattle.commands.specs.declared.server_error.ServerError.TheVariants.{InvalidTopicName}
-use Rattle.session.specs.TopicName.{is_topic_name}
+use Rattle.names.specs.Names.{is_topic_name}
 use Rattle.session.specs.Client.{Play, SaysAlone}
 
 -- by whether a topic may have the name: this broker serves it

@@ -1,17 +1,16 @@
 -- PRODUCER, SEND and CLOSE_PRODUCER, as a session works them.
-use Rattle.std.specs.Prelude.{◌⊎◌, ℕ, Bool, true, false, not, nat_eq, nat_lt, nat_le, Option, Some, None, List, [], ◌∷◌, ◌++◌, length, filter, find, codes, if◌then◌else◌}
-use Rattle.std.specs.Option.{option_map}
-use Rattle.std.specs.List.{list_any}
+use Rattle.std.specs.Prelude.{◌⊎◌, ℕ, Bool, true, false, not, nat_eq, nat_lt, nat_le, Option, Some, None, List, [], ◌∷◌, ◌++◌, length, filter, codes, if◌then◌else◌}
 use Rattle.std.specs.Fmt.{decimal}
 use Rattle.commands.specs.declared.producing.Producer.{Producer}
 use Rattle.commands.specs.declared.producing.Send.{Send}
 use Rattle.commands.specs.declared.producing.CloseProducer.{CloseProducer}
 use Rattle.commands.specs.declared.reply.Reply.TheVariants as reply
 use Rattle.commands.specs.declared.server_error.ServerError.{ServerError}
-use Rattle.commands.specs.declared.server_error.ServerError.TheVariants.{TooManyRequests, InvalidTopicName, NotAllowedError}
+use Rattle.commands.specs.declared.server_error.ServerError.TheVariants.{PersistenceError, TooManyRequests, InvalidTopicName, NotAllowedError}
 use Rattle.frames.specs.declared.frame.FrameEntry.{FrameEntry}
 use Rattle.frames.specs.declared.plain_entry.PlainEntry.{PlainEntry as FramePlain}
 use Rattle.frames.specs.declared.frame.FrameEntry.TheVariants as behind
+use Rattle.names.specs.Names.{is_topic_name}
 use Rattle.topic_core.specs.declared.command.TopicCommand.{TopicCommand}
 use Rattle.topic_core.specs.declared.command.TopicCommand.TheVariants as topic_command
 use Rattle.topic_core.specs.declared.command.SentEntry.{SentEntry}
@@ -20,24 +19,21 @@ use Rattle.topic_core.specs.declared.command.SentEntry.TheVariants as sent
 use Rattle.topic_core.specs.declared.command.Answer.{Answer}
 use Rattle.topic_core.specs.declared.command.Answer.TheVariants.{Now, Later, Nothing, NoMemory}
 use Rattle.topic_core.specs.Steps.{has_producer, first_standing}
-use Rattle.session.specs.TopicName.{is_topic_name}
 use Rattle.session.specs.Broker.{Broker, topic_at, FindStep, CommandStep}
 use Rattle.session.specs.Client.{Client, Play, Ends, SaysAlone, Answered}
+use Rattle.session.specs.Table.{has_entry, topic_of}
+use Rattle.session.specs.declared.entry.Entry.{Entry}
 use Rattle.session.specs.declared.fault.Fault.TheVariants as fault
 use Rattle.session.specs.declared.port.Found.{Found}
 use Rattle.session.specs.declared.port.Found.TheVariants as found
-use Rattle.session.specs.declared.producer_entry.ProducerEntry.{ProducerEntry}
 
 -- the session still has this producer on its topic, open or closing
-abbrev pub is_live : Broker → ℕ → ProducerEntry → Bool
-is_live b who entry = has_producer (topic_at b entry.topic) who entry.producer_id
+abbrev pub is_live : Broker → ℕ → Entry → Bool
+is_live b who entry = has_producer (topic_at b entry.topic) who entry.id
 
 -- the session knows no more of the producers that it doesn't have
 abbrev pub with_live_producers : Play → Play
 with_live_producers p = record p { client = record p.client { producers = filter (is_live p.broker p.client.number) p.client.producers } }
-
-abbrev pub has_entry : List ProducerEntry → ℕ → Bool
-has_entry producers id = list_any (λ entry. nat_eq entry.producer_id id) producers
 
 -- how long a name is that was given
 abbrev pub given_len : Option (List ℕ) → ℕ
@@ -45,7 +41,7 @@ given_len None = 0
 given_len (Some name) = length name
 
 -- PRODUCER: what the session refuses by itself, in order
-abbrev pub own_refusals : List ProducerEntry → Producer → List (Bool × ServerError)
+abbrev pub own_refusals : List Entry → Producer → List (Bool × ServerError)
 own_refusals producers asked =
     (has_entry producers asked.producer_id, NotAllowedError)
     ∷ (nat_le 64 (length producers), TooManyRequests)
@@ -83,9 +79,9 @@ is_success Nothing = false
 is_success NoMemory = false
 
 -- the producers, and one more where it was accepted
-abbrev pub with_entry : List ProducerEntry → Bool → ℕ → ℕ → List ProducerEntry
+abbrev pub with_entry : List Entry → Bool → ℕ → ℕ → List Entry
 with_entry producers false id topic = producers
-with_entry producers true id topic = producers ++ record { producer_id = id; topic = topic } ∷ []
+with_entry producers true id topic = producers ++ record { id = id; topic = topic } ∷ []
 
 abbrev pub with_producer : Client → Bool → ℕ → ℕ → Client
 with_producer c accepted id topic = record c { producers = with_entry c.producers accepted id topic }
@@ -96,33 +92,30 @@ pub record Opens (old : Play) (topic : ℕ) (asked : Producer) (new : Play) : Ty
   pub step : CommandStep old.broker topic old.client.number (producer_command old.client.number asked) answer new.broker
   pub answered : Answered (with_producer old.client (is_success answer) asked.producer_id topic) old.out answer new.client new.out
 
--- once its topic was looked for; want of memory may end the session before the topic works anything
-abbrev pub FoundStep : Play → Producer → Found → Play → Type 0
-FoundStep old asked (found.Topic number) new = Opens old number asked new ⊎ Ends old fault.NoMemory new
-FoundStep old asked found.TooMany new = SaysAlone old (reply.Error asked.request_id TooManyRequests) new
-FoundStep old asked found.NoMemory new = Ends old fault.NoMemory new
+-- once its topic was looked for; want of memory may end the session before the topic works anything, and a search fails only where the device did
+abbrev pub FoundStep : Type 0 → Play → Producer → Found → Play → Type 0
+FoundStep Fails old asked (found.Topic number) new = Opens old number asked new ⊎ Ends old fault.NoMemory new
+FoundStep Fails old asked found.TooMany new = SaysAlone old (reply.Error asked.request_id TooManyRequests) new
+FoundStep Fails old asked found.NoMemory new = Ends old fault.NoMemory new
+FoundStep Fails old asked found.Failed new = Fails × SaysAlone old (reply.Error asked.request_id PersistenceError) new
 
--- the topic is found, or made, and asked
-pub record Finds (old : Play) (asked : Producer) (new : Play) : Type 0 where
+-- the topic is found, or made, and asked; want of memory may also end the session before it is looked for, as in a search
+pub record Finds (Fails : Type 0) (old : Play) (asked : Producer) (new : Play) : Type 0 where
   pub found : Found
   pub between : Broker
   pub finds : FindStep old.broker asked.topic found between
-  pub asks : FoundStep (record old { broker = between }) asked found new
+  pub asks : FoundStep Fails (record old { broker = between }) asked found new
 
-abbrev pub ProducerIn : Option ServerError → Play → Producer → Play → Type 0
-ProducerIn (Some error) old asked new = SaysAlone old (reply.Error asked.request_id error) new
-ProducerIn None old asked new = Finds old asked new
+abbrev pub ProducerIn : Type 0 → Option ServerError → Play → Producer → Play → Type 0
+ProducerIn Fails (Some error) old asked new = SaysAlone old (reply.Error asked.request_id error) new
+ProducerIn Fails None old asked new = Finds Fails old asked new
 
 -- PRODUCER of a session that knows just the producers that it has
-abbrev pub ProducerOf : Play → Producer → Play → Type 0
-ProducerOf old asked new = ProducerIn (first_standing (own_refusals old.client.producers asked)) old asked new
+abbrev pub ProducerOf : Type 0 → Play → Producer → Play → Type 0
+ProducerOf Fails old asked new = ProducerIn Fails (first_standing (own_refusals old.client.producers asked)) old asked new
 
-abbrev pub ProducerStep : Play → Producer → Play → Type 0
-ProducerStep old asked new = ProducerOf (with_live_producers old) asked new
-
--- the topic of a producer id
-abbrev pub topic_of : List ProducerEntry → ℕ → Option ℕ
-topic_of producers id = option_map (λ entry. entry.topic) (find (λ entry. nat_eq entry.producer_id id) producers)
+abbrev pub ProducerStep : Type 0 → Play → Producer → Play → Type 0
+ProducerStep Fails old asked new = ProducerOf Fails (with_live_producers old) asked new
 
 -- a readable entry, as a topic takes it
 abbrev pub plain_entry : FramePlain → PlainEntry
@@ -154,7 +147,7 @@ SendStep old asked entry new = SendIn (topic_of old.client.producers asked.produ
 
 -- what a CLOSE_PRODUCER hands to the topic
 abbrev pub close_command : CloseProducer → TopicCommand
-close_command asked = topic_command.CloseProducer (record { producer_id = asked.producer_id; request_id = asked.request_id })
+close_command asked = topic_command.CloseProducer asked
 
 abbrev pub CloseIn : Option ℕ → Play → CloseProducer → Play → Type 0
 CloseIn None old asked new = SaysAlone old (reply.Error asked.request_id NotAllowedError) new

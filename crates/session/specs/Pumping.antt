@@ -8,7 +8,7 @@ use Rattle.topic_core.specs.Steps.{key_of}
 use Rattle.topic_core.specs.Dispatch.{Admits}
 use Rattle.session.specs.Broker.{topic_at, due_at, CollectedAt, DispatchAt}
 use Rattle.session.specs.Client.{Play, plain, Says, Ends, left_if_ended}
-use Rattle.session.specs.declared.consumer_entry.ConsumerEntry.{ConsumerEntry}
+use Rattle.session.specs.declared.entry.Entry.{Entry}
 use Rattle.session.specs.declared.fault.Fault.{Fault}
 use Rattle.session.specs.declared.fault.Fault.TheVariants as fault
 use Rattle.session.specs.declared.pumping.More.{More}
@@ -43,20 +43,20 @@ abbrev pub HasNothingDue : Play → Type 0
 HasNothingDue p = (topic : ℕ) → due_at p.broker topic p.client.number ≡ []
 
 -- a message for the consumer of a session that hasn't ended goes out, or finds no memory; it then counts as sent
-pub record SendsOne (consumer : ConsumerEntry) (old new : Play) : Type 0 where
+pub record SendsOne (consumer : Entry) (old new : Play) : Type 0 where
   pub goes_on : old.client.fault ≡ None
   pub message : Outgoing
-  pub takes : DispatchAt old.broker consumer.topic old.client.number consumer.consumer_id (Ok (Some message)) new.broker
+  pub takes : DispatchAt old.broker consumer.topic old.client.number consumer.id (Ok (Some message)) new.broker
   pub says : Says old.client old.out message new.client new.out
 
 -- so many messages for one consumer
-abbrev pub Sends : ConsumerEntry → ℕ → Play → Play → Type 0
+abbrev pub Sends : Entry → ℕ → Play → Play → Type 0
 Sends consumer zero old new = new ≡ old
 Sends consumer (suc count) old new = (between : Play) × Sends consumer count old between × SendsOne consumer between new
 
 -- the consumer's topic admits no position for it
-abbrev pub AdmitsNothing : ConsumerEntry → Play → Type 0
-AdmitsNothing consumer p = (i : ℕ) → Admits (topic_at p.broker consumer.topic) (key_of p.client.number consumer.consumer_id) i → ⊥
+abbrev pub AdmitsNothing : Entry → Play → Type 0
+AdmitsNothing consumer p = (i : ℕ) → Admits (topic_at p.broker consumer.topic) (key_of p.client.number consumer.id) i → ⊥
 
 -- a fault of the session comes first
 abbrev pub pump_result : Option Fault → ℕ → Result ℕ PumpFault → Result More PumpFault
@@ -89,11 +89,11 @@ module _ (Refused : ReadError → Type 0) where
     pub ends : Ends old fault.NoMemory new
 
   -- there is no message for the consumer: nothing is admitted, or the broker refuses one for want of memory
-  abbrev pub SendsNothing : ConsumerEntry → Play → Play → Type 0
+  abbrev pub SendsNothing : Entry → Play → Play → Type 0
   SendsNothing consumer old new = (AdmitsNothing consumer old × (new ≡ old)) ⊎ FindsNoMemory old new
 
   -- one consumer gets messages until nothing is admitted, up to a bound, or until the session ends
-  pub record Serves (consumer : ConsumerEntry) (most count : ℕ) (old new : Play) : Type 0 where
+  pub record Serves (consumer : Entry) (most count : ℕ) (old new : Play) : Type 0 where
     pub sent : Play
     pub sends : Sends consumer count old sent
     pub within : count ≤ most
@@ -101,14 +101,14 @@ module _ (Refused : ReadError → Type 0) where
     pub all : new.client.fault ≡ None → count < most → AdmitsNothing consumer new
 
   -- one consumer after another, with so many messages together at most
-  abbrev pub ServesEach : List ConsumerEntry → ℕ → ℕ → Play → Play → Type 0
+  abbrev pub ServesEach : List Entry → ℕ → ℕ → Play → Play → Type 0
   ServesEach [] most count old new = (count ≡ 0) × (new ≡ old)
   ServesEach (consumer ∷ consumers) most count old new =
       (first : ℕ) × (rest : ℕ) × (between : Play) × Serves consumer most first old between × ServesEach consumers (most - first) rest between new × (count ≡ first + rest)
 
   -- one consumer gets messages until the broker refuses one, since the device failed in reading it; that changes nothing, and no
   -- file is ever damaged
-  pub record ServesUntil (consumer : ConsumerEntry) (most : ℕ) (why : PumpFault) (old new : Play) : Type 0 where
+  pub record ServesUntil (consumer : Entry) (most : ℕ) (why : PumpFault) (old new : Play) : Type 0 where
     pub count : ℕ
     pub sends : Sends consumer count old new
     pub within : count < most
@@ -117,22 +117,22 @@ module _ (Refused : ReadError → Type 0) where
     pub refused : Refused read.Device
 
   -- one consumer gets so many messages, or messages until the device fails
-  abbrev pub ServesOne : ConsumerEntry → ℕ → Result ℕ PumpFault → Play → Play → Type 0
+  abbrev pub ServesOne : Entry → ℕ → Result ℕ PumpFault → Play → Play → Type 0
   ServesOne consumer most (Ok count) old new = Serves consumer most count old new
   ServesOne consumer most (Err why) old new = ServesUntil consumer most why old new
 
   -- one consumer after another is served, until the device fails for one of them
-  pub record ServesEachUntil (consumers : List ConsumerEntry) (most : ℕ) (why : PumpFault) (old new : Play) : Type 0 where
-    pub before : List ConsumerEntry
-    pub consumer : ConsumerEntry
-    pub behind : List ConsumerEntry
+  pub record ServesEachUntil (consumers : List Entry) (most : ℕ) (why : PumpFault) (old new : Play) : Type 0 where
+    pub before : List Entry
+    pub consumer : Entry
+    pub behind : List Entry
     pub are : consumers ≡ before ++ consumer ∷ behind
     pub count : ℕ
     pub between : Play
     pub served : ServesEach before most count old between
     pub until : ServesUntil consumer (most - count) why between new
 
-  abbrev pub ServesAll : List ConsumerEntry → ℕ → Result ℕ PumpFault → Play → Play → Type 0
+  abbrev pub ServesAll : List Entry → ℕ → Result ℕ PumpFault → Play → Play → Type 0
   ServesAll consumers most (Ok count) old new = ServesEach consumers most count old new
   ServesAll consumers most (Err why) old new = ServesEachUntil consumers most why old new
 

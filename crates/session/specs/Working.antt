@@ -16,23 +16,23 @@ use Rattle.session.specs.Lookup.{LookupStep, PartitionsStep}
 use Rattle.session.specs.declared.fault.Fault.{Fault}
 use Rattle.session.specs.declared.fault.Fault.TheVariants as fault
 
--- a command after CONNECT
-abbrev pub WorksCommand : Play → Command → FrameEntry → Play → Type 0
-WorksCommand old (command.Connect c) entry new = Ends old fault.OutOfTurn new
-WorksCommand old (command.Producer c) entry new = ProducerStep old c new
-WorksCommand old (command.Send c) entry new = SendStep old c entry new
-WorksCommand old (command.Subscribe c) entry new = SubscribeStep old c new
-WorksCommand old (command.Flow c) entry new = FlowStep old c new
-WorksCommand old (command.Ack c) entry new = AckStep old c new
-WorksCommand old (command.Unsubscribe c) entry new = UnsubscribeStep old c new
-WorksCommand old (command.CloseProducer c) entry new = CloseStep old c new
-WorksCommand old (command.CloseConsumer c) entry new = CloseConsumerStep old c new
-WorksCommand old command.Ping entry new = SaysAlone old reply.Pong new
-WorksCommand old command.Pong entry new = new ≡ old
-WorksCommand old (command.RedeliverUnacknowledgedMessages c) entry new = RedeliverStep old c new
-WorksCommand old (command.PartitionedMetadata c) entry new = PartitionsStep old c new
-WorksCommand old (command.Lookup c) entry new = LookupStep old c new
-WorksCommand old (command.Other k) entry new = Ends old fault.UnknownCommand new
+-- a command after CONNECT; a search fails only where the device did
+abbrev pub WorksCommand : Type 0 → Play → Command → FrameEntry → Play → Type 0
+WorksCommand Fails old (command.Connect c) entry new = Ends old fault.OutOfTurn new
+WorksCommand Fails old (command.Producer c) entry new = ProducerStep Fails old c new
+WorksCommand Fails old (command.Send c) entry new = SendStep old c entry new
+WorksCommand Fails old (command.Subscribe c) entry new = SubscribeStep Fails old c new
+WorksCommand Fails old (command.Flow c) entry new = FlowStep old c new
+WorksCommand Fails old (command.Ack c) entry new = AckStep old c new
+WorksCommand Fails old (command.Unsubscribe c) entry new = UnsubscribeStep old c new
+WorksCommand Fails old (command.CloseProducer c) entry new = CloseStep old c new
+WorksCommand Fails old (command.CloseConsumer c) entry new = CloseConsumerStep old c new
+WorksCommand Fails old command.Ping entry new = SaysAlone old reply.Pong new
+WorksCommand Fails old command.Pong entry new = new ≡ old
+WorksCommand Fails old (command.RedeliverUnacknowledgedMessages c) entry new = RedeliverStep old c new
+WorksCommand Fails old (command.PartitionedMetadata c) entry new = PartitionsStep old c new
+WorksCommand Fails old (command.Lookup c) entry new = LookupStep old c new
+WorksCommand Fails old (command.Other k) entry new = Ends old fault.UnknownCommand new
 
 abbrev pub connected_client : Client → Client
 connected_client c = record c { connected = true }
@@ -55,19 +55,19 @@ Connects old (command.PartitionedMetadata c) new = Ends old fault.OutOfTurn new
 Connects old (command.Lookup c) new = Ends old fault.OutOfTurn new
 Connects old (command.Other k) new = Ends old fault.UnknownCommand new
 
-abbrev pub FrameIn : Option Fault → Bool → Play → Frame → Play → Type 0
-FrameIn None true old frame new = WorksCommand old frame.command frame.entry new
-FrameIn None false old frame new = Connects old frame.command new
-FrameIn (Some why) connected old frame new = new ≡ old
+abbrev pub FrameIn : Type 0 → Option Fault → Bool → Play → Frame → Play → Type 0
+FrameIn Fails None true old frame new = WorksCommand Fails old frame.command frame.entry new
+FrameIn Fails None false old frame new = Connects old frame.command new
+FrameIn Fails (Some why) connected old frame new = new ≡ old
 
 -- one frame; a session that ended works none
-abbrev pub FrameStep : Play → Frame → Play → Type 0
-FrameStep old frame new = FrameIn old.client.fault old.client.connected old frame new
+abbrev pub FrameStep : Type 0 → Play → Frame → Play → Type 0
+FrameStep Fails old frame new = FrameIn Fails old.client.fault old.client.connected old frame new
 
 -- frames, in order
-abbrev pub FramesStep : Play → List Frame → Play → Type 0
-FramesStep old [] new = new ≡ old
-FramesStep old (frame ∷ frames) new = (between : Play) × FrameStep old frame between × FramesStep between frames new
+abbrev pub FramesStep : Type 0 → Play → List Frame → Play → Type 0
+FramesStep Fails old [] new = new ≡ old
+FramesStep Fails old (frame ∷ frames) new = (between : Play) × FrameStep Fails old frame between × FramesStep Fails between frames new
 
 -- the first fault ends the session
 abbrev pub first_fault : Option Fault → Result (Unit {0}) FrameFault → Option Fault
@@ -84,13 +84,13 @@ with_progress p progress = record p { client = record p.client { progress = prog
 
 -- the frames that are whole now are worked in order; then a fault that the bytes show ends the session.
 -- A session that has ended leaves each topic
-pub record Feeds (old : Play) (bytes : List ℕ) (new : Play) : Type 0 where
+pub record Feeds (Fails : Type 0) (old : Play) (bytes : List ℕ) (new : Play) : Type 0 where
   pub frames : List Frame
   pub read : Result (Unit {0}) FrameFault
   pub progress : Progress
   pub feeds : FeedsOn old.client.progress bytes [] frames read progress
   pub worked : Play
-  pub works : FramesStep (with_progress old progress) frames worked
+  pub works : FramesStep Fails (with_progress old progress) frames worked
   pub ends : new ≡ left_if_ended (ended_if read worked)
 
 -- a call answers the fault of a session that has ended
@@ -98,10 +98,10 @@ abbrev pub feed_result : Option Fault → Result (Unit {0}) Fault
 feed_result None = Ok tt
 feed_result (Some why) = Err why
 
-abbrev pub FeedIn : Option Fault → Play → List ℕ → Result (Unit {0}) Fault → Play → Type 0
-FeedIn None old bytes result new = Feeds old bytes new × (result ≡ feed_result new.client.fault)
-FeedIn (Some why) old bytes result new = (result ≡ Err why) × (new ≡ old)
+abbrev pub FeedIn : Type 0 → Option Fault → Play → List ℕ → Result (Unit {0}) Fault → Play → Type 0
+FeedIn Fails None old bytes result new = Feeds Fails old bytes new × (result ≡ feed_result new.client.fault)
+FeedIn Fails (Some why) old bytes result new = (result ≡ Err why) × (new ≡ old)
 
 -- bytes come; a session that ended works none of them
-abbrev pub FeedStep : Play → List ℕ → Result (Unit {0}) Fault → Play → Type 0
-FeedStep old bytes result new = FeedIn old.client.fault old bytes result new
+abbrev pub FeedStep : Type 0 → Play → List ℕ → Result (Unit {0}) Fault → Play → Type 0
+FeedStep Fails old bytes result new = FeedIn Fails old.client.fault old bytes result new

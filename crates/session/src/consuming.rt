@@ -1,22 +1,25 @@
-ghost use Rattle.std.specs.Prelude.{◌≡◌, ◌<◌, ◌≤◌, filter, nat_lt, position, IsSome, IfSome, OnOk, OnErr, vec_len, vec_capacity, length};
-ghost use Rattle.std.specs.List.{list_all, position_or_len};
+ghost use Rattle.std.specs.Prelude.{◌≡◌, ◌<◌, ◌≤◌, filter, nat_lt, position, Some, IsSome, IfSome, IfNone, OnOk, OnErr, vec_len, vec_capacity, length};
+ghost use Rattle.std.specs.List.{position_or_len};
 ghost use Rattle.commands.specs.declared.reply.Reply.TheVariants.{Error};
 ghost use Rattle.session.specs.declared.port.Found.TheVariants.{Topic};
 ghost use Rattle.topic_core.specs.Steps.{first_standing};
-ghost use Rattle.records.specs.Names.{is_name_byte, is_subscription_name};
 ghost use Rattle.session.specs.Broker.{Broker};
 ghost use Rattle.session.specs.Client.{Client, Play, play, plain, Says, Speaks};
 ghost use Rattle.session.specs.HashRanges.{ranges_of};
-ghost use Rattle.session.specs.Consuming.{is_live, has_entry, mode_of, own_refusals, IsNamed, subscribe_command, is_later, with_entry, Subscribes, FoundStep, SubscribeOf, SubscribeStep, topic_of, granting, FlowStep, RefusesAck, AckStep, UnsubscribeStep};
+ghost use Rattle.session.specs.Table.{topic_of, IsUnknown};
+ghost use Rattle.session.specs.Consuming.{is_live, mode_of, own_refusals, IsNamed, subscribe_command, is_later, with_entry, Subscribes, FoundStep, SubscribeOf, SubscribeStep, granting, FlowStep, RefusesAck, AckStep, UnsubscribeStep};
 
-use crate::consumer_entry::ConsumerEntry;
+use crate::entry::Entry;
 use crate::fault::Fault;
 use crate::hash_ranges::ranges_of;
 use crate::port::{Found, Port};
 use crate::session::Session;
-use crate::topic_name::is_topic_name;
+use crate::table::{has_entry, known_topic};
+use crate::topic_name::read_name;
 use commands::{Ack, Flow, Reply, ServerError, Subscribe, SubscriptionType, Unsubscribe};
 use holds::SlotRanges;
+use names::is_topic_name;
+use records::is_subscription_name;
 use std::alloc::AllocError;
 use subscriptions::{Mode, TooManyPermits};
 use topic_core::{Answer, TopicCommand};
@@ -24,16 +27,13 @@ use topic_core::{Answer, TopicCommand};
 /// Our own rule: a session has at most so many consumers.
 const MOST_CONSUMERS: usize = 64;
 
-/// Our own rule: a subscription's name has at most so many bytes.
-const LONGEST_NAME: usize = 255;
-
 impl Session {
     /// Works SUBSCRIBE ("PulsarApi.proto, CommandSubscribe").
     pub(crate) fn subscribe<P: Port>(&mut self, asked: Subscribe, port: &mut P, out: &mut Vec<u8>)
-        ensures step { P.sole port.old → SubscribeStep (play self.old (P.broker port.old) out.old.items) asked
+        ensures step { P.sole port.old → SubscribeStep (P.fails port.old port.new) (play self.old (P.broker port.old) out.old.items) asked
             (play self.new (P.broker port.new) out.new.items) }
         ensures speaks { Speaks self.old out.old.items self.new out.new.items }
-        ensures passes { P.passes port.old port.new }
+        ensures works { P.works port.old port.new }
     {
         forget_dead(&mut self.consumers, self.number, port);
         self.subscribe_new(asked, port, out)
@@ -41,18 +41,24 @@ impl Session {
 
     /// Works SUBSCRIBE, where the session knows just the consumers that it has.
     fn subscribe_new<P: Port>(&mut self, asked: Subscribe, port: &mut P, out: &mut Vec<u8>)
-        ensures step { P.sole port.old → SubscribeOf (play self.old (P.broker port.old) out.old.items) asked
+        ensures step { P.sole port.old → SubscribeOf (P.fails port.old port.new) (play self.old (P.broker port.old) out.old.items) asked
             (play self.new (P.broker port.new) out.new.items) }
         ensures speaks { Speaks self.old out.old.items self.new out.new.items }
-        ensures passes { P.passes port.old port.new }
+        ensures works { P.works port.old port.new }
     {
         if let Some(error) = self.own_consumer_refusal(&asked) {
             return self.refuse_consumer(asked.request_id, error, out);
         }
-        match port.find(asked.topic.as_str()) {
+        let Ok(name) = read_name(self.alloc, asked.topic.as_str()) else {
+            return self.end_by(Fault::NoMemory);
+        };
+        match port.find(&name) {
             Found::Topic(topic) => self.subscribe_on(topic, asked, port, out),
             Found::TooMany => {
                 self.refuse_consumer(asked.request_id, ServerError::TooManyRequests, out)
+            }
+            Found::Failed => {
+                self.refuse_consumer(asked.request_id, ServerError::PersistenceError, out)
             }
             Found::NoMemory => self.end_by(Fault::NoMemory),
         }
@@ -81,7 +87,7 @@ impl Session {
     )
         requires there { topic < P.count port.old }
         requires named { IsNamed asked }
-        ensures step { P.sole port.old → FoundStep (play self.old (P.broker port.old) out.old.items) asked (Topic topic)
+        ensures step { P.sole port.old → FoundStep (P.fails port.old port.new) (play self.old (P.broker port.old) out.old.items) asked (Topic topic)
             (play self.new (P.broker port.new) out.new.items) }
         ensures speaks { Speaks self.old out.old.items self.new out.new.items }
         ensures passes { P.passes port.old port.new }
@@ -121,10 +127,13 @@ impl Session {
         Ok(())
     }
 
-    pub(crate) fn consumer_topic(&self, consumer_id: u64) -> Option<u64>
-        ensures { result ≡ topic_of self.now.consumers consumer_id }
+    /// The topic of a consumer that the session has, where it is there.
+    pub(crate) fn consumer_topic<P: Port>(&self, consumer_id: u64, port: &P) -> Option<u64>
+        ensures topic { IfSome result (λ topic. topic_of self.now.consumers consumer_id ≡ Some topic) }
+        ensures there { IfSome result (λ topic. topic < P.count port.now) }
+        ensures unknown { IfNone result (IsUnknown self.now.consumers consumer_id (P.count port.now)) }
     {
-        topic_of(self.consumers.as_slice(), consumer_id)
+        known_topic(self.consumers.as_slice(), consumer_id, port)
     }
 
     /// Works FLOW ("PulsarApi.proto, CommandFlow").
@@ -134,12 +143,9 @@ impl Session {
         ensures speaks { Speaks self.old out.old.items self.new out.new.items }
         ensures passes { P.passes port.old port.new }
     {
-        let Some(topic) = self.consumer_topic(asked.consumer_id) else {
+        let Some(topic) = self.consumer_topic(asked.consumer_id, port) else {
             return;
         };
-        if topic >= port.topics() {
-            return;
-        }
         let granted = port.grant(
             topic,
             self.number(),
@@ -165,18 +171,10 @@ impl Session {
         ensures speaks { Speaks self.old out.old.items self.new out.new.items }
         ensures passes { P.passes port.old port.new }
     {
-        let Some(topic) = self.consumer_topic(asked.consumer_id) else {
+        let Some(topic) = self.consumer_topic(asked.consumer_id, port) else {
             return self.refuse_ack(asked.request_id, asked.consumer_id, out);
         };
-        if topic >= port.topics() {
-            return self.refuse_ack(asked.request_id, asked.consumer_id, out);
-        }
-        let command = TopicCommand::Ack(topic_core::Ack {
-            consumer_id: asked.consumer_id,
-            ack_type: asked.ack_type,
-            ids: asked.message_ids,
-            request_id: asked.request_id,
-        });
+        let command = TopicCommand::Ack(asked);
         let answer = port.command(topic, self.number, command);
         self.answer(&answer, out)
     }
@@ -211,77 +209,30 @@ impl Session {
         ensures speaks { Speaks self.old out.old.items self.new out.new.items }
         ensures passes { P.passes port.old port.new }
     {
-        let Some(topic) = self.consumer_topic(asked.consumer_id) else {
+        let Some(topic) = self.consumer_topic(asked.consumer_id, port) else {
             return self.refuse_consumer(asked.request_id, ServerError::ConsumerNotFound, out);
         };
-        if topic >= port.topics() {
-            return self.refuse_consumer(asked.request_id, ServerError::ConsumerNotFound, out);
-        }
-        let command = TopicCommand::Unsubscribe(topic_core::Unsubscribe {
-            consumer_id: asked.consumer_id,
-            request_id: asked.request_id,
-        });
+        let command = TopicCommand::Unsubscribe(asked);
         let answer = port.command(topic, self.number, command);
         self.answer(&answer, out)
     }
 }
 
 /// Whether the session still has this consumer on its topic.
-fn is_live<P: Port>(port: &P, who: u64, entry: &ConsumerEntry) -> bool
+fn is_live<P: Port>(port: &P, who: u64, entry: &Entry) -> bool
     ensures { P.sole port.now → result ≡ is_live (P.broker port.now) who entry.now }
 {
     if entry.topic >= port.topics() {
         return false;
     }
-    port.has_consumer(entry.topic, who, entry.consumer_id)
+    port.has_consumer(entry.topic, who, entry.id)
 }
 
 /// Drops the consumers that the session doesn't have any more.
-fn forget_dead<P: Port>(consumers: &mut Vec<ConsumerEntry>, who: u64, port: &P)
+fn forget_dead<P: Port>(consumers: &mut Vec<Entry>, who: u64, port: &P)
     ensures { P.sole port.now → consumers.new.items ≡ filter (is_live (P.broker port.now) who) consumers.old.items }
 {
     consumers.retain(|entry| is_live(port, who, entry));
-}
-
-fn has_entry(consumers: &[ConsumerEntry], consumer_id: u64) -> bool
-    ensures { result ≡ has_entry consumers.now consumer_id }
-{
-    consumers
-        .iter()
-        .any(|entry| entry.consumer_id == consumer_id)
-}
-
-fn topic_of(consumers: &[ConsumerEntry], consumer_id: u64) -> Option<u64>
-    ensures { result ≡ topic_of consumers.now consumer_id }
-{
-    consumers
-        .iter()
-        .find(|entry| entry.consumer_id == consumer_id)
-        .map(|entry| entry.topic)
-}
-
-/// Whether a byte may stand in the name of a subscription.
-fn is_name_byte(byte: u8) -> bool
-    ensures { result ≡ is_name_byte byte }
-{
-    match byte {
-        b'0'..=b'9' | b'A'..=b'Z' | b'a'..=b'z' | b'-' | b'_' | b'.' => true,
-        _ => false,
-    }
-}
-
-/// Whether all of these bytes may stand in the name of a subscription.
-fn are_name_bytes(bytes: &[u8]) -> bool
-    ensures { result ≡ list_all is_name_byte bytes.now }
-{
-    bytes.iter().all(|byte| is_name_byte(*byte))
-}
-
-/// Whether this is the name of a subscription.
-fn is_subscription_name(name: &str) -> bool
-    ensures { result ≡ is_subscription_name name.now }
-{
-    1 <= name.len() && name.len() <= LONGEST_NAME && are_name_bytes(name.as_bytes())
 }
 
 fn mode_of(kind: SubscriptionType) -> Mode
@@ -295,7 +246,7 @@ fn mode_of(kind: SubscriptionType) -> Mode
     }
 }
 
-fn own_refusal(consumers: &[ConsumerEntry], asked: &Subscribe) -> Option<ServerError>
+fn own_refusal(consumers: &[Entry], asked: &Subscribe) -> Option<ServerError>
     ensures { result ≡ first_standing (own_refusals consumers.now asked.now) }
 {
     if has_entry(consumers, asked.consumer_id) {
@@ -304,13 +255,13 @@ fn own_refusal(consumers: &[ConsumerEntry], asked: &Subscribe) -> Option<ServerE
     if consumers.len() >= MOST_CONSUMERS {
         return Some(ServerError::TooManyRequests);
     }
-    if !is_topic_name(asked.topic.as_str()) {
+    if !is_topic_name(asked.topic.as_str().as_bytes()) {
         return Some(ServerError::InvalidTopicName);
     }
     if !asked.durable || asked.start_message_id.is_some() {
         return Some(ServerError::NotAllowedError);
     }
-    if !is_subscription_name(asked.subscription.as_str()) {
+    if !is_subscription_name(asked.subscription.as_str().as_bytes()) {
         return Some(ServerError::NotAllowedError);
     }
     None
@@ -342,32 +293,36 @@ fn is_later(answer: &Answer) -> bool
 }
 
 /// Keeps the topic of a consumer that was accepted, for which there is room, behind those with a smaller id.
-fn keep(consumers: &mut Vec<ConsumerEntry>, accepted: bool, consumer_id: u64, topic: u64)
+fn keep(consumers: &mut Vec<Entry>, accepted: bool, consumer_id: u64, topic: u64)
     requires { vec_len consumers.old < vec_capacity consumers.old }
     ensures { consumers.new.items ≡ with_entry consumers.old.items accepted consumer_id topic }
 {
     if accepted {
         let place = place_of(consumers.as_slice(), consumer_id);
         consumers
-            .insert(place, ConsumerEntry { consumer_id, topic })
+            .insert(
+                place,
+                Entry {
+                    id: consumer_id,
+                    topic,
+                },
+            )
             .unwrap();
     }
 }
 
 /// How many of the first consumers have no greater id.
-fn place_of(consumers: &[ConsumerEntry], consumer_id: u64) -> usize
-    ensures place { result ≡ position_or_len (λ entry. nat_lt consumer_id entry.consumer_id) consumers.now }
+fn place_of(consumers: &[Entry], consumer_id: u64) -> usize
+    ensures place { result ≡ position_or_len (λ entry. nat_lt consumer_id entry.id) consumers.now }
     ensures within { result ≤ length consumers.now }
 {
     first_behind(consumers, consumer_id).unwrap_or(consumers.len())
 }
 
 /// Where the first consumer with a greater id stands.
-fn first_behind(consumers: &[ConsumerEntry], consumer_id: u64) -> Option<usize>
-    ensures place { result ≡ position (λ entry. nat_lt consumer_id entry.consumer_id) consumers.now }
+fn first_behind(consumers: &[Entry], consumer_id: u64) -> Option<usize>
+    ensures place { result ≡ position (λ entry. nat_lt consumer_id entry.id) consumers.now }
     ensures within { IfSome result (λ place. place < length consumers.now) }
 {
-    consumers
-        .iter()
-        .position(|entry| consumer_id < entry.consumer_id)
+    consumers.iter().position(|entry| consumer_id < entry.id)
 }

@@ -20,16 +20,10 @@ impl Session {
         ensures speaks { Speaks self.old out.old.items self.new out.new.items }
         ensures passes { P.passes port.old port.new }
     {
-        let Some(topic) = self.consumer_topic(asked.consumer_id) else {
+        let Some(topic) = self.consumer_topic(asked.consumer_id, port) else {
             return self.refuse_consumer(asked.request_id, ServerError::ConsumerNotFound, out);
         };
-        if topic >= port.topics() {
-            return self.refuse_consumer(asked.request_id, ServerError::ConsumerNotFound, out);
-        }
-        let command = TopicCommand::CloseConsumer(topic_core::CloseConsumer {
-            consumer_id: asked.consumer_id,
-            request_id: asked.request_id,
-        });
+        let command = TopicCommand::CloseConsumer(asked);
         let answer = port.command(topic, self.number, command);
         self.answer(&answer, out)
     }
@@ -41,16 +35,10 @@ impl Session {
         ensures speaks { Speaks self.old out.old.items self.new out.new.items }
         ensures passes { P.passes port.old port.new }
     {
-        let Some(topic) = self.consumer_topic(asked.consumer_id) else {
+        let Some(topic) = self.consumer_topic(asked.consumer_id, port) else {
             return;
         };
-        if topic >= port.topics() {
-            return;
-        }
-        let command = TopicCommand::Redeliver(topic_core::Redeliver {
-            consumer_id: asked.consumer_id,
-            ids: asked.message_ids,
-        });
+        let command = TopicCommand::Redeliver(asked);
         let answer = port.command(topic, self.number, command);
         self.answer(&answer, out)
     }

@@ -4,29 +4,27 @@
 //! until none is left, and then hands out messages for its consumers until none is admitted, each up to a bound.
 #![tactic(auto)]
 
-mod consumer_entry;
 mod consuming;
+mod entry;
 mod fault;
 mod giving_back;
 mod hash_ranges;
 mod laws;
 mod lookup;
 mod port;
-mod producer_entry;
 mod producing;
 mod pumping;
 mod session;
+mod table;
 mod topic_name;
 mod working;
 
-pub use consumer_entry::ConsumerEntry;
+pub use entry::Entry;
 pub use fault::Fault;
 pub use laws::{
     consumers_rise, ended_sessions_leave, lost_replies_are_absorbed, pumps_finish, pumps_serve,
     want_of_memory_is_named, writes_whole_frames,
 };
 pub use port::{Found, Port};
-pub use producer_entry::ProducerEntry;
 pub use pumping::{More, PumpFault};
 pub use session::Session;
-pub use topic_name::{SERVED_TOPIC, is_topic_name};

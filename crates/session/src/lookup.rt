@@ -6,8 +6,8 @@ ghost use Rattle.session.specs.Lookup.{LookupStep, PartitionsStep};
 use crate::fault::Fault;
 use crate::port::Port;
 use crate::session::Session;
-use crate::topic_name::is_topic_name;
 use commands::{LookupTopic, PartitionedTopicMetadata, Reply, ReplyText, ServerError};
+use names::is_topic_name;
 
 impl Session {
     /// Works LOOKUP ("PulsarApi.proto, CommandLookupTopic"). This broker serves each topic itself, and none is made.
@@ -17,7 +17,7 @@ impl Session {
         ensures speaks { Speaks self.old out.old.items self.new out.new.items }
     {
         let request_id = asked.request_id;
-        if !is_topic_name(asked.topic.as_str()) {
+        if !is_topic_name(asked.topic.as_str().as_bytes()) {
             let service_url = Err(ServerError::InvalidTopicName);
             return self.say(
                 &Reply::LookupResponse {
@@ -49,7 +49,7 @@ impl Session {
         ensures speaks { Speaks self.old out.old.items self.new out.new.items }
     {
         let request_id = asked.request_id;
-        let error = if is_topic_name(asked.topic.as_str()) {
+        let error = if is_topic_name(asked.topic.as_str().as_bytes()) {
             None
         } else {
             Some(ServerError::InvalidTopicName)

@@ -1,10 +1,10 @@
-ghost use Rattle.std.specs.Prelude.{◌≡◌, ◌<◌, ◌≤◌, ℕ, true, length, IfErr};
+ghost use Rattle.std.specs.Prelude.{◌≡◌, ◌<◌, ◌≤◌, ℕ, length, IfSome, IfErr};
 ghost use Rattle.gated_log.specs.declared.read_error.ReadError.{ReadError};
 ghost use Rattle.topic_core.specs.Steps.{has_producer, has_consumer, Fits};
-ghost use Rattle.session.specs.Broker.{Broker, topic_at, FindStep, IfFound, CommandStep, GrantAt, DispatchAt, SendsTo, CollectedAt, left_at};
-ghost use Rattle.session.specs.TopicName.{is_topic_name};
+ghost use Rattle.session.specs.Broker.{Broker, topic_at, FindStep, IfFound, IfFailed, CommandStep, GrantAt, DispatchAt, SendsTo, PassesOver, CollectedAt, left_at};
 
 use commands::Reply;
+use names::TopicName;
 use topic_core::{Answer, Outgoing, ReadError, TooManyPermits, TopicCommand};
 
 /// What looking for a topic gives.
@@ -14,8 +14,11 @@ pub enum Found {
     Topic(u64),
     /// The topic isn't there, and no other one may be made.
     TooMany,
-    /// Memory was refused, and nothing changed.
+    /// Memory was refused; at most the name in doubt was settled.
     NoMemory,
+    /// The device failed in this call, in looking for the topic or in making it; whether a topic of this name is there is settled
+    /// by the next search, or by a crash.
+    Failed,
 }
 
 /// What a session asks of a broker.
@@ -31,6 +34,12 @@ pub trait Port {
 
     /// What calls may do besides what they do to the abstract broker.
     ghost passes: { Self → Self → Type 0 };
+
+    /// What a search may do besides, and what calls may do around it: a topic that is made is written.
+    ghost works: { Self → Self → Type 0 };
+
+    /// The device failed between the two.
+    ghost fails: { Self → Self → Type 0 };
 
     /// A message was refused so between the two, and there is a cause for it.
     ghost refuses: { Self → ReadError → Self → Type 0 };
@@ -55,11 +64,11 @@ pub trait Port {
         ensures { sole self.now → result ≡ has_consumer (topic_at (broker self.now) topic) who consumer_id };
 
     /// The number of the topic of this name, which is made where it isn't there.
-    fn find(&mut self, name: &str) -> Found
-        requires named { is_topic_name name.now ≡ true }
+    fn find(&mut self, name: &TopicName) -> Found
         ensures step { sole self.old → FindStep (broker self.old) name.now result (broker self.new) }
         ensures there { IfFound result (λ number. number < count self.new) }
-        ensures passes { passes self.old self.new };
+        ensures failed { IfFailed result (fails self.old self.new) }
+        ensures works { works self.old self.new };
 
     /// Has a topic work a session's command.
     fn command(&mut self, topic: u64, who: u64, command: TopicCommand) -> Answer
@@ -93,6 +102,11 @@ pub trait Port {
         ensures refused { IfErr result (λ why. refuses self.old why self.new) }
         ensures passes { passes self.old self.new };
 
+    /// The first topic from this number on that may have something due to the session. Those that are passed over have nothing.
+    fn next_due(&self, who: u64, from: u64) -> Option<u64>
+        ensures there { IfSome result (λ topic. (from ≤ topic) × (topic < count self.now)) }
+        ensures passed_over { sole self.now → PassesOver (broker self.now) who from result };
+
     /// Takes the first reply that a topic has due to the session.
     fn collect(&mut self, topic: u64, who: u64) -> Option<Reply>
         requires { topic < count self.old }
@@ -110,6 +124,18 @@ pub trait Port {
     ghost passes_both: { (a b c : Self) → passes a b → passes b c → passes a c };
 
     ghost passes_sole: { (a b : Self) → passes a b → sole a → sole b };
+
+    ghost passes_works: { (a b : Self) → passes a b → works a b };
+
+    ghost works_both: { (a b c : Self) → works a b → works b c → works a c };
+
+    ghost works_sole: { (a b : Self) → works a b → sole a → sole b };
+
+    /// The count never falls.
+    ghost works_count: { (a b : Self) → works a b → count a ≤ count b };
+
+    /// A failure between two calls was one between an earlier one and a later one.
+    ghost fails_within: { (a b c d : Self) → works a b → works b c → works c d → fails b c → fails a d };
 
     /// What was refused between two calls was refused between an earlier one and a later one.
     ghost refuses_within: { (a b c d : Self) (why : ReadError) → passes a b → passes b c → passes c d → refuses b why c → refuses a why d };

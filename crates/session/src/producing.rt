@@ -1,18 +1,21 @@
-ghost use Rattle.std.specs.Prelude.{◌≡◌, ◌≤◌, ◌<◌, filter, IfOk, OnOk, OnErr, vec_len, vec_capacity, length};
+ghost use Rattle.std.specs.Prelude.{◌≡◌, ◌≤◌, ◌<◌, filter, Some, IfSome, IfNone, IfOk, OnOk, OnErr, vec_len, vec_capacity, length};
 ghost use Rattle.commands.specs.declared.reply.Reply.TheVariants.{Error, SendError};
 ghost use Rattle.commands.specs.declared.server_error.ServerError.TheVariants.{NotAllowedError};
 ghost use Rattle.session.specs.declared.port.Found.TheVariants.{Topic};
 ghost use Rattle.topic_core.specs.Steps.{first_standing};
 ghost use Rattle.session.specs.Client.{Client, Play, play, plain, Says, Answered, Speaks};
-ghost use Rattle.session.specs.Producing.{is_live, has_entry, given_len, own_refusals, own_name, name_for, producer_command, is_success, with_entry, with_live_producers, Opens, FoundStep, Finds, ProducerOf, ProducerStep, topic_of, plain_entry, sent_entry, send_command, SendStep, CloseStep};
+ghost use Rattle.session.specs.Table.{topic_of, IsUnknown};
+ghost use Rattle.session.specs.Producing.{is_live, given_len, own_refusals, own_name, name_for, producer_command, is_success, with_entry, with_live_producers, Opens, FoundStep, Finds, ProducerOf, ProducerStep, plain_entry, sent_entry, send_command, SendStep, CloseStep};
 
+use crate::entry::Entry;
 use crate::fault::Fault;
 use crate::port::{Found, Port};
-use crate::producer_entry::ProducerEntry;
 use crate::session::Session;
-use crate::topic_name::is_topic_name;
+use crate::table::{has_entry, known_topic};
+use crate::topic_name::read_name;
 use commands::{CloseProducer, Producer, Reply, ReplyText, Send, ServerError, Text};
 use frames::FrameEntry;
+use names::is_topic_name;
 use std::alloc::{AllocError, Global};
 use topic_core::{Answer, PlainEntry, SentEntry, TopicCommand};
 
@@ -25,10 +28,10 @@ const LONGEST_NAME: usize = 255;
 impl Session {
     /// Works PRODUCER ("PulsarApi.proto, CommandProducer").
     pub(crate) fn open<P: Port>(&mut self, asked: Producer, port: &mut P, out: &mut Vec<u8>)
-        ensures step { P.sole port.old → ProducerStep (play self.old (P.broker port.old) out.old.items) asked
+        ensures step { P.sole port.old → ProducerStep (P.fails port.old port.new) (play self.old (P.broker port.old) out.old.items) asked
             (play self.new (P.broker port.new) out.new.items) }
         ensures speaks { Speaks self.old out.old.items self.new out.new.items }
-        ensures passes { P.passes port.old port.new }
+        ensures works { P.works port.old port.new }
     {
         forget_dead(&mut self.producers, self.number, port);
         self.open_new(asked, port, out)
@@ -36,18 +39,24 @@ impl Session {
 
     /// Works PRODUCER, where the session knows just the producers that it has.
     fn open_new<P: Port>(&mut self, asked: Producer, port: &mut P, out: &mut Vec<u8>)
-        ensures step { P.sole port.old → ProducerOf (play self.old (P.broker port.old) out.old.items) asked
+        ensures step { P.sole port.old → ProducerOf (P.fails port.old port.new) (play self.old (P.broker port.old) out.old.items) asked
             (play self.new (P.broker port.new) out.new.items) }
         ensures speaks { Speaks self.old out.old.items self.new out.new.items }
-        ensures passes { P.passes port.old port.new }
+        ensures works { P.works port.old port.new }
     {
         if let Some(error) = self.own_refusal(&asked) {
             return self.refuse_producer(asked.request_id, error, out);
         }
-        match port.find(asked.topic.as_str()) {
+        let Ok(name) = read_name(self.alloc, asked.topic.as_str()) else {
+            return self.end_by(Fault::NoMemory);
+        };
+        match port.find(&name) {
             Found::Topic(topic) => self.open_on(topic, asked, port, out),
             Found::TooMany => {
                 self.refuse_producer(asked.request_id, ServerError::TooManyRequests, out)
+            }
+            Found::Failed => {
+                self.refuse_producer(asked.request_id, ServerError::PersistenceError, out)
             }
             Found::NoMemory => self.end_by(Fault::NoMemory),
         }
@@ -70,7 +79,7 @@ impl Session {
     fn open_on<P: Port>(&mut self, topic: u64, asked: Producer, port: &mut P, out: &mut Vec<u8>)
         requires there { topic < P.count port.old }
         requires short { given_len asked.producer_name ≤ 255 }
-        ensures step { P.sole port.old → FoundStep (play self.old (P.broker port.old) out.old.items) asked (Topic topic)
+        ensures step { P.sole port.old → FoundStep (P.fails port.old port.new) (play self.old (P.broker port.old) out.old.items) asked (Topic topic)
             (play self.new (P.broker port.new) out.new.items) }
         ensures speaks { Speaks self.old out.old.items self.new out.new.items }
         ensures passes { P.passes port.old port.new }
@@ -116,10 +125,13 @@ impl Session {
         Ok(())
     }
 
-    fn topic_of(&self, producer_id: u64) -> Option<u64>
-        ensures { result ≡ topic_of self.now.producers producer_id }
+    /// The topic of a producer that the session has, where it is there.
+    fn producer_topic<P: Port>(&self, producer_id: u64, port: &P) -> Option<u64>
+        ensures topic { IfSome result (λ topic. topic_of self.now.producers producer_id ≡ Some topic) }
+        ensures there { IfSome result (λ topic. topic < P.count port.now) }
+        ensures unknown { IfNone result (IsUnknown self.now.producers producer_id (P.count port.now)) }
     {
-        topic_of(self.producers.as_slice(), producer_id)
+        known_topic(self.producers.as_slice(), producer_id, port)
     }
 
     fn refuse_send(&mut self, asked: Send, out: &mut Vec<u8>)
@@ -152,12 +164,9 @@ impl Session {
         let Some(entry) = sent_entry(entry) else {
             return self.end_by(Fault::BadPayload);
         };
-        let Some(topic) = self.topic_of(asked.producer_id) else {
+        let Some(topic) = self.producer_topic(asked.producer_id, port) else {
             return self.refuse_send(asked, out);
         };
-        if topic >= port.topics() {
-            return self.refuse_send(asked, out);
-        }
         let command = TopicCommand::Send(topic_core::Send {
             producer_id: asked.producer_id,
             sequence_id: asked.sequence_id,
@@ -176,53 +185,30 @@ impl Session {
         ensures speaks { Speaks self.old out.old.items self.new out.new.items }
         ensures passes { P.passes port.old port.new }
     {
-        let Some(topic) = self.topic_of(asked.producer_id) else {
+        let Some(topic) = self.producer_topic(asked.producer_id, port) else {
             return self.refuse_producer(asked.request_id, ServerError::NotAllowedError, out);
         };
-        if port.topics() <= topic {
-            return self.refuse_producer(asked.request_id, ServerError::NotAllowedError, out);
-        }
-        let command = TopicCommand::CloseProducer(topic_core::CloseProducer {
-            producer_id: asked.producer_id,
-            request_id: asked.request_id,
-        });
+        let command = TopicCommand::CloseProducer(asked);
         let answer = port.command(topic, self.number, command);
         self.answer(&answer, out)
     }
 }
 
 /// Whether the session still has this producer on its topic.
-fn is_live<P: Port>(port: &P, who: u64, entry: &ProducerEntry) -> bool
+fn is_live<P: Port>(port: &P, who: u64, entry: &Entry) -> bool
     ensures { P.sole port.now → result ≡ is_live (P.broker port.now) who entry.now }
 {
     if entry.topic >= port.topics() {
         return false;
     }
-    port.has_producer(entry.topic, who, entry.producer_id)
+    port.has_producer(entry.topic, who, entry.id)
 }
 
 /// Drops the producers that the session doesn't have any more.
-fn forget_dead<P: Port>(producers: &mut Vec<ProducerEntry>, who: u64, port: &P)
+fn forget_dead<P: Port>(producers: &mut Vec<Entry>, who: u64, port: &P)
     ensures { P.sole port.now → producers.new.items ≡ filter (is_live (P.broker port.now) who) producers.old.items }
 {
     producers.retain(|entry| is_live(port, who, entry));
-}
-
-fn has_entry(producers: &[ProducerEntry], producer_id: u64) -> bool
-    ensures { result ≡ has_entry producers.now producer_id }
-{
-    producers
-        .iter()
-        .any(|entry| entry.producer_id == producer_id)
-}
-
-fn topic_of(producers: &[ProducerEntry], producer_id: u64) -> Option<u64>
-    ensures { result ≡ topic_of producers.now producer_id }
-{
-    producers
-        .iter()
-        .find(|entry| entry.producer_id == producer_id)
-        .map(|entry| entry.topic)
 }
 
 fn given_len(name: &Option<Text>) -> usize
@@ -234,7 +220,7 @@ fn given_len(name: &Option<Text>) -> usize
     }
 }
 
-fn own_refusal(producers: &[ProducerEntry], asked: &Producer) -> Option<ServerError>
+fn own_refusal(producers: &[Entry], asked: &Producer) -> Option<ServerError>
     ensures { result ≡ first_standing (own_refusals producers.now asked.now) }
 {
     if has_entry(producers, asked.producer_id) {
@@ -243,7 +229,7 @@ fn own_refusal(producers: &[ProducerEntry], asked: &Producer) -> Option<ServerEr
     if producers.len() >= MOST_PRODUCERS {
         return Some(ServerError::TooManyRequests);
     }
-    if !is_topic_name(asked.topic.as_str()) {
+    if !is_topic_name(asked.topic.as_str().as_bytes()) {
         return Some(ServerError::InvalidTopicName);
     }
     if given_len(&asked.producer_name) > LONGEST_NAME {
@@ -303,13 +289,16 @@ fn is_success(answer: &Answer) -> bool
 }
 
 /// Keeps the topic of a producer that was accepted, for which there is room.
-fn keep(producers: &mut Vec<ProducerEntry>, accepted: bool, producer_id: u64, topic: u64)
+fn keep(producers: &mut Vec<Entry>, accepted: bool, producer_id: u64, topic: u64)
     requires { vec_len producers.old < vec_capacity producers.old }
     ensures { producers.new.items ≡ with_entry producers.old.items accepted producer_id topic }
 {
     if accepted {
         producers
-            .push(ProducerEntry { producer_id, topic })
+            .push(Entry {
+                id: producer_id,
+                topic,
+            })
             .unwrap();
     }
 }

@@ -4,7 +4,7 @@ ghost use Rattle.session.specs.Broker.{due_at, topic_at};
 ghost use Rattle.session.specs.Client.{Client, Play, play, Speaks, Writes};
 ghost use Rattle.session.specs.Pumping.{CollectsFrom, CollectsNothing, CollectsAt, Collects, HasNothingDue, SendsOne, SendsNothing, ServesOne, ServesAll, ServesIf, PumpStep, IsTold, ended_by, pumped_fault};
 
-use crate::consumer_entry::ConsumerEntry;
+use crate::entry::Entry;
 use crate::fault::Fault;
 use crate::port::Port;
 use crate::session::Session;
@@ -72,7 +72,7 @@ impl Session {
         }
     }
 
-    /// Collects what each topic has due, and gives how many replies.
+    /// Collects what each topic has due, and gives how many replies. It asks only the topics that may have something due.
     fn collect_all<P: Port>(&mut self, port: &mut P, out: &mut Vec<u8>) -> usize
         requires { self.old.fault ≡ None }
         ensures most { result ≤ 65536 }
@@ -84,8 +84,13 @@ impl Session {
         ensures passes { P.passes port.old port.new }
     {
         let mut count = 0;
-        for topic in 0..port.topics() {
+        let mut from = 0;
+        while from < port.topics() {
+            let Some(topic) = port.next_due(self.number(), from) else {
+                return count;
+            };
             count += self.collect_topic(topic, MOST_REPLIES - count, port, out);
+            from = topic + 1;
         }
         count
     }
@@ -175,7 +180,7 @@ impl Session {
     /// Sends messages to a consumer, at most so many, and gives how many.
     fn serve<P: Port>(
         &mut self,
-        consumer: ConsumerEntry,
+        consumer: Entry,
         room: usize,
         port: &mut P,
         out: &mut Vec<u8>,
@@ -205,7 +210,7 @@ impl Session {
     /// Sends a message to a consumer, and answers whether there was one. A failure of the device changes nothing.
     fn serve_one<P: Port>(
         &mut self,
-        consumer: ConsumerEntry,
+        consumer: Entry,
         port: &mut P,
         out: &mut Vec<u8>,
     ) -> Result<bool, PumpFault>
@@ -223,7 +228,7 @@ impl Session {
         ensures speaks { Speaks self.old out.old.items self.new out.new.items }
         ensures passes { P.passes port.old port.new }
     {
-        match port.dispatch(consumer.topic, self.number(), consumer.consumer_id) {
+        match port.dispatch(consumer.topic, self.number(), consumer.id) {
             Ok(Some(message)) => {
                 self.hand_out(&message, out);
                 Ok(true)

@@ -2,10 +2,9 @@ ghost use Rattle.std.specs.Prelude.{◌≡◌, ◌<◌, ◌≤◌, is_some, leng
 ghost use Rattle.session.specs.Broker.{left_all};
 ghost use Rattle.session.specs.Client.{Client, new_client, ended, left_if, plain, Says, Answered, Speaks};
 
-use crate::consumer_entry::ConsumerEntry;
+use crate::entry::Entry;
 use crate::fault::Fault;
 use crate::port::Port;
-use crate::producer_entry::ProducerEntry;
 use commands::Reply;
 use frames::{Parser, write_frame};
 use std::alloc::Global;
@@ -20,8 +19,8 @@ pub struct Session {
     pub(crate) number: u64,
     pub(crate) parser: Parser,
     pub(crate) connected: bool,
-    pub(crate) producers: Vec<ProducerEntry>,
-    pub(crate) consumers: Vec<ConsumerEntry>,
+    pub(crate) producers: Vec<Entry>,
+    pub(crate) consumers: Vec<Entry>,
     pub(crate) fault: Option<Fault>,
 }
 

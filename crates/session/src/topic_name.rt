@@ -1,12 +1,17 @@
-ghost use Rattle.std.specs.Prelude.{◌≡◌};
-ghost use Rattle.session.specs.TopicName.{is_topic_name};
+ghost use Rattle.std.specs.Prelude.{◌≡◌, true, IfOk};
+ghost use Rattle.names.specs.Names.{is_topic_name};
 
-/// The topic that is served.
-pub const SERVED_TOPIC: &str = "persistent://a/b/c";
+use names::{NameFault, TopicName};
+use std::alloc::{AllocError, Global};
 
-/// Whether this is the name of a topic. Our own rule: there is one, for now.
-pub fn is_topic_name(name: &str) -> bool
-    ensures { result ≡ is_topic_name name.now }
+/// The name of a topic, where the text was found to be one.
+pub(crate) fn read_name(alloc: Global, text: &str) -> Result<TopicName, AllocError>
+    requires { is_topic_name text.now ≡ true }
+    ensures { IfOk result (λ name. name ≡ text.now) }
 {
-    name == SERVED_TOPIC
+    match TopicName::read(alloc, text.as_bytes()) {
+        Ok(name) => Ok(name),
+        Err(NameFault::NoMemory) => Err(AllocError),
+        Err(NameFault::Bad) => unreachable!(),
+    }
 }

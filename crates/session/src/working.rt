@@ -17,7 +17,7 @@ impl Session {
         port: &mut P,
         out: &mut Vec<u8>,
     ) -> Result<(), Fault>
-        ensures step { P.sole port.old → FeedStep (play self.old (P.broker port.old) out.old.items) bytes.now result
+        ensures step { P.sole port.old → FeedStep (P.fails port.old port.new) (play self.old (P.broker port.old) out.old.items) bytes.now result
             (play self.new (P.broker port.new) out.new.items) }
 
         // Whoever else uses the broker:
@@ -25,7 +25,7 @@ impl Session {
         ensures ended { IfSome self.old.fault (λ why. (self.new ≡ self.old) × (out.new.items ≡ out.old.items)) }
         ensures number { self.new.number ≡ self.old.number }
         ensures writes { Writes out.old.items out.new.items }
-        ensures passes { P.passes port.old port.new }
+        ensures works { P.works port.old port.new }
     {
         if let Some(why) = self.fault {
             return Err(why);
@@ -53,10 +53,10 @@ impl Session {
     }
 
     fn work_all<P: Port>(&mut self, frames: Vec<Frame>, port: &mut P, out: &mut Vec<u8>)
-        ensures step { P.sole port.old → FramesStep (play self.old (P.broker port.old) out.old.items) frames.items
+        ensures step { P.sole port.old → FramesStep (P.fails port.old port.new) (play self.old (P.broker port.old) out.old.items) frames.items
             (play self.new (P.broker port.new) out.new.items) }
         ensures speaks { Speaks self.old out.old.items self.new out.new.items }
-        ensures passes { P.passes port.old port.new }
+        ensures works { P.works port.old port.new }
     {
         for frame in frames {
             self.work(frame, port, out);
@@ -65,10 +65,10 @@ impl Session {
 
     /// Works a frame. A session that has ended works none.
     fn work<P: Port>(&mut self, frame: Frame, port: &mut P, out: &mut Vec<u8>)
-        ensures step { P.sole port.old → FrameStep (play self.old (P.broker port.old) out.old.items) frame
+        ensures step { P.sole port.old → FrameStep (P.fails port.old port.new) (play self.old (P.broker port.old) out.old.items) frame
             (play self.new (P.broker port.new) out.new.items) }
         ensures speaks { Speaks self.old out.old.items self.new out.new.items }
-        ensures passes { P.passes port.old port.new }
+        ensures works { P.works port.old port.new }
     {
         if self.fault.is_some() {
             return;
@@ -82,10 +82,10 @@ impl Session {
 
     /// Works a command after CONNECT.
     fn work_command<P: Port>(&mut self, frame: Frame, port: &mut P, out: &mut Vec<u8>)
-        ensures step { P.sole port.old → WorksCommand (play self.old (P.broker port.old) out.old.items) frame.command frame.entry
+        ensures step { P.sole port.old → WorksCommand (P.fails port.old port.new) (play self.old (P.broker port.old) out.old.items) frame.command frame.entry
             (play self.new (P.broker port.new) out.new.items) }
         ensures speaks { Speaks self.old out.old.items self.new out.new.items }
-        ensures passes { P.passes port.old port.new }
+        ensures works { P.works port.old port.new }
     {
         let Frame { command, entry } = frame;
         match command {

@@ -3,6 +3,7 @@
 // what they saw as plain values; the test drops them before it looks at these.
 mod board;
 mod feeding;
+mod looking;
 mod pumping;
 mod texts;
 
@@ -20,6 +21,14 @@ const PONG: &[u8] = b"\0\0\0\x09\0\0\0\x05\x08\x13\x9a\x01\0";
 const SUBSCRIBE: &[u8] =
     b"\0\0\0\x27\0\0\0\x23\x08\x04\x22\x1f\x0a\x12persistent://a/b/c\x12\x01s\x18\0\x20\x02\x28\x08\x68\x01";
 
+// SUBSCRIBE on what is no name of a topic.
+const SUBSCRIBE_ON_NO_TOPIC: &[u8] =
+    b"\0\0\0\x27\0\0\0\x23\x08\x04\x22\x1f\x0a\x12persistent://a/b/+\x12\x01s\x18\0\x20\x02\x28\x08\x68\x01";
+
+// ERROR of request 8 with InvalidTopicName.
+const NO_TOPIC: &[u8] =
+    b"\0\0\0\x1e\0\0\0\x1a\x08\x0e\x72\x16\x08\x08\x10\x11\x1a\x10InvalidTopicName";
+
 // A session, its broker and its bytes out.
 #[derive(Drop)]
 struct Stage {
@@ -29,7 +38,7 @@ struct Stage {
 }
 
 impl Stage {
-    // Of session 3, and of a broker with one topic.
+    // Of session 3, and of a broker without topics.
     fn new(alloc: Global) -> Stage {
         Stage {
             session: Session::new(alloc, 3),
@@ -53,6 +62,14 @@ impl Stage {
             }
         }
         Ok(steps.len())
+    }
+
+    // Gives the broker sixty-four topics; the name of the last one ends so.
+    fn fill(&mut self, last: u8) -> Result<(), Fault> {
+        match self.board.fill(last) {
+            Ok(()) => Ok(()),
+            Err(_) => Err(Fault::NoMemory),
+        }
     }
 
     // The fault that a feed ends in without a byte out, other than want of memory.

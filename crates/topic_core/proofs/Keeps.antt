@@ -14,7 +14,7 @@ use Rattle.std.specs.List.{find, list_all}
 use Rattle.std.proofs.lemmas.Bool.{eqb-true}
 use Rattle.records.specs.declared.record.Record.TheVariants.{Made}
 use Rattle.subscriptions.specs.declared.consumer.Mode.{Mode}
-use Rattle.topic_core.specs.declared.command.Ack.{Ack}
+use Rattle.commands.specs.declared.consuming.Ack.{Ack}
 use Rattle.commands.specs.declared.server_error.ServerError.{ServerError}
 use Rattle.topic_core.specs.declared.command.TopicCommand.{TopicCommand}
 use Rattle.topic_core.specs.declared.command.TopicCommand.TheVariants as command
@@ -179,9 +179,9 @@ outcome-keeps t who (command.Unsubscribe u) = either-keeps t (unsubscribe_refusa
     (λ kept is. kept-unsubscribed t who u none sound kept is) refl (changes-unsubscribed t who u none sound) (λ ledger is. is))
 outcome-keeps t who (command.CloseConsumer close) = either-keeps t (first_standing (detach_refusals t who close)) _ _ (λ none. detached-keeps t (key_of who close.consumer_id))
 outcome-keeps t who (command.Redeliver r) =
-    elim t.failed as (λ b. Keeps t (cond b t (record t { subs = subscriptions.redelivered t.subs (key_of who r.consumer_id) (asked_back t.per_ledger t.committed r.ids) }))) [
+    elim t.failed as (λ b. Keeps t (cond b t (record t { subs = subscriptions.redelivered t.subs (key_of who r.consumer_id) (asked_back t.per_ledger t.committed r.message_ids) }))) [
       | true ↦ still t
-      | false ↦ redelivered-keeps t (key_of who r.consumer_id) (asked_back t.per_ledger t.committed r.ids)
+      | false ↦ redelivered-keeps t (key_of who r.consumer_id) (asked_back t.per_ledger t.committed r.message_ids)
     ]
 
 to : (old a b : Topic) → a ≡ b → Keeps old b → Keeps old a

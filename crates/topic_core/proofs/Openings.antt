@@ -1,5 +1,9 @@
 -- A topic that was opened, or opened again, is sound.
-use Rattle.std.proofs.Common.{◌≡◌, ℕ, ◌^◌, ◌≤◌, ◌<◌, true, List, [], length, take, drop, nat_eq, ap, sym, subst, ◌∙◌, arith}
+use Rattle.std.proofs.Common.{◌≡◌, ℕ, ◌^◌, ◌≤◌, ◌<◌, true, Option, None, Some, is_some, List, [], ◌∷◌, length, take, drop, nat_eq, refl, ap, sym, subst, ◌∙◌, arith}
+use Rattle.std.specs.Ordering.{nat_cmp}
+use Rattle.std.specs.Cmp.Lexicographic.{slice_cmp}
+use Rattle.std.specs.FinMap as map
+use Rattle.cursor.specs.Positions.{Positions}
 use Rattle.std.specs.List.{AllByRecursion, IsDistinct}
 use Rattle.commands.specs.declared.reply.Reply.{Reply}
 use Rattle.records.specs.Maps.{Kept}
@@ -106,3 +110,26 @@ module _ (t : Topic) (ledger : List (List ℕ)) (slots : List ℕ) (kept : Kept)
             (all-both (HasReceipts n t.committed h w) (λ q. (q.pending ≡ []) × (q.handed_on ≤ length q.pending)) t.queues are.each (quiet was));
         single = λ k. are.single k;
       }
+
+-- ---- a topic that is made
+
+is_none : {X : Type 0} (o : Option X) → o ≡ None → is_some o ≡ true → ⊥
+is_none None is some = cc
+is_none (Some x) is some = cc
+
+-- no durable subscription is there yet
+pub none_durable : AreDurable map.empty
+none_durable = record {
+  few = omega (arith, map.len-empty (slice_cmp nat_cmp) Positions);
+  named = λ name there. absurd (is_none _ (map.get-empty (slice_cmp nat_cmp) name) there);
+}
+
+no_entries : {X : Type 0} (es : List X) → length es ≡ 0 → es ≡ []
+no_entries [] none = refl
+no_entries (e ∷ es) none = absurd (omega (arith, none))
+
+pub empty_subs : subscriptions.none_yet ≡ subscriptions.slotted (subscriptions.opened map.empty) []
+empty_subs =
+    let kept : Kept = map.empty in
+    let none : map.entries kept ≡ [] = no_entries (map.entries kept) (sym (map.len-entries kept) ∙ map.len-empty (slice_cmp nat_cmp) Positions) in
+    ap (λ (es : List (List ℕ × Positions)). subscriptions.slotted (subscriptions.opened_all es) []) (sym none)

@@ -15,6 +15,7 @@ mod durable;
 mod flush;
 mod found_entries;
 mod laws;
+mod making;
 mod opening;
 mod producer;
 mod redelivering;
@@ -22,10 +23,7 @@ mod slots;
 mod topic;
 mod unsubscribing;
 
-pub use command::{
-    Ack, Answer, CloseConsumer, CloseProducer, PlainEntry, Redeliver, Send, SentEntry, Subscribe,
-    TopicCommand, Unsubscribe,
-};
+pub use command::{Answer, PlainEntry, Send, SentEntry, Subscribe, TopicCommand};
 pub use dispatch::Outgoing;
 pub use laws::{
     answers_are_no_receipts, answers_fit, entries_are_published, flushes_commit, flushes_keep,

@@ -8,7 +8,7 @@ ghost use Rattle.std.specs.Prelude.{IfOk};
 ghost use Rattle.topic_core_tests.specs.Matching.{AreMatched};
 
 use bytes::Bytes;
-use commands::{AckType, InitialPosition, Reply, ReplyText, Sequence, Text, read_entry};
+use commands::{Ack, AckType, InitialPosition, Reply, ReplyText, Sequence, Text, read_entry};
 use disk_mem::MemShelf;
 use gated_log::Refusal;
 use holds::SlotRanges;
@@ -17,8 +17,7 @@ use records::is_subscription_name;
 use std::alloc::{AllocError, Global};
 use subscriptions::Mode;
 use topic_core::{
-    Ack, Answer, FileStores, PlainEntry, Send, SentEntry, Subscribe, TopicCommand, TopicCore,
-    TopicStore,
+    Answer, FileStores, PlainEntry, Send, SentEntry, Subscribe, TopicCommand, TopicCore, TopicStore,
 };
 
 // Metadata of ten bytes, behind their size: the producer "p", the sequence id 0, the time 1 and a field that isn't known.
@@ -180,7 +179,7 @@ fn acknowledge(alloc: Global) -> Result<TopicCommand, AllocError> {
     Ok(TopicCommand::Ack(Ack {
         consumer_id: 5,
         ack_type: AckType::Individual,
-        ids: Sequence::new(vec![in alloc; first; 1]?),
+        message_ids: Sequence::new(vec![in alloc; first; 1]?),
         request_id: Some(300),
     }))
 }

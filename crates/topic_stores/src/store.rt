@@ -47,6 +47,7 @@ pub trait TopicStore: Drop {
     ) -> Result<Self, DeviceError>
         ensures created { (S.disk shelf.old).honest → IfOk result (λ store. Settled (view store) (S.disk shelf.new) [] map.empty) }
         ensures works { IfOk result (λ store. (view store).failed ≡ false) }
+        ensures empty { IfOk result (λ store. ((view store).count ≡ 0) × ((view store).kept ≡ map.empty)) }
         ensures topic { IfOk result (λ store. (view store).topic ≡ topic) }
         ensures counts { IfOk result (λ store. ((view store).counts ≡ 0 ∷ []) × ((view store).per_ledger ≡ entries_per_ledger)) }
         ensures others { (S.disk shelf.old).honest → Within (OfTopic topic) (λ c. Unit {0}) (S.disk shelf.old) (S.disk shelf.new) }

@@ -1,5 +1,5 @@
 // The bytes of the file, and what a catalog answers.
-use super::{ENTRIES, FIRST, FRESH, HEADER, SECOND, add, answer, contents, find, roomy};
+use super::{ENTRIES, FIRST, FRESH, HEADER, SECOND, add, answer, contents, create, find, roomy};
 use catalog::{Catalog, MAX_TOPICS};
 use disk_mem::MemShelf;
 use gated_log::Refusal;
@@ -17,9 +17,9 @@ const BATCHES: [&[u8]; 6] = [
 
 // What stands in the file of a new catalog behind two names, and in one without any.
 fn written(alloc: Global, shelf: &mut MemShelf) -> Result<(Vec<u8>, Vec<u8>), Fail> {
-    Catalog::create(alloc, shelf, ENTRIES)?;
+    create(alloc, shelf)?;
     let fresh = contents(alloc, shelf)?;
-    let mut catalog = Catalog::create(alloc, shelf, ENTRIES)?;
+    let mut catalog = create(alloc, shelf)?;
     let first = add(&mut catalog, shelf, alloc, FIRST);
     let second = add(&mut catalog, shelf, alloc, SECOND);
     drop(catalog);
@@ -85,7 +85,7 @@ fn first_wrong(
 
 // What a full catalog tells, as it was made and as it is opened.
 fn full(alloc: Global, shelf: &mut MemShelf) -> Result<bool, Refusal> {
-    let mut made = Catalog::create(alloc, shelf, ENTRIES)?;
+    let mut made = create(alloc, shelf)?;
     let filled = fill(&mut made, shelf, alloc);
     let wrong = first_wrong(&mut made, shelf, alloc);
     drop(made);

@@ -1,5 +1,5 @@
 // A call of the device fails, once or until the power does, and a crash of each form follows.
-use super::{ENTRIES, FIRST, SECOND, add, answer, find, found, lay, name, roomy};
+use super::{FIRST, SECOND, add, answer, create, find, found, lay, name, roomy};
 use catalog::Catalog;
 use disk::{CrashForm, CrashShelf, FileId, Fuse, Shelf};
 use disk_mem::MemShelf;
@@ -18,7 +18,7 @@ const FORMS: [(CrashForm, usize); 5] = [
 
 // A catalog with one name.
 fn with_first(alloc: Global, shelf: &mut MemShelf) -> Result<Catalog, Refusal> {
-    let mut catalog = Catalog::create(alloc, shelf, ENTRIES)?;
+    let mut catalog = create(alloc, shelf)?;
     add(&mut catalog, shelf, alloc, FIRST)?;
     Ok(catalog)
 }
@@ -38,9 +38,9 @@ fn creates(
 ) -> Result<bool, Refusal> {
     lay(shelf, &[b'-'; 96])?;
     arm(shelf, form, fuse)?;
-    let failed = Catalog::create(alloc, shelf, ENTRIES).is_err();
+    let failed = create(alloc, shelf).is_err();
     shelf.crash();
-    Catalog::create(alloc, shelf, ENTRIES)?;
+    create(alloc, shelf)?;
     Ok(failed && found(alloc, shelf)? == Ok(0))
 }
 

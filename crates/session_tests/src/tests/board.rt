@@ -1,23 +1,37 @@
-ghost use Rattle.std.specs.Prelude.{◌≡◌, ◌≤◌, [], length};
-ghost use Rattle.session.specs.Broker.{IsMessageFor};
+ghost use Rattle.std.specs.Prelude.{◌≡◌, ◌<◌, ◌≤◌, None, [], length};
+ghost use Rattle.session.specs.Broker.{IfFound, IsMessageFor};
 
 use bytes::Bytes;
 use commands::Reply;
 use ids::MessageId;
+use names::TopicName;
 use session::{Found, Port, PumpFault};
-use std::alloc::Global;
+use std::alloc::{AllocError, Global};
 use topic_core::{Answer, Outgoing, ReadError, TooManyPermits, TopicCommand};
 
 /// The size of the metadata, the metadata (producer `p`, sequence id 0, time 8000) and the payload 5.
 const ENTRY: &[u8] = b"\0\0\0\x0a\x0a\x01p\x10\0\x18\x01\xc0>\x05";
 
-/// A broker that has one topic, or none and no room for one. A FLOW that reaches it brings too many permits, and each command
-/// but PRODUCER and SUBSCRIBE finds no memory: either ends the session.
+/// The most topics of a broker.
+const MAX_TOPICS: usize = 64;
+
+/// Why looking for a topic doesn't tell whether it is there.
+#[derive(Clone, Copy)]
+pub enum Outage {
+    NoMemory,
+    Device,
+}
+
+/// A broker that tells names apart by their last byte. A FLOW that reaches it brings too many permits, and each command but
+/// PRODUCER and SUBSCRIBE finds no memory: either ends the session.
 #[derive(Drop)]
 pub struct Board {
-    pub topics: u64,
-    /// Looking for a topic finds no memory.
-    pub is_tight: bool,
+    /// The last byte of each topic's name, by its number.
+    pub topics: Vec<u8>,
+    /// The last byte of a name that the device failed in looking for. The next search finds that it is there.
+    pub doubtful: Option<u8>,
+    /// What looking for a topic answers instead of finding it, where the session is to see that.
+    pub outage: Option<Outage>,
     pub due: Option<Reply>,
     /// What the next dispatches answer, the last one first: a message, or why there is none. Behind them there is no message.
     pub dispatches: Vec<Option<PumpFault>>,
@@ -28,13 +42,53 @@ pub struct Board {
 impl Board {
     pub fn new(alloc: Global) -> Board {
         Board {
-            topics: 1,
-            is_tight: false,
+            topics: Vec::new(alloc),
+            doubtful: None,
+            outage: None,
             due: None,
             dispatches: Vec::new(alloc),
             left: None,
         }
     }
+
+    /// Has sixty-four topics from now on; the name of the last one ends so, those of the others in `-`.
+    pub fn fill(&mut self, last: u8) -> Result<(), AllocError> {
+        self.topics.clear();
+        self.topics.resize(MAX_TOPICS - 1, b'-')?;
+        self.topics.push(last)?;
+        Ok(())
+    }
+
+    /// The number of a topic that is made, or why none is.
+    fn make(&mut self, last: u8) -> Found
+        ensures there { IfFound result (λ number. number < length self.new.topics.items) }
+        ensures more { length self.old.topics.items ≤ length self.new.topics.items }
+    {
+        let count = self.topics.len();
+        if count >= MAX_TOPICS {
+            return Found::TooMany;
+        }
+        match self.topics.push(last) {
+            Ok(()) => Found::Topic(count as u64),
+            Err(_) => Found::NoMemory,
+        }
+    }
+
+    /// The name in doubt is that of a topic from now on.
+    fn settle(&mut self) -> Result<(), AllocError>
+        ensures { length self.old.topics.items ≤ length self.new.topics.items }
+    {
+        if let Some(last) = self.doubtful {
+            self.topics.push(last)?;
+        }
+        self.doubtful = None;
+        Ok(())
+    }
+}
+
+/// The last byte of a name.
+fn last_byte(name: &TopicName) -> Option<u8> {
+    name.as_str().as_bytes().last().copied()
 }
 
 /// Of the first entry.
@@ -57,13 +111,17 @@ fn message(consumer_id: u64) -> Outgoing
 impl Port for Board {
     ghost use Rattle.session.specs.Broker.{Broker};
 
-    ghost broker = { λ _. record { per_ledger = 1; service_url = []; names = []; topics = [] } };
+    ghost broker = { λ _. record { per_ledger = 1; service_url = []; names = []; doubtful = None; topics = [] } };
 
-    ghost count = { λ board. board.topics };
+    ghost count = { λ board. length board.topics.items };
 
     ghost sole = { λ _. ⊥ };
 
-    ghost passes = { λ old new. old.topics ≤ new.topics };
+    ghost passes = { λ old new. length old.topics.items ≤ length new.topics.items };
+
+    ghost works = { λ old new. length old.topics.items ≤ length new.topics.items };
+
+    ghost fails = { λ _ _. Unit {0} };
 
     ghost refuses = { λ _ _ _. Unit {0} };
 
@@ -72,7 +130,7 @@ impl Port for Board {
     }
 
     fn topics(&self) -> u64 {
-        self.topics
+        self.topics.len() as u64
     }
 
     fn has_producer(&self, _topic: u64, _who: u64, _producer_id: u64) -> bool {
@@ -83,14 +141,25 @@ impl Port for Board {
         true
     }
 
-    fn find(&mut self, _name: &str) -> Found {
-        if self.is_tight {
+    fn find(&mut self, name: &TopicName) -> Found {
+        let Some(last) = last_byte(name) else {
+            return Found::TooMany;
+        };
+        match self.outage {
+            Some(Outage::NoMemory) => return Found::NoMemory,
+            Some(Outage::Device) => {
+                self.doubtful = Some(last);
+                return Found::Failed;
+            }
+            None => {}
+        }
+        if self.settle().is_err() {
             return Found::NoMemory;
         }
-        if self.topics == 0 {
-            return Found::TooMany;
+        match self.topics.iter().position(|there| *there == last) {
+            Some(number) => Found::Topic(number as u64),
+            None => self.make(last),
         }
-        Found::Topic(0)
     }
 
     fn command(&mut self, _topic: u64, _who: u64, command: TopicCommand) -> Answer {
@@ -142,6 +211,14 @@ impl Port for Board {
         }
     }
 
+    fn next_due(&self, _who: u64, from: u64) -> Option<u64> {
+        if from < self.topics() {
+            Some(from)
+        } else {
+            None
+        }
+    }
+
     fn collect(&mut self, _topic: u64, _who: u64) -> Option<Reply> {
         self.due.take()
     }
@@ -157,6 +234,16 @@ impl Port for Board {
     ghost passes_both = { λ a b c h k. Prim.search rules };
 
     ghost passes_sole = { λ a b h s. s };
+
+    ghost passes_works = { λ a b h. h };
+
+    ghost works_both = { λ a b c h k. Prim.search rules };
+
+    ghost works_sole = { λ a b h s. s };
+
+    ghost works_count = { λ a b h. h };
+
+    ghost fails_within = { λ a b c d h k l failed. tt };
 
     ghost refuses_within = { λ a b c d why h k l refused. tt };
 

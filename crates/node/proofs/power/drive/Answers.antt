@@ -18,9 +18,9 @@ loop-happening-init g c =
     let pushed : c.push.new.self.items ≡ c.args.outputs.now.items ++ c.start-machine.result.1 ∷ [] = search rules in
     record {
       prefix = sym c.into_iter-happening-iterator.ensures.into_iter_gives.0;
-      run = λ first rest served.
-          let s = c.start-machine.ensures.step first rest served in
-          let moments = short_first g.T.TopicStore.stands first c.args.happenings.items (g.S.Shelf.disk c.args.shelf) (disk_in g.S.Shelf.disk c.start-machine.result.0) (c.start-machine.ensures.any_moment first rest) in
+      run = λ first rest url.
+          let s = c.start-machine.ensures.step first rest url in
+          let moments = short_first g.T.TopicStore.stands first c.args.happenings.items (g.S.Shelf.disk c.args.site.shelf) (disk_in g.S.Shelf.disk c.start-machine.result.0) (c.start-machine.ensures.any_moment first rest) in
           (c.start-machine.result.1 ∷ [], s.0, pushed, (s.0, s.1, refl), s.2, moments);
     }
 
@@ -30,11 +30,11 @@ loop-happening-preserved g c =
     let pushed : c.push-in-loop-happening.new.self.items ≡ c.loop-happening.outputs.items ++ c.happen-next.result.1 ∷ [] = search rules in
     record {
       prefix = one_more _ _ _ _ _ i.prefix c.in-Some.ensures.steps.0;
-      run = λ first rest served.
-          let r = i.run first rest served in
+      run = λ first rest url.
+          let r = i.run first rest url in
           let s = c.happen-next.ensures.step r.1 r.4 in
           let moments = short_more g.T.TopicStore.stands first c.args.happenings.items c.loop-happening.yielded r.0 r.1 r.3 c.in-Some.happening _ _
-          (g.S.Shelf.disk c.args.shelf) (disk_in g.S.Shelf.disk c.loop-happening.machine) (disk_in g.S.Shelf.disk c.happen-next.result.0)
+          (g.S.Shelf.disk c.args.site.shelf) (disk_in g.S.Shelf.disk c.loop-happening.machine) (disk_in g.S.Shelf.disk c.happen-next.result.0)
           i.prefix c.in-Some.ensures.steps.0 r.5 (c.happen-next.ensures.any_moment r.1 r.4) in
           let start : Life = record { up = false; state = first } in (
             r.0 ++ c.happen-next.result.1 ∷ [],
@@ -47,7 +47,7 @@ loop-happening-preserved g c =
     }
 
 pub returns-in_err-reserve-clause-drove : goal.returns-in_err-reserve-clause-drove
-returns-in_err-reserve-clause-drove g c = λ first rest served.
+returns-in_err-reserve-clause-drove g c = λ first rest url.
     let start : Life = record { up = false; state = first } in
     record {
       answers = [];
@@ -59,9 +59,9 @@ returns-in_err-reserve-clause-drove g c = λ first rest served.
     }
 
 pub returns-in_err-reserve-2-clause-drove : goal.returns-in_err-reserve-2-clause-drove
-returns-in_err-reserve-2-clause-drove g c = λ first rest served.
+returns-in_err-reserve-2-clause-drove g c = λ first rest url.
     let i = c.loop-happening.invariant in
-    let r = i.run first rest served in
+    let r = i.run first rest url in
     let start : Life = record { up = false; state = first } in
     let worked = happening.Crash ∷ c.loop-happening.yielded in
     let run = front_run start (happening.Crash ∷ c.args.happenings.items) worked c.loop-happening.happening-iterator.rest.items r.0 r.1 (ap (λ (hs : List Happening). happening.Crash ∷ hs) i.prefix) r.3 in
@@ -75,9 +75,9 @@ returns-in_err-reserve-2-clause-drove g c = λ first rest served.
     }
 
 pub returns-clause-drove : goal.returns-clause-drove
-returns-clause-drove g c = λ first rest served.
+returns-clause-drove g c = λ first rest url.
     let i = c.loop-happening.invariant in
-    let r = i.run first rest served in
+    let r = i.run first rest url in
     let start : Life = record { up = false; state = first } in
     let it = c.loop-happening.happening-iterator.rest in
     let worked = happening.Crash ∷ c.loop-happening.yielded in
@@ -94,4 +94,4 @@ returns-clause-drove g c = λ first rest served.
     }
 
 pub returns-clause-any_moment : goal.returns-clause-any_moment
-returns-clause-any_moment g c = λ first rest served. (c.loop-happening.invariant.run first rest served).5
+returns-clause-any_moment g c = λ first rest url. (c.loop-happening.invariant.run first rest url).5

@@ -1,4 +1,4 @@
-use Rattle.session.specs.Consuming.{topic_of}
+use Rattle.session.specs.Table.{topic_of}
 use Rattle.session.proofs.Wanting.{frame_wants, redelivers, closes_consumer}
 use Rattle.session.proofs.laws.want_of_memory_is_named.Goals as goal
 

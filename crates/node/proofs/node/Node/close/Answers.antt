@@ -1,6 +1,6 @@
-use Rattle.std.proofs.Common.{◌≡◌, ◌<◌, ℕ, Option, Some, length, slice_get, refl, sym, subst, rules}
+use Rattle.std.proofs.Common.{◌≡◌, ◌<◌, ℕ, Option, Some, length, slice_get, refl, ap, sym, subst, rules}
 use Rattle.std.proofs.lemmas.Option.{slice_get_read}
-use Rattle.node.specs.State.{State, place_of}
+use Rattle.node.specs.State.{State, stage_in, place_of}
 use Rattle.node.specs.Steps.{Closes, CloseStep}
 use Rattle.node.specs.Passing.{passes_nothing}
 use Rattle.node.specs.declared.event.Output.{Output}
@@ -15,7 +15,7 @@ closes old new who place output at step = subst (λ (o : Option ℕ). CloseStep 
 
 pub returns-clause-step : goal.returns-clause-step
 returns-clause-step g c = λ stands.
-    let passed = c.end.ensures.passes stands in
+    let passed = c.end.ensures.passes.1 stands in
     let at : place_of c.args.self.now.sessions.items c.args.who ≡ Some c.in-Some.place = search rules in
     let sessions = c.args.self.now.sessions.items in
     let within : c.in-Some.place < length sessions = search rules in
@@ -25,7 +25,7 @@ returns-clause-step g c = λ stands.
       stands = here;
       answer = search rules;
       broker = search rules;
-      stages = passed.stages;
+      stages = λ number. ap (λ ss. stage_in ss number) passed.stages;
       sessions = search rules;
       used = search rules;
       faults = passed.faults;

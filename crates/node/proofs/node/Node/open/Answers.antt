@@ -1,73 +1,86 @@
-use Rattle.std.proofs.Common.{◌≡◌, ◌≤◌, ◌^◌, Err, [], ◌∷◌, refl, length, sym, ap, subst, ◌∙◌, rules, arith}
-use Rattle.topic_core.specs.State.{Topic}
-use Rattle.topic_core.specs.Crashes.{IsLeft}
-use Rattle.topic_core.specs.Standing.{resting, Match}
-use Rattle.node.proofs.Frames.{one_broker, one_stage, one_stands}
-use Rattle.node.proofs.Opening.{left_as, opened_standing, opened_stands, opened_broker, opened_crash, refused_rests, served_rests, state_crash}
+use Rattle.std.proofs.Common.{Err, inl, inr, ⊎_elim, refl, sym, ap, subst, ◌∙◌, arith}
+use Rattle.catalog.specs.Catalogs.{StandsFor as NamesStand, remembered, per_ledger}
+use Rattle.catalog.specs.Laws.{holds_stands}
+use Rattle.node.specs.Numbers.{AreNumbered}
+use Rattle.node.specs.Passing.{settled_names}
+use Rattle.node.proofs.Making.{both_kept, both_left}
+use Rattle.node.proofs.Marks.{marked_opened}
+use Rattle.node.proofs.AllOpening.{node_stands, just_opened, few_each, fault_before, opens_at}
+use Rattle.node.proofs.Opening.{state_crash, refused_rests}
 use Rattle.node.proofs.node.Node.open.Goals as goal
 
-pub at_rest-requires : goal.at_rest-requires
-at_rest-requires g c =
-    let e = c.in-Ok-open.ensures in
-    subst (λ b. Match (resting b) c.in-Ok-open.opened.0 (g.T.TopicStore.view c.in-Ok-open.opened.1)) (sym (ap (λ (t : Topic). t.failed) e.opened.1)) e.matched
-
 pub returns-in-Err-clause-refused : goal.returns-in-Err-clause-refused
-returns-in-Err-clause-refused g c = λ old rest served.
-    let stands = g.T.TopicStore.stands in
+returns-in-Err-clause-refused g c = λ old rest.
     let e = c.in-Err.ensures in
-    refused_rests stands g.T.TopicStore.faulty g.met.T.TopicStore.stands_sound c.args.per_ledger old (g.S.Shelf.disk c.args.shelf) (g.S.Shelf.disk c.open.new.shelf) c.in-Err.why rest (g.met.S.Shelf.lawful c.args.shelf rest.honest).leaves_seen served
-    (e.any_moment rest.honest) e.kept (e.refused rest.honest) (λ is. e.cause (ap (λ r. Err r) is))
+    refused_rests g.T.TopicStore.stands g.T.TopicStore.faulty g.met.T.TopicStore.stands_sound old (g.S.Shelf.disk c.args.site.shelf) (g.S.Shelf.disk c.open.new.shelf) c.in-Err.why rest (g.met.S.Shelf.lawful c.args.site.shelf rest.honest).leaves_seen
+    (e.any_moment rest.honest) e.kept (⊎_elim (λ memory. inl memory) (λ other. inr (⊎_elim (λ device. inl device) (λ fault. inr (inl fault)) other)) (e.refused rest.honest)) (λ is. e.cause (ap (λ r. Err r) is))
 
--- the list of the one topic
+pub returns-in-Err-open_topics-clause-refused : goal.returns-in-Err-open_topics-clause-refused
+returns-in-Err-open_topics-clause-refused g c = λ old rest.
+    let e1 = c.in-Ok.ensures in
+    let e2 = c.in-Err-open_topics.ensures in
+    let d0 = g.S.Shelf.disk c.args.site.shelf in
+    let d1 = g.S.Shelf.disk c.open.new.shelf in
+    let d2 = g.S.Shelf.disk c.open_topics.new.shelf in
+    let catalog = c.in-Ok.catalog in
+    let honest = rest.honest in
+    let h1 = e1.kept.honest honest in
+    let same = e1.seen honest (λ no. cc) in
+    let names = subst (λ i. NamesStand (per_ledger catalog) i (remembered catalog)) same (holds_stands catalog d1.seen (remembered catalog) (e1.opened honest).now) in
+    refused_rests g.T.TopicStore.stands g.T.TopicStore.faulty g.met.T.TopicStore.stands_sound old d0 d2 c.in-Err-open_topics.why rest (g.met.S.Shelf.lawful c.args.site.shelf rest.honest).leaves_seen
+    (both_left d0 d1 d2 (e1.any_moment honest) (e2.any_moment h1)) (both_kept d0 d1 d2 e1.kept e2.kept)
+    (⊎_elim (λ memory. inl memory) (λ other. inr (⊎_elim (λ device. inl device)
+    (λ fault. inr (fault_before g.T.TopicStore.stands g.T.TopicStore.faulty d0.seen d1.seen (per_ledger catalog) c.len.result (remembered catalog) _ same names (sym c.len.ensures.count) fault)) other)) (e2.refused h1))
+    (λ is. let later = e2.cause (ap (λ r. Err r) is) in omega (arith, e1.kept.faults, later))
+
+pub invariant_of-result : goal.invariant_of-result
+invariant_of-result g c =
+    let e2 = c.in-Ok-open_topics.ensures in
+    record {
+      numbered = subst (λ n. AreNumbered n c.in-Ok-open_topics.held.items) c.entries_per_ledger-per_ledger.ensures.number e2.numbered;
+      named = sym c.len.ensures.count ∙ sym e2.count;
+      doubted = sym c.in-Ok.ensures.works;
+    }
+
 pub returns-clause-found : goal.returns-clause-found
 returns-clause-found g c = λ honest.
-    let d0 = g.S.Shelf.disk c.args.shelf in
+    let e1 = c.in-Ok.ensures in
+    let e2 = c.in-Ok-open_topics.ensures in
+    let d0 = g.S.Shelf.disk c.args.site.shelf in
     let d1 = g.S.Shelf.disk c.open.new.shelf in
-    let n = c.args.per_ledger in
-    let stands = g.T.TopicStore.stands in
-    let core = c.in-Ok-open.opened.0 in
-    let store = c.in-Ok-open.opened.1 in
-    let v = g.T.TopicStore.view store in
-    let laws = g.met.T.TopicStore.laws store in
-    let e = c.in-Ok-open.ensures in
-    let h = c.at_rest.result in
-    let is = c.at_rest.ensures in
-    let one : c.push.new.self.items ≡ h ∷ [] = search rules in
-    let standing = opened_standing stands n core v e.opened.1 d1 laws (e.settled honest) e.matched in (
-      record { honest = standing.honest; each = one_stands one is.0 is.1 is.2 standing },
-      record {
-        ledger = core.ledger;
-        kept = core.kept;
-        stands = opened_stands stands n core v e.opened.1 0 d0 d1 laws e.topic (e.seen honest (λ is. cc)) (e.settled honest);
-        broker = one_broker one n is.0 ∙ opened_broker stands n core v e.opened.1;
-        stages = one_stage one is.2;
-        sessions = c.new.ensures.items;
-        used = refl;
-      },
+    let d2 = g.S.Shelf.disk c.open_topics.new.shelf in
+    let catalog = c.in-Ok.catalog in
+    let h1 = e1.kept.honest honest in
+    let same = e1.seen honest (λ no. cc) in
+    let opened = e1.opened honest in
+    let names = subst (λ i. NamesStand (per_ledger catalog) i (remembered catalog)) same (holds_stands catalog d1.seen (remembered catalog) opened.now) in
+    let settled = settled_names d1 d2 catalog (record { seen = λ h. e2.seen h (λ no. cc); any_moment = e2.any_moment; kept = e2.kept }) opened in
+    let opens = opens_at g.T.TopicStore.stands c.entries_per_ledger-per_ledger.result (per_ledger catalog) d1.seen d0.seen c.in-Ok-open_topics.held.items c.entries_per_ledger-per_ledger.ensures.number same (e2.found h1) in (
+      node_stands g.S.Shelf.disk _ refl settled (e2.stand h1) (marked_opened c.new.result c.in-Ok-open_topics.held.items g.T.TopicStore.stands c.entries_per_ledger-per_ledger.result d1.seen (e2.found h1)),
+      just_opened (per_ledger catalog) c.args.site.url (remembered catalog) c.in-Ok-open_topics.held.items d0.seen (e2.count ∙ c.len.ensures.count) names opens c.new-2.result.items d2.faults c.new-2.ensures.items,
     )
 
 pub returns-clause-opened : goal.returns-clause-opened
-returns-clause-opened g c = λ old rest served.
-    let d0 = g.S.Shelf.disk c.args.shelf in
+returns-clause-opened g c = λ old rest url.
+    let honest = rest.honest in
+    let e1 = c.in-Ok.ensures in
+    let e2 = c.in-Ok-open_topics.ensures in
+    let d0 = g.S.Shelf.disk c.args.site.shelf in
     let d1 = g.S.Shelf.disk c.open.new.shelf in
-    let n = c.args.per_ledger in
-    let stands = g.T.TopicStore.stands in
-    let core = c.in-Ok-open.opened.0 in
-    let store = c.in-Ok-open.opened.1 in
-    let v = g.T.TopicStore.view store in
-    let laws = g.met.T.TopicStore.laws store in
-    let e = c.in-Ok-open.ensures in
-    let h = c.at_rest.result in
-    let is_rest = c.at_rest.ensures in
-    let one : c.push.new.self.items ≡ h ∷ [] = search rules in
-    let hold = e.settled rest.honest in
-    let standing = opened_standing stands n core v e.opened.1 d1 laws hold e.matched in
-    let s = served_rests stands n old served d0.seen (rest.left d0.seen (g.met.S.Shelf.lawful c.args.shelf rest.honest).leaves_seen) in
-    let few : length core.ledger ≤ 2 ^ 62 = omega (arith, e.opened.0, e.few) in
-    let here = opened_stands stands n core v e.opened.1 0 d0 d1 laws e.topic (e.seen rest.honest (λ is. cc)) hold in
-    let same = g.met.T.TopicStore.stands_one 0 d0.seen core.ledger s.ledger core.kept s.kept few here s.stands in (
-      record { honest = standing.honest; each = one_stands one is_rest.0 is_rest.1 is_rest.2 standing },
-      state_crash n old _ served core (one_broker one n is_rest.0)
-          (λ was is numbers. opened_crash stands n core v e.opened.1 was numbers (left_as was core s.ledger s.kept same.0 same.1 (subst (λ (t : Topic). IsLeft t s.ledger s.kept) (sym is) s.is_left)))
-          (one_stage one is_rest.2) c.new.ensures.items refl (omega (arith, rest.faults, e.kept.faults)),
+    let d2 = g.S.Shelf.disk c.open_topics.new.shelf in
+    let catalog = c.in-Ok.catalog in
+    let h1 = e1.kept.honest honest in
+    let same = e1.seen honest (λ no. cc) in
+    let opened = e1.opened honest in
+    let names = subst (λ i. NamesStand (per_ledger catalog) i (remembered catalog)) same (holds_stands catalog d1.seen (remembered catalog) opened.now) in
+    let settled = settled_names d1 d2 catalog (record { seen = λ h. e2.seen h (λ no. cc); any_moment = e2.any_moment; kept = e2.kept }) opened in
+    let opens = opens_at g.T.TopicStore.stands c.entries_per_ledger-per_ledger.result (per_ledger catalog) d1.seen d0.seen c.in-Ok-open_topics.held.items c.entries_per_ledger-per_ledger.ensures.number same (e2.found h1) in (
+      node_stands g.S.Shelf.disk _ refl settled (e2.stand h1) (marked_opened c.new.result c.in-Ok-open_topics.held.items g.T.TopicStore.stands c.entries_per_ledger-per_ledger.result d1.seen (e2.found h1)),
+      state_crash g.T.TopicStore.stands g.met.T.TopicStore.stands_one old _ d0.seen (rest.left d0.seen (g.met.S.Shelf.lawful c.args.site.shelf honest).leaves_seen)
+          (just_opened (per_ledger catalog) c.args.site.url (remembered catalog) c.in-Ok-open_topics.held.items d0.seen (e2.count ∙ c.len.ensures.count) names opens c.new-2.result.items d2.faults c.new-2.ensures.items) (few_each (per_ledger catalog) c.args.site.url (remembered catalog) c.in-Ok-open_topics.held.items d0.seen (e2.count ∙ c.len.ensures.count) names opens) url (omega (arith, rest.faults, e1.kept.faults, e2.kept.faults)),
     )
+
+pub returns-clause-any_moment : goal.returns-clause-any_moment
+returns-clause-any_moment g c = λ honest.
+    let e1 = c.in-Ok.ensures in
+    both_left (g.S.Shelf.disk c.args.site.shelf) (g.S.Shelf.disk c.open.new.shelf) (g.S.Shelf.disk c.open_topics.new.shelf) (e1.any_moment honest) (c.in-Ok-open_topics.ensures.any_moment (e1.kept.honest honest))

@@ -1,4 +1,4 @@
-use Rattle.std.proofs.Common.{◌≡◌, ◌<◌, ℕ, Option, Some, Result, [], length, slice_get, refl, sym, subst, rules}
+use Rattle.std.proofs.Common.{◌≡◌, ◌<◌, ℕ, Option, Some, Result, [], length, slice_get, refl, ap, sym, subst, rules}
 use Rattle.std.proofs.lemmas.Option.{slice_get_read}
 use Rattle.gated_log.specs.declared.read_error.ReadError.{ReadError}
 use Rattle.session.specs.Client.{Client, Play, play}
@@ -6,7 +6,7 @@ use Rattle.session.specs.Pumping as pumping
 use Rattle.session.specs.declared.pumping.More.{More}
 use Rattle.session.specs.declared.pumping.PumpFault.{PumpFault}
 use Rattle.session.proofs.Serving.{pump_step-more}
-use Rattle.node.specs.State.{State, MayRefuse, place_of, verdict_of_pump}
+use Rattle.node.specs.State.{State, stage_in, MayRefuse, place_of, verdict_of_pump}
 use Rattle.node.specs.Standing.{broker_of, stages_of, Refuses}
 use Rattle.node.specs.Steps.{Settles, PumpStep}
 use Rattle.node.specs.declared.event.Output.{Output}
@@ -24,7 +24,7 @@ returns-clause-step g c = λ stands.
     let disk = g.S.Shelf.disk in
     let before = c.args.self.now.topics in
     let after = c.pump-pumped.new.port in
-    let passed = c.pump-pumped.ensures.passes stands in
+    let passed = c.pump-pumped.ensures.passes.1 stands in
     let played = play c.pump-pumped.new.self (broker_of after) c.pump-pumped.new.out.items in
     let May : ReadError → Type 0 = MayRefuse (stages_of before) (disk before.shelf).faults (disk after.shelf).faults in
     let step : pumping.PumpStep May (play c.index_mut-session.result.now (broker_of before) c.new-out.result.items) c.pump-pumped.result played =
@@ -36,7 +36,7 @@ returns-clause-step g c = λ stands.
     pumps _ _ _ c.in-Some.place c.index_mut-session.result.now c.pump-pumped.result played _ at here (rw c.new-out.ensures.items at step) (record {
       answer = search rules;
       broker = search rules;
-      stages = passed.stages;
+      stages = λ number. ap (λ ss. stage_in ss number) passed.stages;
       sessions = search rules;
       used = search rules;
       faults = passed.faults;

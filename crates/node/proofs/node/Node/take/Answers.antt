@@ -1,7 +1,11 @@
-use Rattle.std.proofs.Common.{◌<◌, length, refl, ◌∙◌, arith}
+use Rattle.std.proofs.Common.{◌<◌, length, refl, ◌∙◌, sym, arith}
 use Rattle.std.proofs.lemmas.List.{length-set}
 use Rattle.std.proofs.lemmas.Option.{slice_get_read}
-use Rattle.node.proofs.Frames.{keep_numbers, stand_beside, take_stands}
+use Rattle.catalog.specs.Catalogs.{per_ledger}
+use Rattle.node.specs.Standing.{broker_of}
+use Rattle.node.proofs.Frames.{keep_numbers, stand_beside, names_beside, take_stands}
+use Rattle.node.proofs.Marks.{marked_on}
+use Rattle.node.proofs.Owners.{take_owners}
 use Rattle.node.proofs.Working as working
 use Rattle.node.proofs.node.Node.take.Goals as goal
 
@@ -15,8 +19,9 @@ invariant_of-self g c =
     let was = slice_get_read t.held.items (length t.held.items) k h refl low c.index_mut.ensures.value in
     let next = c.take-taken.new.self in
     record {
-      numbered = keep_numbers t.per_ledger t.held.items k h next was t.per_ledger t.numbered c.take-taken.ensures.numbered;
-      one = length-set t.held.items k next ∙ t.one;
+      numbered = keep_numbers (broker_of t) t.held.items k h next was (per_ledger t.catalog) t.numbered c.take-taken.ensures.numbered;
+      named = t.named ∙ sym (length-set t.held.items k next);
+      doubted = t.doubted;
     }
 
 pub returns-clause-step : goal.returns-clause-step
@@ -29,7 +34,7 @@ returns-clause-step g c =
     let was = slice_get_read t.held.items (length t.held.items) k h refl low c.index_mut.ensures.value in
     let next = c.take-taken.new.self in
     λ _. rw (c.only-2.ensures, c.verdict_of_flush.ensures)
-    (working.taken t.per_ledger t.held.items k h next was low n.sessions.items n.used (g.S.Shelf.disk t.shelf).faults c.take-taken.result c.take-taken.ensures.step)
+    (working.taken (broker_of t) t.held.items k h next was low n.sessions.items n.used (g.S.Shelf.disk t.shelf).faults c.take-taken.result c.take-taken.ensures.step)
 
 pub returns-clause-stands : goal.returns-clause-stands
 returns-clause-stands g c =
@@ -45,4 +50,7 @@ returns-clause-stands g c =
     λ s. record {
       honest = s.honest;
       each = stand_beside disk t k h next was s (take_stands g.met.T.TopicStore.laws h next (disk t.shelf) c.take-taken.result e.stores e.step (s.each k h was));
+      names = λ files may. names_beside t k next files (s.names files may);
+      settled = s.settled;
+      marked = marked_on t.uses t.held.items k h next was (take_owners h.core e.step.taken next.core e.step.step) s.marked;
     }

@@ -1,11 +1,14 @@
-use Rattle.std.proofs.Common.{length, refl, ap, ◌∙◌}
+use Rattle.std.proofs.Common.{length, refl, ap, sym, ◌∙◌}
 use Rattle.std.proofs.lemmas.List.{length-set}
 use Rattle.std.proofs.lemmas.Option.{slice_get_read}
+use Rattle.catalog.specs.Catalogs.{per_ledger}
 use Rattle.node.specs.Passing.{passes_read}
 use Rattle.node.proofs.Frames.{keep_numbers, topic_was, topic_now, becomes, stage_was}
 use Rattle.node.proofs.Ports.{dispatches, refuses_at}
 use Rattle.node.specs.Flights.{stage_of}
-use Rattle.node.specs.Standing.{TopicsStand, HeldStands, stages_of}
+use Rattle.node.specs.Standing.{broker_of, TopicsStand, HeldStands, stages_of}
+use Rattle.node.proofs.Marks.{marked_on}
+use Rattle.node.proofs.Owners.{dispatch_owners}
 use Rattle.node.proofs.port.TopicsPort.dispatch.Goals as goal
 
 pub invariant_of-self : goal.invariant_of-self
@@ -15,8 +18,9 @@ invariant_of-self g c =
     let was = slice_get_read t.held.items (length t.held.items) c.args.topic h refl c.requires c.index_mut.ensures.value in
     let e = c.dispatch.ensures in
     record {
-      numbered = keep_numbers t.per_ledger t.held.items c.args.topic h c.dispatch.new.self was t.per_ledger t.numbered (ap (λ s. (g.T.TopicStore.view s).topic) e.rest.0, e.goes_on.per_ledger);
-      one = length-set t.held.items c.args.topic c.dispatch.new.self ∙ t.one;
+      numbered = keep_numbers (broker_of t) t.held.items c.args.topic h c.dispatch.new.self was (per_ledger t.catalog) t.numbered (ap (λ s. (g.T.TopicStore.view s).topic) e.rest.0, e.goes_on.per_ledger);
+      named = t.named ∙ sym (length-set t.held.items c.args.topic c.dispatch.new.self);
+      doubted = t.doubted;
     }
 
 pub returns-clause-passes : goal.returns-clause-passes
@@ -25,7 +29,8 @@ returns-clause-passes g c =
     let h = c.index_mut.result.now in
     let was = slice_get_read t.held.items (length t.held.items) c.args.topic h refl c.requires c.index_mut.ensures.value in
     let e = c.dispatch.ensures in
-    passes_read g.S.Shelf.disk t _ c.args.topic h c.dispatch.new.self was refl refl e.rest.0 e.rest.1 e.goes_on (record { seen = e.seen; any_moment = e.any_moment; kept = e.kept })
+    passes_read g.S.Shelf.disk t _ c.args.topic h c.dispatch.new.self was refl refl refl refl e.rest.0 e.rest.1 e.goes_on (record { seen = e.seen; any_moment = e.any_moment; kept = e.kept })
+    (λ s. marked_on t.uses t.held.items c.args.topic h c.dispatch.new.self was (dispatch_owners h.core c.args.who c.args.consumer_id c.dispatch.result c.dispatch.new.self.core (e.step (s.each c.args.topic h was))) s.marked)
 
 pub returns-clause-step : goal.returns-clause-step
 returns-clause-step g c = λ stands.
@@ -34,7 +39,7 @@ returns-clause-step g c = λ stands.
     let h = c.index_mut.result.now in
     let next = c.dispatch.new.self in
     let was = slice_get_read t.held.items (length t.held.items) k h refl c.requires c.index_mut.ensures.value in
-    dispatches _ _ k h.core next.core (topic_was t.per_ledger t.held.items k h next was) (topic_now t.per_ledger t.held.items k h next was) (becomes t.per_ledger t.held.items k h next was) c.args.who c.args.consumer_id c.dispatch.result
+    dispatches _ _ k h.core next.core (topic_was (broker_of t) t.held.items k h next was) (topic_now (broker_of t) t.held.items k h next was) (becomes (broker_of t) t.held.items k h next was) c.args.who c.args.consumer_id c.dispatch.result
     (c.dispatch.ensures.step (stands.each k h was))
 
 pub returns-clause-refused : goal.returns-clause-refused
@@ -44,4 +49,4 @@ returns-clause-refused g c =
     let h = c.index_mut.result.now in
     let was = slice_get_read t.held.items (length t.held.items) k h refl c.requires c.index_mut.ensures.value in
     let disk = g.S.Shelf.disk in
-    refuses_at (HeldStands h (disk t.shelf)) (TopicsStand disk t) (stages_of t) k (stage_of h.flight) _ _ c.dispatch.result (stage_was t.per_ledger t.held.items k h c.dispatch.new.self was) (λ stands. stands.each k h was) c.dispatch.ensures.refused
+    refuses_at (HeldStands h (disk t.shelf)) (TopicsStand disk t) (stages_of t) k (stage_of h.flight) _ _ c.dispatch.result (stage_was (broker_of t) t.held.items k h c.dispatch.new.self was) (λ stands. stands.each k h was) c.dispatch.ensures.refused

@@ -8,6 +8,6 @@ use Rattle.pulsar_node.proofs.working.Replay.event.Goals as goal
 
 pub returns-clause-works : goal.returns-clause-works
 returns-clause-works g c = λ old lives.
-    let s = c.event-output.ensures.step c.args.self.per_ledger old.life lives.1 in
+    let s = c.event-output.ensures.step old.life lives.1 in
     task_told {R = Replay} lives-value.it c.args.self.line old (task.Event c.args.event) _ (record { life = s.0; device = shelf_in c.event-output.new.self }) _ _ _ c.print.result
     c.print.ensures.writes c.print.ensures.same (record { output = c.event-output.result; step = s.1; printed = refl }) (refl, s.2)

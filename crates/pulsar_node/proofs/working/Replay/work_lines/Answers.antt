@@ -9,8 +9,8 @@ use Rattle.pulsar_node.proofs.Worked.{Prints-more, one_more_fails, writes_fault,
 use Rattle.pulsar_node.proofs.Written.{Appends-kept_all}
 use Rattle.pulsar_node.proofs.working.Replay.work_lines.Goals as goal
 
-pub work_line-requires-clause-line : goal.work_line-requires-clause-line
-work_line-requires-clause-line g c =
+pub work_line-requires : goal.work_line-requires
+work_line-requires g c =
     let known = c.loop-line.invariant in
     omega (
       arith,
@@ -23,16 +23,12 @@ work_line-requires-clause-line g c =
       c.args.lines.small,
     )
 
-pub work_line-requires-clause-numbered : goal.work_line-requires-clause-numbered
-work_line-requires-clause-numbered g c = c.loop-line.invariant.numbered
-
 pub loop-line-init : goal.loop-line-init
 loop-line-init g c = record {
   starts = tt;
   ends = tt;
   all = search rules;
   line = c.requires.line;
-  numbered = c.requires.numbered;
   worked = λ old lives. ([], old, (refl, refl), lives, Appends-kept_all _ _ (Keeps-refl _));
 }
 
@@ -43,7 +39,6 @@ loop-line-preserved g c =
       ends = tt;
       all = next_of_whole c.loop-line.yielded _ _ c.args.lines.items c.in-Some.line known.all c.in-Some.ensures.steps.0;
       line = omega (arith, known.line, c.in_ok-self.ensures.line, length-append c.loop-line.yielded (c.in-Some.line ∷ []));
-      numbered = omega (arith, known.numbered, c.in_ok-self.ensures.per_ledger);
       worked = λ old lives.
           let w = known.worked old lives in
           let t = c.in_ok-self.ensures.works w.1 w.3 in

@@ -1,4 +1,4 @@
-use Rattle.std.proofs.Common.{◌≡◌, ◌+◌, ◌≤◌, ◌++◌, ℕ, List, length}
+use Rattle.std.proofs.Common.{◌≡◌, ◌+◌, ◌++◌, ℕ, List, length}
 use Rattle.std.specs.Io.KnownBytes.{Appends}
 use Rattle.std.specs.Vec.Iter.{into_iter_items}
 use Rattle.disk_mem.specs.Device.{disk_of}
@@ -13,12 +13,11 @@ invariant-loop-line g l = record {
   ends : (goal.iterator-loop-line g).is_finite l.line-iterator;
   all : l.yielded ++ into_iter_items l.line-iterator ≡ l.fn.lines.items;
   line : l.self.line ≡ length l.yielded + 1;
-  numbered : 1 ≤ l.self.per_ledger;
   worked :
-      (old : Moment) → (old.device ≡ shelf_in l.fn.self.machine) × Holds disk_of l.fn.self.per_ledger l.fn.self.machine old.life
+      (old : Moment) → (old.device ≡ shelf_in l.fn.self.machine) × Holds disk_of l.fn.self.machine old.life
       → (text : List ℕ)
       × (mid : Moment)
       × Prints 2 old l.yielded text mid
-      × ((mid.device ≡ shelf_in l.self.machine) × Holds disk_of l.self.per_ledger l.self.machine mid.life)
+      × ((mid.device ≡ shelf_in l.self.machine) × Holds disk_of l.self.machine mid.life)
       × Appends (g.W.Sink.contents l.fn.sink) (g.W.Sink.contents l.sink) text;
 }

@@ -1,8 +1,5 @@
-use Rattle.std.proofs.Common.{◌∙◌, sym, arith}
-use Rattle.session.proofs.Absent.{acks-absent}
+use Rattle.session.proofs.Unknown.{acks-unknown}
 use Rattle.session.proofs.session.Session.ack.Goals as goal
 
-pub returns-then-topic-topics-clause-step : goal.returns-then-topic-topics-clause-step
-returns-then-topic-topics-clause-step g c = λ s.
-    rw (sym c.consumer_topic.ensures ∙ c.in-Some.is)
-    (acks-absent _ c.in-Some.topic _ _ (omega (arith, c.if-topic-topics.true, c.topics.ensures, g.met.P.Port.counts_topics _ s)) (c.refuse_ack-then-topic-topics.ensures.refuses _))
+pub returns-in_default-clause-step : goal.returns-in_default-clause-step
+returns-in_default-clause-step g c = λ s. acks-unknown _ _ _ _ (rw (g.met.P.Port.counts_topics _ s) at c.in_default.ensures.unknown) (c.refuse_ack.ensures.refuses _)

@@ -1,8 +1,6 @@
-use Rattle.std.proofs.Common.{◌∙◌, sym, refl, arith}
-use Rattle.session.proofs.Absent.{closes-absent}
+use Rattle.std.proofs.Common.{refl}
+use Rattle.session.proofs.Unknown.{closes-unknown}
 use Rattle.session.proofs.session.Session.close.Goals as goal
 
-pub returns-then-topics-topic-clause-step : goal.returns-then-topics-topic-clause-step
-returns-then-topics-topic-clause-step g c = λ s.
-    rw (sym c.topic_of.ensures ∙ c.in-Some.is)
-    (closes-absent _ c.in-Some.topic _ _ (omega (arith, c.if-topics-topic.true, c.topics.ensures, g.met.P.Port.counts_topics _ s)) (c.refuse_producer-then-topics-topic.ensures.says, refl))
+pub returns-in_default-clause-step : goal.returns-in_default-clause-step
+returns-in_default-clause-step g c = λ s. closes-unknown _ _ _ _ (rw (g.met.P.Port.counts_topics _ s) at c.in_default.ensures.unknown) (c.refuse_producer.ensures.says, refl)

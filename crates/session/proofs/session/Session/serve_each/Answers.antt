@@ -3,7 +3,7 @@ use Rattle.std.proofs.Math.Seq.{take-length}
 use Rattle.std.proofs.lemmas.Result.{err_from_is_err_and}
 use Rattle.gated_log.specs.declared.read_error.ReadError.{ReadError}
 use Rattle.session.specs.Client.{Client}
-use Rattle.session.specs.declared.consumer_entry.ConsumerEntry.{ConsumerEntry}
+use Rattle.session.specs.declared.entry.Entry.{Entry}
 use Rattle.session.proofs.Serving.{serves-more, serves_each-more, serves_until-more, serves_each-next, serves_each-refused}
 use Rattle.session.proofs.Speaking.{speaks_both}
 use Rattle.session.proofs.session.Session.serve_each.Goals as goal
@@ -24,7 +24,7 @@ loop-place-preserved g c =
           let within : place < length c.args.self.now.consumers =
           omega (arith, c.loop-place-test.true, c.len-place-end.ensures, ap (λ (v : Client). length v.consumers) c.self.view_is) in
           let is : one ≡ get_or c.args.self.now.consumers place one =
-          c.index-consumer.ensures ∙ ap (λ (xs : List ConsumerEntry). get_or xs place one) (ap (λ (v : Client). v.consumers) c.self-in-loop-place.view_is ∙ i.consumers) in
+          c.index-consumer.ensures ∙ ap (λ (xs : List Entry). get_or xs place one) (ap (λ (v : Client). v.consumers) c.self-in-loop-place.view_is ∙ i.consumers) in
           rw add-one (serves_each-next Told c.args.self.now.consumers place 64 c.loop-place.count c.in_ok-count.field-0 _ _ _ one one within is
           (serves_each-more _ Told earlier _ _ _ _ _ (i.serves s)) (serves-more _ Told later _ _ _ _ _ (c.in_ok-count.ensures.serves (port.passes_sole _ _ i.passes s))));
       consumers = e.consumers ∙ i.consumers;
@@ -40,7 +40,7 @@ returns-in_err-count-clause-serves g c = λ s.
     let within : place < length c.args.self.now.consumers =
     omega (arith, c.loop-place-test.true, c.len-place-end.ensures, ap (λ (v : Client). length v.consumers) c.self.view_is) in
     let is : one ≡ get_or c.args.self.now.consumers place one =
-    c.index-consumer.ensures ∙ ap (λ (xs : List ConsumerEntry). get_or xs place one) (ap (λ (v : Client). v.consumers) c.self-in-loop-place.view_is ∙ i.consumers) in
+    c.index-consumer.ensures ∙ ap (λ (xs : List Entry). get_or xs place one) (ap (λ (v : Client). v.consumers) c.self-in-loop-place.view_is ∙ i.consumers) in
     let p = err_from_is_err_and c.from_residual.result c.from_residual.ensures.1 in
     let port = g.met.P.Port in
     let e = c.serve.ensures in

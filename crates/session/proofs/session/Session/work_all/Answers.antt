@@ -1,10 +1,25 @@
+use Rattle.session.specs.Client.{play}
 use Rattle.session.proofs.Plays.{frames_step-push}
+use Rattle.session.proofs.Causes.{frame_caused, frames_caused}
 use Rattle.session.proofs.Speaking.{speaks_both}
 use Rattle.session.proofs.session.Session.work_all.Goals as goal
 
 pub loop-frame-preserved : goal.loop-frame-preserved
-loop-frame-preserved g c = record {
-  steps = λ s. frames_step-push _ _ _ _ _ (c.loop-frame.invariant.steps s) (c.work.ensures.step (g.met.P.Port.passes_sole _ _ c.loop-frame.invariant.passes s));
-  speaks = speaks_both _ _ _ _ _ _ c.loop-frame.invariant.speaks c.work.ensures.speaks;
-  passes = g.met.P.Port.passes_both _ _ _ c.loop-frame.invariant.passes c.work.ensures.passes;
-}
+loop-frame-preserved g c =
+    let port = g.met.P.Port in
+    let fails = g.P.Port.fails in
+    let i = c.loop-frame.invariant in
+    let e = c.work.ensures in
+    let begins = c.args.port.now in
+    let meets = c.loop-frame.port in
+    let ends = c.work.new.port in
+    let first = play c.args.self.now (g.P.Port.broker begins) c.args.out.now.items in
+    let met = play c.loop-frame.self (g.P.Port.broker meets) c.loop-frame.out.items in
+    let last = play c.work.new.self (g.P.Port.broker ends) c.work.new.out.items in
+    record {
+      steps = λ s. frames_step-push (fails begins ends) first _ met _ last
+          (frames_caused (fails begins meets) (fails begins ends) (port.fails_within begins begins meets ends (port.passes_works begins begins (port.passes_nothing begins)) i.works e.works) first _ met (i.steps s))
+          (frame_caused (fails meets ends) (fails begins ends) (port.fails_within begins meets ends ends i.works e.works (port.passes_works ends ends (port.passes_nothing ends))) met _ last (e.step (port.works_sole _ _ i.works s)));
+      speaks = speaks_both _ _ _ _ _ _ c.loop-frame.invariant.speaks c.work.ensures.speaks;
+      works = g.met.P.Port.works_both _ _ _ c.loop-frame.invariant.works c.work.ensures.works;
+    }

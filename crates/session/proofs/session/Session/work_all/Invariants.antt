@@ -4,8 +4,8 @@ use Rattle.session.proofs.session.Session.work_all.Given as goal
 
 abbrev pub invariant-loop-frame : goal.invariant-loop-frame
 invariant-loop-frame g l = record {
-  steps : g.P.Port.sole l.initial.port → FramesStep (play l.initial.self (g.P.Port.broker l.initial.port) l.initial.out.items) l.yielded
+  steps : g.P.Port.sole l.initial.port → FramesStep (g.P.Port.fails l.initial.port l.port) (play l.initial.self (g.P.Port.broker l.initial.port) l.initial.out.items) l.yielded
       (play l.self (g.P.Port.broker l.port) l.out.items);
   speaks : Speaks l.initial.self l.initial.out.items l.self l.out.items;
-  passes : g.P.Port.passes l.initial.port l.port;
+  works : g.P.Port.works l.initial.port l.port;
 }

@@ -1,5 +1,0 @@
-use Rattle.node.specs.Passing.{passes_nothing}
-use Rattle.node.proofs.port.TopicsPort.find.Goals as goal
-
-pub returns-clause-passes : goal.returns-clause-passes
-returns-clause-passes g c = passes_nothing g.S.Shelf.disk c.args.self.now

@@ -1,0 +1,36 @@
+-- Names that a broker has, and gains.
+use Rattle.std.specs.Prelude.{◌≡◌, ◌⊎◌, ℕ, Option, List, ◌++◌, ◌+◌, length, map}
+use Rattle.managed_ledger.specs.Entries.{Entries}
+use Rattle.records.specs.Maps.{Kept}
+use Rattle.catalog.specs.declared.catalog.Catalog.{Catalog}
+use Rattle.catalog.specs.Catalogs.{remembered, per_ledger}
+use Rattle.topic_core.specs.Crashes.{IsLeft}
+use Rattle.session.specs.Broker.{Broker, fresh, topic_at}
+
+-- each topic has its name, and a ledger id of it has as many entry ids as the broker says
+pub record IsFormed (b : Broker) : Type 0 where
+  pub named : length b.topics ≡ length b.names
+  pub ledgers : (number : ℕ) → (topic_at b number).per_ledger ≡ b.per_ledger
+
+-- with these names more, each of a fresh topic, and with this one in doubt
+abbrev pub with_names : Broker → List (List ℕ) → Option (List ℕ) → Broker
+with_names b more doubt = record b { names = b.names ++ more; doubtful = doubt; topics = b.topics ++ map (λ _. fresh b.per_ledger) more }
+
+-- topics are made, and whether one more is there may be in doubt
+pub record Gains (old new : Broker) : Type 0 where
+  pub more : List (List ℕ)
+  pub doubt : Option (List ℕ)
+  pub gained : new ≡ with_names old more doubt
+
+-- What a crash leaves of each topic it left before, and what it leaves of one that was made it leaves of a fresh one. Names are behind
+-- those of before.
+pub record Grows (old new : Broker) : Type 0 where
+  pub per_ledger : new.per_ledger ≡ old.per_ledger
+  pub service_url : new.service_url ≡ old.service_url
+  pub more : List (List ℕ)
+  pub names : new.names ≡ old.names ++ more
+  pub left : (number : ℕ) (ledger : Entries) (kept : Kept) → IsLeft (topic_at new number) ledger kept → IsLeft (topic_at old number) ledger kept
+
+-- a catalog that was opened again has as many names as before, or one more, and as many entries a ledger
+abbrev pub Follows : Catalog → Catalog → Type 0
+Follows old new = (per_ledger new ≡ per_ledger old) × ((length (remembered new) ≡ length (remembered old)) ⊎ (length (remembered new) ≡ length (remembered old) + 1))

@@ -1,0 +1,125 @@
+// Which topics each session uses.
+ghost use Rattle.std.specs.Prelude.{◌≡◌, ◌⊎◌, ◌<◌, ◌≤◌, ℕ, true, false, [], length, IfSome, None, position, slice_index_or, slice_set};
+ghost use Rattle.node.specs.Uses.{is_of, is_used};
+
+use catalog::MAX_TOPICS;
+use std::alloc::Global;
+
+/// The topics that a session uses, by their numbers.
+#[derive(Clone, Copy)]
+pub(crate) struct SessionUse {
+    pub(crate) session: u64,
+    pub(crate) topics: [bool; MAX_TOPICS],
+}
+
+/// The topics that each session uses. Where memory was refused for a mark, all of them count as used by all.
+#[derive(Drop)]
+pub(crate) struct Uses {
+    pub(crate) by_session: Vec<SessionUse>,
+    pub(crate) by_all: bool,
+}
+
+fn place_of(uses: &[SessionUse], who: u64) -> Option<usize>
+    ensures place { result ≡ position (is_of who) uses.now }
+    ensures within { IfSome result (λ place. place < length uses.now) }
+{
+    uses.iter().position(|u| u.session == who)
+}
+
+/// The first topic in use of those from one number on and before another one.
+fn next_in(topics: &[bool; MAX_TOPICS], from: u64, end: u64) -> Option<u64>
+    requires { end ≤ 64 }
+    ensures there { IfSome result (λ topic. (from ≤ topic) × (topic < end) × (slice_index_or topics.now topic false ≡ true)) }
+    ensures passed { (topic : ℕ) → from ≤ topic → topic < end → IfSome result (λ next. topic < next) → slice_index_or topics.now topic false ≡ false }
+{
+    for topic in from..end {
+        if topics[topic as usize] {
+            return Some(topic);
+        }
+    }
+    None
+}
+
+/// A session uses a topic, or uses it no more.
+fn set(topics: &mut [bool; MAX_TOPICS], topic: u64, used: bool)
+    requires { topic < 64 }
+    ensures topics { topics.new ≡ slice_set topics.old topic used }
+    ensures used { slice_index_or topics.new topic false ≡ used }
+{
+    topics[topic as usize] = used;
+}
+
+impl Uses {
+    /// No session uses a topic.
+    pub(crate) fn new(alloc: Global) -> Uses
+        ensures { (result.by_session.items ≡ []) × (result.by_all ≡ false) }
+    {
+        Uses {
+            by_session: Vec::new(alloc),
+            by_all: false,
+        }
+    }
+
+    /// A session uses a topic.
+    pub(crate) fn mark(&mut self, who: u64, topic: u64)
+        requires { topic < 64 }
+        ensures used { is_used self.new who topic ≡ true }
+        ensures others { (other at : ℕ) → is_used self.old other at ≡ true → is_used self.new other at ≡ true }
+        ensures only { self.new.by_all ≡ false → (other at : ℕ) → is_used self.new other at ≡ true → is_used self.old other at ≡ true ⊎ ((other ≡ who) × (at ≡ topic)) }
+    {
+        let Some(place) = place_of(self.by_session.as_slice(), who) else {
+            self.add(who, topic);
+            return;
+        };
+        set(&mut self.by_session[place].topics, topic, true);
+    }
+
+    // A session uses its first topic.
+    fn add(&mut self, who: u64, topic: u64)
+        requires low { topic < 64 }
+        requires new { position (is_of who) self.old.by_session.items ≡ None }
+        ensures used { is_used self.new who topic ≡ true }
+        ensures others { (other at : ℕ) → is_used self.old other at ≡ true → is_used self.new other at ≡ true }
+        ensures only { self.new.by_all ≡ false → (other at : ℕ) → is_used self.new other at ≡ true → is_used self.old other at ≡ true ⊎ ((other ≡ who) × (at ≡ topic)) }
+    {
+        let mut topics = [false; MAX_TOPICS];
+        set(&mut topics, topic, true);
+        let added = self.by_session.push(SessionUse {
+            session: who,
+            topics,
+        });
+        if added.is_err() {
+            self.by_all = true;
+        }
+    }
+
+    /// A session uses a topic no more. One that uses none takes no room.
+    pub(crate) fn forget(&mut self, who: u64, topic: u64)
+        requires { topic < 64 }
+        ensures gone { self.new.by_all ≡ false → is_used self.new who topic ≡ false }
+        ensures others { (other at : ℕ) → is_used self.old other at ≡ true → is_used self.new other at ≡ true ⊎ ((other ≡ who) × (at ≡ topic)) }
+        ensures only { (other at : ℕ) → is_used self.new other at ≡ true → is_used self.old other at ≡ true }
+    {
+        let Some(place) = place_of(self.by_session.as_slice(), who) else {
+            return;
+        };
+        set(&mut self.by_session[place].topics, topic, false);
+        if !self.by_session[place].topics.contains(&true) {
+            self.by_session.retain(|entry| entry.session != who);
+        }
+    }
+
+    /// The first topic that a session uses of those from one number on and before another one.
+    pub(crate) fn next(&self, who: u64, from: u64, end: u64) -> Option<u64>
+        requires { end ≤ 64 }
+        ensures there { IfSome result (λ topic. (from ≤ topic) × (topic < end)) }
+        ensures used { IfSome result (λ topic. is_used self.now who topic ≡ true) }
+        ensures passed { (topic : ℕ) → from ≤ topic → topic < end → IfSome result (λ next. topic < next) → is_used self.now who topic ≡ false }
+    {
+        if self.by_all {
+            return if from < end { Some(from) } else { None };
+        }
+        let place = place_of(self.by_session.as_slice(), who)?;
+        next_in(&self.by_session[place].topics, from, end)
+    }
+}
