@@ -47,6 +47,7 @@ TRIES = [  # of wrong bodies alone: whether the source is changed before, with w
     (False, [], "0 checks, 2 refused, 2 of them by an earlier run on this machine" if gate_remembers() else "1 checks, 2 refused"),
     (False, ["--anew"], "1 checks, 2 refused"),
     (True, [], "1 checks, 2 refused"),
+    (True, ["--kept", "{folder}/kept"], "1 checks, 2 refused"),  # a folder that isn't there, as behind a gate that had no edit to try
 ]
 
 
@@ -77,7 +78,8 @@ class Repository:
         for name, (old, new, *_) in edits.items():
             with open(f"{self.edits}/{name}.edit", "w", encoding="utf-8") as file:
                 file.write(f"file: src/lib.rt\nold: {old}\nnew: {new}\n")
-        done = subprocess.run([f"{self.folder}/tests/wrong_bodies", *flags], stdout=subprocess.PIPE, stderr=subprocess.STDOUT, text=True, check=False)
+        words = [it.format(folder=self.folder) for it in flags]
+        done = subprocess.run([f"{self.folder}/tests/wrong_bodies", *words], stdout=subprocess.PIPE, stderr=subprocess.STDOUT, text=True, check=False)
         return done.stdout, done.returncode
 
 
