@@ -47,7 +47,7 @@ impl<T: TopicStore> Held<T> {
 
 impl<T: TopicStore, S: Shelf> Node<T, S> {
     /// What the topic of a number has; none where there is no such topic. An error is want of memory.
-    pub(crate) fn status(&self, topic: u64) -> Result<Option<TopicStatus>, AllocError>
+    pub fn status(&self, topic: u64) -> Result<Option<TopicStatus>, AllocError>
         ensures status { Stands S.disk self.now → IfOk result (StatusIn (place_in (state_of S.disk self.now).broker.topics topic) (state_of S.disk self.now)) }
         ensures files { Stands S.disk self.now → IfOk result (SegmentsAt T.laid topic self.now.topics.held.items (S.disk self.now.topics.shelf).seen) }
     {

@@ -16,3 +16,4 @@ pub mod Standings
 pub mod Keeps
 pub mod Ranges
 pub mod Reading
+pub mod HandingOut

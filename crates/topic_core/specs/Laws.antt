@@ -59,6 +59,10 @@ pub record IsPublished (old : Topic) (c : TopicCommand) (answer : Answer) (new :
   pub waiting : new.waiting ≡ old.waiting ++ entries_added c answer
   pub accepted : new.accepted ≡ old.accepted + length (entries_added c answer)
 
+-- a command hands out no receipt
+abbrev pub CommandsHandOutNothing : Type 0
+CommandsHandOutNothing = (old : Topic) (who : ℕ) (c : TopicCommand) (answer : Answer) (new : Topic) → TopicStep old who c answer new → new.handed ≡ old.handed
+
 abbrev pub EntriesArePublished : Type 0
 EntriesArePublished = (old : Topic) (who : ℕ) (c : TopicCommand) (answer : Answer) (new : Topic) → TopicStep old who c answer new → IsPublished old c answer new
 

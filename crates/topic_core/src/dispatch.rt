@@ -1,8 +1,9 @@
-ghost use Rattle.std.specs.Prelude.{◌≡◌, ◌⊎◌, ◌<◌, ◌≤◌, Some, false, length, slice_get, IfOk, IfErr, IfSome, IsErr, IsErrOf};
+ghost use Rattle.std.specs.Prelude.{◌≡◌, ◌⊎◌, ◌<◌, ◌≤◌, ℕ, IfNone, Some, false, length, slice_get, IfOk, IfErr, IfSome, IsErr, IsErrOf};
 ghost use Rattle.disk.specs.Disk.{Same, Leaves, Kept, Failed};
 ghost use Rattle.gated_log.specs.declared.read_error.ReadError.TheVariants.{Device, NoMemory};
 ghost use Rattle.topic_core.specs.State.{CountsStay};
-ghost use Rattle.topic_core.specs.Dispatch.{DispatchStep, IsMessageTo};
+ghost use Rattle.topic_core.specs.Steps.{key_of};
+ghost use Rattle.topic_core.specs.Dispatch.{Admits, DispatchStep, IsMessageTo};
 ghost use Rattle.topic_core.specs.Standing.{GoesOn, Phase, Standing};
 
 use crate::topic::{TopicCore, key_of};
@@ -21,6 +22,19 @@ pub struct Outgoing {
 }
 
 impl TopicCore {
+    /// The position whose entry is a consumer's next message: one exactly where it may get one, which a dispatch then gives it.
+    /// Changes nothing.
+    pub fn pick(&mut self, who: u64, consumer_id: u64) -> Option<u64>
+        ensures same { self.new ≡ self.old }
+        ensures some { IfSome result (Admits self.old (key_of who consumer_id)) }
+        ensures none { IfNone result ((i : ℕ) → Admits self.old (key_of who consumer_id) i → ⊥) }
+    {
+        if self.is_failed() {
+            return None;
+        }
+        self.subs.pick(key_of(who, consumer_id), self.committed)
+    }
+
     /// A message for a consumer, which holds it from then on: one exactly where it may get one, with one read of the device.
     /// A refusal changes nothing. While a flush is under way what is committed is read.
     pub fn dispatch<T: TopicStore, S: Shelf>(

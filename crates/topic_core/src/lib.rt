@@ -26,9 +26,9 @@ mod unsubscribing;
 pub use command::{Answer, PlainEntry, Send, SentEntry, Subscribe, TopicCommand};
 pub use dispatch::Outgoing;
 pub use laws::{
-    answers_are_no_receipts, answers_fit, entries_are_published, flushes_commit, flushes_keep,
-    ids_are_positions, messages_are_admitted, messages_go_to_their_ranges, receipts_are_covered,
-    stays_sound, topics_go_on,
+    answers_are_no_receipts, answers_fit, commands_hand_out_nothing, entries_are_published,
+    flushes_commit, flushes_keep, ids_are_positions, messages_are_admitted,
+    messages_go_to_their_ranges, receipts_are_covered, stays_sound, topics_go_on,
 };
 pub use producer::{Producer, ProducerState};
 pub use subscriptions::TooManyPermits;

@@ -96,6 +96,9 @@ impl TopicCore {
         ensures per_ledger { self.new.per_ledger ≡ self.old.per_ledger }
         ensures counts { CountsStay self.old self.new }
         ensures works { self.old.failed ≡ false → self.new ≡ self.old }
+        // Whatever the device does, the entries of a topic that was opened again are as many as the store remembers.
+        ensures again { self.old.failed ≡ true → OnOk result (self.new ≡ reopened self.old self.new.ledger (map slot_of_entry self.new.ledger) self.new.kept) }
+        ensures as_many { self.old.failed ≡ true → OnOk result (self.new.committed ≡ (T.view stores.new).count) }
         ensures refused { IsErr result → (self.new ≡ self.old) × (stores.new ≡ stores.old) }
         ensures cause { IsErrOf result Device → Failed (S.disk shelf.old) (S.disk shelf.new) }
         ensures kept { Counted (S.disk shelf.old) (S.disk shelf.new) }

@@ -7,7 +7,8 @@ ghost use Rattle.subscriptions.specs.Statuses.{AreStatuses};
 ghost use Rattle.topic_core.specs.Slots.{slot_of_entry};
 ghost use Rattle.topic_core.specs.State.{Topic, next_position};
 ghost use Rattle.reply_queues.specs.Replies.{is_receipt};
-ghost use Rattle.topic_core.specs.Steps.{Meets, TopicStep, Collects, Fits, first_standing, producer_refusals, send_refusals, limit_refusals, producer_outcome, send_outcome, has_producer, has_open_producer, has_name, is_producer, is_open_producer, is_open, is_single_message, accepted, receipt, key_of, left};
+ghost use Rattle.topic_core.specs.Steps.{Meets, TopicStep, Collects, Fits, first_standing, producer_refusals, send_refusals, limit_refusals, has_room, producer_outcome, send_outcome, has_producer, has_open_producer, has_name, is_producer, is_open_producer, is_open, is_single_message, accepted, receipt, key_of, left};
+ghost use Rattle.topic_core.specs.Soundness.{IsSound};
 ghost use Rattle.topic_core.specs.Standing.{GoesOn};
 
 use crate::command::{Answer, PlainEntry, Send, SentEntry, TopicCommand};
@@ -90,11 +91,26 @@ impl TopicCore {
         self.failed
     }
 
+    /// That the topic is sound, which it is between any two calls. Costs nothing.
+    pub fn show_sound(&self)
+        ensures { IsSound self.now }
+    {
+        // The proof reads here what holds of a topic at any time.
+        let _ = &self.alloc;
+    }
+
     /// How many entries are committed.
     pub fn committed(&self) -> u64
         ensures { result ≡ self.now.committed }
     {
         self.committed
+    }
+
+    /// Whether beside what waits there is room for an entry of this length, in bytes. Where there is none, a flush makes it.
+    pub fn has_room(&self, len: usize) -> bool
+        ensures { result ≡ has_room self.now len }
+    {
+        self.waiting.len() < MOST_WAITING && len as u64 <= MOST_WAITING_BYTES - self.waiting_bytes
     }
 
     /// What is told of each subscription, in the order of the names' bytes, also of a failed topic.
@@ -164,8 +180,7 @@ impl TopicCore {
         requires { len ≤ 1048576 }
         ensures { result ≡ first_standing (limit_refusals self.now len) }
     {
-        if self.waiting.len() >= MOST_WAITING
-            || self.waiting_bytes + len as u64 > MOST_WAITING_BYTES
+        if !self.has_room(len)
             || self.committed + self.waiting.len() as u64 >= MOST_ENTRIES
             || self.accepted >= MOST_ENTRIES
         {

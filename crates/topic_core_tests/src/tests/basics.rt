@@ -1,5 +1,5 @@
 // A topic that works: what a flush and an opening make of it, reads that fail, and a file that is cut.
-ghost use Rattle.std.specs.Prelude.{IfOk};
+ghost use Rattle.std.specs.Prelude.{◌≤◌, IfOk};
 ghost use Rattle.topic_core_tests.specs.Matching.{AreMatched};
 
 use super::{PLAIN, Seen, Topic, producer, refusal, send, subscribe};
@@ -8,9 +8,10 @@ use gated_log::Refusal;
 use std::alloc::Global;
 use std::test::Fail;
 use topic_core::{
-    FileStores, TopicCore, TopicStore, answers_are_no_receipts, answers_fit, entries_are_published,
-    flushes_commit, flushes_keep, ids_are_positions, messages_are_admitted,
-    messages_go_to_their_ranges, receipts_are_covered, stays_sound, topics_go_on,
+    FileStores, TopicCore, TopicStore, answers_are_no_receipts, answers_fit,
+    commands_hand_out_nothing, entries_are_published, flushes_commit, flushes_keep,
+    ids_are_positions, messages_are_admitted, messages_go_to_their_ranges, receipts_are_covered,
+    stays_sound, topics_go_on,
 };
 
 // How many entries of a new topic a flush commits, and one behind it.
@@ -152,11 +153,49 @@ fn what_a_session_had_goes_with_it(rt: HostRuntime) -> Result<(), Fail> {
     Ok(())
 }
 
+// The most bytes that may wait.
+const MOST_BYTES: usize = 16_777_216;
+
+// Whether there is room for so many bytes beside what waits, and for one more.
+fn room(core: &TopicCore, len: usize) -> (bool, bool)
+    requires { len ≤ 16777216 }
+{
+    (core.has_room(len), core.has_room(len + 1))
+}
+
+// The room of a new topic, the one beside an entry that waits, and the one behind its flush.
+fn fill(
+    topic: &mut Topic,
+    alloc: Global,
+) -> Result<((bool, bool), (bool, bool), (bool, bool)), Refusal>
+    requires { AreMatched topic.old.core topic.old.stores }
+{
+    topic.core.show_sound();
+    let new = room(&topic.core, MOST_BYTES);
+    topic.ask(0, producer(alloc)?)?;
+    topic.ask(0, send(alloc, 7)?)?;
+    let waiting = room(&topic.core, MOST_BYTES - PLAIN.len());
+    topic.flush()?;
+    Ok((new, waiting, room(&topic.core, MOST_BYTES)))
+}
+
+// What waits takes its bytes from the room, and a flush gives them back.
+#[test]
+fn room_is_what_the_waiting_entries_leave(rt: HostRuntime) -> Result<(), Fail> {
+    let mut topic = Topic::new(rt.alloc())?;
+    let seen = fill(&mut topic, rt.alloc());
+    drop(topic);
+    let just = (true, false);
+    assert_eq!(rt; seen?, (just, just, just));
+    Ok(())
+}
+
 // What is said of answers and of what waits.
 fn call_laws_of_answers() {
     answers_fit();
     answers_are_no_receipts();
     entries_are_published();
+    commands_hand_out_nothing();
     stays_sound();
 }
 
