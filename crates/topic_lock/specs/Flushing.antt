@@ -1,0 +1,31 @@
+-- A flush in three parts, each under one lock.
+use Rattle.std.specs.Prelude.{◌≡◌, ℕ, Result, Ok, Err}
+use Rattle.topic_stores.specs.declared.batch.Batch.{Batch}
+use Rattle.topic_stores.specs.declared.error.WriteError.{WriteError}
+use Rattle.topic_stores.specs.declared.error.WriteError.TheVariants as write
+use Rattle.topic_stores.specs.Views.{StoreView}
+use Rattle.topic_stores.specs.Writing.{Fits, Remembers}
+use Rattle.topic_core.specs.State.{Topic, entries_of}
+use Rattle.topic_core.specs.Flush.{finished, taken_back, failed}
+use Rattle.topic_lock.specs.declared.fault.FlushFault.{FlushFault}
+use Rattle.topic_lock.specs.declared.fault.FlushFault.TheVariants.{Device, NoMemory, Apart}
+
+-- what the stores remember after a write: one that doesn't fit them isn't tried
+abbrev pub Writes : StoreView → Batch → Result (Unit {0}) FlushFault → StoreView → Type 0
+Writes old batch (Ok done) new = Fits old batch × Remembers old batch (Ok done) new
+Writes old batch (Err NoMemory) new = Fits old batch × Remembers old batch (Err write.NoMemory) new
+Writes old batch (Err Device) new = Fits old batch × Remembers old batch (Err write.Device) new
+Writes old batch (Err Apart) new = Fits old batch → ⊥
+
+-- a flush ends as its write did: what was handed on is committed, or waits again, or the topic fails
+abbrev pub FinishStep : Topic → Result (Unit {0}) FlushFault → Result ℕ FlushFault → Topic → Type 0
+FinishStep old (Ok done) result new = (result ≡ Ok (entries_of old.doubt)) × (new ≡ finished old)
+FinishStep old (Err NoMemory) result new = (result ≡ Err NoMemory) × (new ≡ taken_back old)
+FinishStep old (Err Device) result new = (result ≡ Err Device) × (new ≡ failed old)
+FinishStep old (Err Apart) result new = (result ≡ Err Apart) × (new ≡ failed old)
+
+-- the count of a flush that ended well, or why it did not
+abbrev pub told_of : Result (Unit {0}) FlushFault → Result ℕ WriteError → Result ℕ FlushFault
+told_of (Ok done) (Ok count) = Ok count
+told_of (Ok done) (Err why) = Ok 0
+told_of (Err why) ended = Err why

@@ -1,0 +1,6 @@
+pub mod Tallies
+pub mod Ledgers
+pub mod Counting
+pub mod Ends
+pub mod Flushing
+pub mod Locked

@@ -1,0 +1,235 @@
+// A topic with its shares.
+ghost use Rattle.std.specs.Prelude.{◌≡◌, ◌+◌, ◌<◌, ◌≤◌, false, true, IfOk, IfErr, IfSome, IsErr};
+ghost use Rattle.topic_core.specs.State.{CountsStay};
+ghost use Rattle.topic_core.specs.Steps.{TopicStep, Collects, GrantStep, Fits, left, has_producer, has_consumer};
+ghost use Rattle.topic_core.specs.Dispatch.{IsMessageTo};
+ghost use Rattle.topic_core.specs.Soundness.{IsSound};
+ghost use Rattle.topic_core.specs.Standing.{GoesOn};
+ghost use Rattle.topic_lock.specs.Counting.{sends_of, receipts_collected, is_send, is_later};
+ghost use Rattle.reply_queues.specs.Replies.{is_receipt};
+
+use crate::durable::DurableByTopics;
+use crate::stores::CountedStores;
+use crate::tally::{
+    AcceptedByPorts, AcceptedByTopics, HandedByPorts, HandedByTopics, Tallies, Tally,
+};
+use commands::Reply;
+use disk::Shelf;
+use std::marker::Model;
+use std::sync::ledger::Share;
+use std::sync::{Mutex, Wait};
+use topic_core::{
+    Answer, Outgoing, ReadError, TooManyPermits, TopicCommand, TopicCore, TopicStore,
+    commands_hand_out_nothing, entries_are_published,
+};
+
+/// The SENDs that were accepted, behind a lock that is taken last.
+pub type AcceptedTally<K> = Mutex<Tally<AcceptedByTopics<K>, AcceptedByPorts<K>>>;
+
+/// The receipts that were collected, behind a lock that is taken last.
+pub type HandedTally<K> = Mutex<Tally<HandedByTopics<K>, HandedByPorts<K>>>;
+
+/// A topic's shares: of what was accepted and handed out, of what it counts as committed, and of what a flush that failed left
+/// behind.
+#[derive(Drop)]
+pub struct TopicShares<K: Tallies> {
+    pub accepted: Share<AcceptedByTopics<K>>,
+    pub handed: Share<HandedByTopics<K>>,
+    pub committed: Share<DurableByTopics<K>>,
+    pub behind: Share<DurableByTopics<K>>,
+    ghost counting: { (accepted.parts ≡ 1) × (handed.parts ≡ 1) },
+    ghost durable: { (committed.parts ≡ 1) × (behind.parts ≡ 1) },
+}
+
+/// A topic without its stores, with its shares. What a flush that failed had made durable stays behind until the topic is opened
+/// again.
+#[derive(Drop)]
+pub struct CountedTopic<K: Tallies> {
+    pub(crate) core: TopicCore,
+    pub(crate) accepted: Share<AcceptedByTopics<K>>,
+    pub(crate) handed: Share<HandedByTopics<K>>,
+    pub(crate) committed: Share<DurableByTopics<K>>,
+    pub(crate) behind: Share<DurableByTopics<K>>,
+    pub(crate) left: u64,
+    ghost accepted_counted: { (accepted.amount ≡ core.accepted) × (accepted.parts ≡ 1) },
+    ghost handed_counted: { (handed.amount ≡ core.handed) × (handed.parts ≡ 1) },
+    ghost committed_counted: { (committed.amount ≡ core.committed) × (committed.parts ≡ 1) },
+    ghost behind_counted: { (behind.amount ≡ left) × (behind.parts ≡ 1) },
+    ghost few: { left ≤ 1024 },
+    ghost works: { core.failed ≡ false → left ≡ 0 },
+}
+
+impl<K: Tallies> CountedTopic<K> {
+    /// A topic whose shares count what it counts.
+    pub fn new(core: TopicCore, shares: TopicShares<K>) -> CountedTopic<K>
+        requires accepted { shares.accepted.amount ≡ core.accepted }
+        requires handed { shares.handed.amount ≡ core.handed }
+        requires committed { shares.committed.amount ≡ core.committed }
+        requires behind { shares.behind.amount ≡ 0 }
+        ensures { result.core ≡ core }
+    {
+        let TopicShares {
+            accepted,
+            handed,
+            committed,
+            behind,
+        } = shares;
+        CountedTopic {
+            core,
+            accepted,
+            handed,
+            committed,
+            behind,
+            left: 0,
+        }
+    }
+
+    /// That the topic is sound, whenever it is got. Costs nothing.
+    pub fn show_sound(&self)
+        ensures { IsSound self.now.core }
+    {
+        self.core.show_sound();
+    }
+
+    pub fn has_producer(&self, who: u64, id: u64) -> bool
+        ensures { result ≡ has_producer self.now.core who id }
+    {
+        self.core.has_producer(who, id)
+    }
+
+    pub fn has_consumer(&self, who: u64, id: u64) -> bool
+        ensures { result ≡ has_consumer self.now.core who id }
+    {
+        self.core.has_consumer(who, id)
+    }
+
+    /// The topic's step. A SEND that is accepted is counted for the port.
+    #[tactic(auto, using(crate::proofs::Counts::no_send, crate::proofs::Counts::not_accepted, crate::proofs::Counts::one_send))]
+    pub fn command<R: Wait>(
+        &mut self,
+        rt: &R,
+        tally: &AcceptedTally<K>,
+        port: &mut Share<AcceptedByPorts<K>>,
+        who: u64,
+        command: TopicCommand,
+    ) -> Answer
+        requires { 0 < port.old.parts }
+        ensures step { TopicStep self.old.core who command result self.new.core }
+        ensures fits { Fits command result }
+        ensures goes_on { GoesOn self.old.core self.new.core }
+        ensures counted { port.new.amount ≡ port.old.amount + sends_of command result }
+        ensures parts { port.new.parts ≡ port.old.parts }
+    {
+        entries_are_published();
+        commands_hand_out_nothing();
+        let CountedTopic { core, accepted, .. } = self;
+        let is_send = is_send(&command);
+        let answer = core.command(who, command);
+        if is_send && is_later(&answer) {
+            tally.lock(rt).count(accepted, port);
+        }
+        answer
+    }
+
+    /// The session's first due reply. A receipt is counted for the port.
+    pub fn collect<R: Wait>(
+        &mut self,
+        rt: &R,
+        tally: &HandedTally<K>,
+        port: &mut Share<HandedByPorts<K>>,
+        who: u64,
+    ) -> Option<Reply>
+        requires { 0 < port.old.parts }
+        ensures step { Collects self.old.core who result self.new.core }
+        ensures goes_on { GoesOn self.old.core self.new.core }
+        ensures counted { port.new.amount ≡ port.old.amount + receipts_collected result }
+        ensures parts { port.new.parts ≡ port.old.parts }
+    {
+        let CountedTopic { core, handed, .. } = self;
+        let reply = core.collect(who)?;
+        if is_receipt(&reply) {
+            tally.lock(rt).count(handed, port);
+        }
+        Some(reply)
+    }
+
+    /// FLOW, as the topic works it.
+    pub fn grant(&mut self, who: u64, consumer_id: u64, permits: u32) -> Result<(), TooManyPermits>
+        ensures step { GrantStep self.old.core who consumer_id permits result self.new.core }
+        ensures goes_on { GoesOn self.old.core self.new.core }
+    {
+        let CountedTopic { core, .. } = self;
+        core.grant(who, consumer_id, permits)
+    }
+
+    /// A message for a consumer, which holds it from then on. Where there is one, its entry is read under the stores' lock, which
+    /// may wait for a write.
+    pub fn dispatch<T: TopicStore, S: Shelf + Drop, R: Wait>(
+        &mut self,
+        rt: &R,
+        stores: &Mutex<CountedStores<T, S, K>>,
+        who: u64,
+        consumer_id: u64,
+    ) -> Result<Option<Outgoing>, ReadError>
+        ensures message { IfOk result (λ sent. IfSome sent (λ outgoing. IsMessageTo consumer_id outgoing)) }
+        ensures goes_on { GoesOn self.old.core self.new.core }
+        ensures counts { CountsStay self.old.core self.new.core }
+        ensures refused { IsErr result → self.new.core ≡ self.old.core }
+        ensures works { IsErr result → self.old.core.failed ≡ false }
+    {
+        let CountedTopic { core, .. } = self;
+        if core.pick(who, consumer_id).is_none() {
+            return Ok(None);
+        }
+        stores.lock(rt).dispatch(core, who, consumer_id)
+    }
+
+    /// The session leaves. What it sent stays.
+    pub fn leave(&mut self, who: u64)
+        ensures step { self.new.core ≡ left self.old.core who }
+        ensures goes_on { GoesOn self.old.core self.new.core }
+    {
+        let CountedTopic { core, .. } = self;
+        core.leave(who)
+    }
+
+    /// The topic's shares, once it is out of its lock, and how much is left behind.
+    pub fn into_shares(self) -> TopicShares<K>
+        ensures accepted { result.accepted.amount ≡ self.core.accepted }
+        ensures handed { result.handed.amount ≡ self.core.handed }
+        ensures committed { result.committed.amount ≡ self.core.committed }
+        ensures behind { self.core.failed ≡ false → result.behind.amount ≡ 0 }
+    {
+        let CountedTopic {
+            accepted,
+            handed,
+            committed,
+            behind,
+            ..
+        } = self;
+        TopicShares {
+            accepted,
+            handed,
+            committed,
+            behind,
+        }
+    }
+}
+
+fn is_send(command: &TopicCommand) -> bool
+    ensures { result ≡ is_send command.now }
+{
+    matches!(command, TopicCommand::Send(_))
+}
+
+fn is_later(answer: &Answer) -> bool
+    ensures { result ≡ is_later answer.now }
+{
+    matches!(answer, Answer::Later)
+}
+
+fn is_receipt(reply: &Reply) -> bool
+    ensures { result ≡ is_receipt reply.now }
+{
+    matches!(reply, Reply::SendReceipt { .. })
+}

@@ -1,0 +1,33 @@
+//! Topics and their stores behind locks of their own, with shares of what all of them count. Each SEND that is answered as
+//! accepted and each receipt that is collected is counted once for its topic and once for its port, and all stores durably hold
+//! at least as many entries as all topics count as committed. Whenever a topic's lock is got the topic is sound, and each call
+//! says in full what it does to the state that it is lent.
+#![tactic(auto)]
+
+mod counted;
+mod directory;
+mod durable;
+mod fault;
+mod finding;
+mod flushing;
+mod ledgers;
+mod locked;
+mod opening;
+mod parts;
+mod reopening;
+mod shared;
+mod stores;
+mod tally;
+mod written;
+
+pub use counted::{AcceptedTally, CountedTopic, HandedTally, TopicShares};
+pub use directory::{LockedCatalog, SharedCatalog, Spare};
+pub use durable::{Durable, DurableByStores, DurableByTopics, DurableTally};
+pub use fault::FlushFault;
+pub use ledgers::{Blanks, Ledgers};
+pub use locked::LockedPort;
+pub use parts::{PortShares, TopicParts};
+pub use shared::{Known, LockedTopic, Place, SharedTopic};
+pub use stores::CountedStores;
+pub use tally::{AcceptedByPorts, AcceptedByTopics, HandedByPorts, HandedByTopics, Tallies, Tally};
+pub use written::{Flusher, Written};

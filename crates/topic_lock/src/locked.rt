@@ -1,0 +1,259 @@
+// A port over the topics' locks.
+ghost use Rattle.std.specs.Prelude.{◌≡◌, ◌+◌, ◌-◌, ◌<◌, ◌≤◌, ◌^◌, ℕ, true, length, min, IfOk, IfSome};
+ghost use Rattle.topic_core.specs.Steps.{Fits, has_producer, has_consumer};
+ghost use Rattle.session.specs.Broker.{CommandStep, CollectedAt, FindStep, IfFound, IfFailed};
+ghost use Rattle.topic_lock.specs.Counting.{sends_of, receipts_collected};
+ghost use Rattle.topic_lock.specs.Locked.{unknown_broker};
+
+use crate::counted::{AcceptedTally, HandedTally};
+use crate::directory::LockedCatalog;
+use crate::durable::DurableTally;
+use crate::parts::PortShares;
+use crate::shared::{Known, SharedTopic};
+use crate::tally::{AcceptedByPorts, HandedByPorts, Tallies};
+use commands::{Reply, ReplyText};
+use disk::Shelf;
+use names::TopicName;
+use session::{Found, Port};
+use std::alloc::{AllocError, Global};
+use std::sync::Wait;
+use std::sync::ledger::Share;
+use topic_core::{Answer, Outgoing, ReadError, TooManyPermits, TopicCommand, TopicStore};
+
+/// A port over the topics' locks, with shares of what all ports were told. It knows the topics that it found.
+#[derive(Drop)]
+pub struct LockedPort<'p, 'a, T: TopicStore, S: Shelf + Drop, K: Tallies, R: Wait> {
+    rt: &'p R,
+    url: &'p ReplyText,
+    catalog: &'p LockedCatalog<'a, T, S, K>,
+    accepted_tally: &'p AcceptedTally<K>,
+    handed_tally: &'p HandedTally<K>,
+    durable_tally: &'p DurableTally<K>,
+    known: Vec<Known<'a, T, S, K>>,
+    accepted: Share<AcceptedByPorts<K>>,
+    handed: Share<HandedByPorts<K>>,
+    ghost parts: { (accepted.parts ≡ 1) × (handed.parts ≡ 1) },
+}
+
+impl<'p, 'a, T: TopicStore, S: Shelf + Drop, K: Tallies, R: Wait> LockedPort<'p, 'a, T, S, K, R> {
+    /// A port that knows no topic yet, with the shares of one.
+    pub fn new(
+        rt: &'p R,
+        alloc: Global,
+        url: &'p ReplyText,
+        catalog: &'p LockedCatalog<'a, T, S, K>,
+        accepted_tally: &'p AcceptedTally<K>,
+        handed_tally: &'p HandedTally<K>,
+        durable_tally: &'p DurableTally<K>,
+        shares: PortShares<K>,
+    ) -> LockedPort<'p, 'a, T, S, K, R>
+        ensures { (result.accepted.amount ≡ shares.accepted.amount) × (result.handed.amount ≡ shares.handed.amount) }
+    {
+        let PortShares { accepted, handed } = shares;
+        LockedPort {
+            rt,
+            url,
+            catalog,
+            accepted_tally,
+            handed_tally,
+            durable_tally,
+            known: Vec::new(alloc),
+            accepted,
+            handed,
+        }
+    }
+
+    /// The shares, each with what all ports counted.
+    pub fn settle(
+        self,
+    ) -> (
+        (Share<AcceptedByPorts<K>>, u64),
+        (Share<HandedByPorts<K>>, u64),
+    )
+        ensures accepted { (result.0.0.parts ≡ 1) × (result.0.0.amount ≡ self.entry.accepted.amount) × (min result.0.0.amount (2 ^ 64 - 1) ≤ result.0.1) }
+        ensures handed { (result.1.0.parts ≡ 1) × (result.1.0.amount ≡ self.entry.handed.amount) × (min result.1.0.amount (2 ^ 64 - 1) ≤ result.1.1) }
+    {
+        let LockedPort {
+            rt,
+            accepted_tally,
+            handed_tally,
+            mut accepted,
+            mut handed,
+            ..
+        } = self;
+        let all_accepted = accepted_tally.lock(rt).total(&mut accepted);
+        let all_handed = handed_tally.lock(rt).total(&mut handed);
+        ((accepted, all_accepted), (handed, all_handed))
+    }
+
+    /// The topic of a number that the port knows.
+    fn topic(&self, topic: u64) -> &'a SharedTopic<T, S, K>
+        requires { topic < length self.now.known.items }
+    {
+        self.known[topic as usize].get()
+    }
+
+    /// Learns of the topics that are there by now.
+    fn learn(&mut self, known: &Vec<Known<'a, T, S, K>>) -> Result<(), AllocError>
+        ensures grows { length self.old.known.items ≤ length self.new.known.items }
+        ensures all { IfOk result (λ _. length known.now.items ≤ length self.new.known.items) }
+        ensures accepted { (self.new.accepted.amount ≡ self.old.accepted.amount) × (self.new.handed.amount ≡ self.old.handed.amount) }
+    {
+        let LockedPort { known: mine, .. } = self;
+        for number in mine.len()..known.len() {
+            mine.push(known[number].again())?;
+        }
+        Ok(())
+    }
+}
+
+impl<'p, 'a, T: TopicStore, S: Shelf + Drop, K: Tallies, R: Wait> Port
+    for LockedPort<'p, 'a, T, S, K, R> {
+    ghost broker = { λ _. unknown_broker };
+
+    ghost count = { λ port. length port.known.items };
+
+    ghost sole = { λ _. ⊥ };
+
+    ghost passes = { λ old new. length new.known.items ≡ length old.known.items };
+
+    ghost works = { λ old new. length old.known.items ≤ length new.known.items };
+
+    ghost fails = { λ _ _. Unit {0} };
+
+    ghost refuses = { λ _ _ _. Unit {0} };
+
+    fn service_url(&self) -> &str {
+        self.url.as_str()
+    }
+
+    fn topics(&self) -> u64 {
+        self.known.len() as u64
+    }
+
+    fn has_producer(&self, topic: u64, who: u64, producer_id: u64) -> bool {
+        self.topic(topic)
+            .topic
+            .lock(self.rt)
+            .has_producer(who, producer_id)
+    }
+
+    fn has_consumer(&self, topic: u64, who: u64, consumer_id: u64) -> bool {
+        self.topic(topic)
+            .topic
+            .lock(self.rt)
+            .has_consumer(who, consumer_id)
+    }
+
+    fn find(&mut self, name: &TopicName) -> Found {
+        let mut catalog = self.catalog.lock(self.rt);
+        let found = catalog.find_or_make(self.rt, self.durable_tally, name);
+        match self.learn(&catalog.known) {
+            Ok(()) => found,
+            Err(AllocError) => Found::NoMemory,
+        }
+    }
+
+    fn command(&mut self, topic: u64, who: u64, command: TopicCommand) -> Answer
+        requires { topic < length self.old.known.items }
+        ensures step { ⊥ → CommandStep unknown_broker topic who command result unknown_broker }
+        ensures fits { Fits command result }
+        ensures passes { length self.new.known.items ≡ length self.old.known.items }
+        ensures accepted { self.new.accepted.amount ≡ self.old.accepted.amount + sends_of command result }
+        ensures handed { self.new.handed.amount ≡ self.old.handed.amount }
+    {
+        let shared = self.topic(topic);
+        let LockedPort {
+            rt,
+            accepted_tally,
+            accepted,
+            ..
+        } = self;
+        shared
+            .topic
+            .lock(*rt)
+            .command(*rt, accepted_tally, accepted, who, command)
+    }
+
+    fn grant(
+        &mut self,
+        topic: u64,
+        who: u64,
+        consumer_id: u64,
+        permits: u32,
+    ) -> Result<(), TooManyPermits> {
+        self.topic(topic)
+            .topic
+            .lock(self.rt)
+            .grant(who, consumer_id, permits)
+    }
+
+    fn dispatch(
+        &mut self,
+        topic: u64,
+        who: u64,
+        consumer_id: u64,
+    ) -> Result<Option<Outgoing>, ReadError> {
+        let shared = self.topic(topic);
+        shared
+            .topic
+            .lock(self.rt)
+            .dispatch(self.rt, &shared.stores, who, consumer_id)
+    }
+
+    fn next_due(&self, _who: u64, from: u64) -> Option<u64> {
+        if from < self.topics() {
+            Some(from)
+        } else {
+            None
+        }
+    }
+
+    fn collect(&mut self, topic: u64, who: u64) -> Option<Reply>
+        requires { topic < length self.old.known.items }
+        ensures step { ⊥ → CollectedAt unknown_broker topic who result unknown_broker }
+        ensures passes { length self.new.known.items ≡ length self.old.known.items }
+        ensures accepted { self.new.accepted.amount ≡ self.old.accepted.amount }
+        ensures handed { self.new.handed.amount ≡ self.old.handed.amount + receipts_collected result }
+    {
+        let shared = self.topic(topic);
+        let LockedPort {
+            rt,
+            handed_tally,
+            handed,
+            ..
+        } = self;
+        shared
+            .topic
+            .lock(*rt)
+            .collect(*rt, handed_tally, handed, who)
+    }
+
+    fn leave(&mut self, topic: u64, who: u64) {
+        self.topic(topic).topic.lock(self.rt).leave(who)
+    }
+
+    ghost use Rattle.std.proofs.Common.{refl, sym, ap, ◌∙◌, arith};
+
+    ghost passes_nothing = { λ port. refl };
+
+    ghost passes_both = { λ a b c first second. second ∙ first };
+
+    ghost passes_sole = { λ a b passes sole. sole };
+
+    ghost passes_works = { λ a b passes. omega (arith, passes) };
+
+    ghost works_both = { λ a b c first second. omega (arith, first, second) };
+
+    ghost works_sole = { λ a b works sole. sole };
+
+    ghost works_count = { λ a b works. works };
+
+    ghost fails_within = { λ a b c d before between after fails. tt };
+
+    ghost refuses_within = { λ a b c d why before between after refused. tt };
+
+    ghost passes_count = { λ a b passes. omega (arith, passes) };
+
+    ghost counts_topics = { λ port sole. elim sole [ ] };
+}

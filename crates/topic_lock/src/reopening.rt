@@ -1,0 +1,89 @@
+// The opening of a failed topic, under its own lock and that of its stores.
+ghost use Rattle.std.specs.Prelude.{◌≡◌, ◌⊎◌, ◌+◌, ◌<◌, ◌≤◌, true, false, map, OnOk, IfErr, IsErr, IsErrOf};
+ghost use Rattle.disk.specs.Disk.{Leaves, Kept, Failed};
+ghost use Rattle.gated_log.specs.declared.refusal.Refusal.TheVariants.{Device};
+ghost use Rattle.topic_core.specs.Crashes.{reopened};
+ghost use Rattle.topic_core.specs.Slots.{slot_of_entry};
+ghost use Rattle.topic_core.specs.State.{CountsStay};
+
+use crate::counted::CountedTopic;
+use crate::durable::{DurableByStores, DurableByTopics, DurableTally};
+use crate::stores::CountedStores;
+use crate::tally::Tallies;
+use disk::{FileId, Shelf};
+use gated_log::Refusal;
+use std::sync::Wait;
+use std::sync::ledger::Share;
+use topic_core::TopicStore;
+
+impl<K: Tallies> CountedTopic<K> {
+    /// Opens a failed topic again over its stores, and counts what these are found to hold. Where that is refused both stay as they
+    /// were, and a topic that works stays as it is. Stores that don't hold as much as the topic knows of are told as damage of
+    /// the first segment.
+    pub fn reopen<T: TopicStore, S: Shelf + Drop, R: Wait>(
+        &mut self,
+        rt: &R,
+        tally: &DurableTally<K>,
+        stores: &mut CountedStores<T, S, K>,
+    ) -> Result<(), Refusal>
+        ensures again { self.old.core.failed ≡ true → OnOk result (self.new.core ≡ reopened self.old.core self.new.core.ledger (map slot_of_entry self.new.core.ledger) self.new.core.kept) }
+        ensures as_many { self.old.core.failed ≡ true → OnOk result (self.new.core.committed ≡ (T.view stores.new.stores).count) }
+        ensures works { self.old.core.failed ≡ false → self.new.core ≡ self.old.core }
+        ensures refused { IsErr result → (self.new.core ≡ self.old.core) × (stores.new.stores ≡ stores.old.stores) }
+        ensures counts { CountsStay self.old.core self.new.core }
+        ensures cause { IsErrOf result Device → Failed (S.disk stores.old.shelf) (S.disk stores.new.shelf) }
+        ensures any_moment { (S.disk stores.old.shelf).honest → Leaves (S.disk stores.old.shelf).may_leave (S.disk stores.old.shelf) (S.disk stores.new.shelf) }
+        ensures kept { Kept (S.disk stores.old.shelf) (S.disk stores.new.shelf) }
+    {
+        self.core.show_sound();
+        let CountedTopic {
+            core,
+            committed,
+            behind,
+            left,
+            ..
+        } = self;
+        if !core.is_failed() {
+            return Ok(());
+        }
+        let CountedStores {
+            stores: files,
+            shelf,
+            durable,
+        } = stores;
+        let before = files.len();
+        if core.committed() + *left != before {
+            let topic = files.topic();
+            return Err(Refusal::Damaged {
+                file: FileId::Segment { topic, number: 0 },
+                offset: 0,
+            });
+        }
+        core.reopen(files, shelf)?;
+        behind.transfer(committed, *left);
+        *left = 0;
+        level(rt, tally, durable, committed, before, files.len());
+        Ok(())
+    }
+}
+
+/// Has both shares count so much after, which counted so much before.
+fn level<K: Tallies, R: Wait>(
+    rt: &R,
+    tally: &DurableTally<K>,
+    stores: &mut Share<DurableByStores<K>>,
+    topic: &mut Share<DurableByTopics<K>>,
+    before: u64,
+    after: u64,
+)
+    requires parts { (0 < stores.old.parts) × (0 < topic.old.parts) }
+    requires before { (stores.old.amount ≡ before) × (topic.old.amount ≡ before) }
+    ensures stores { (stores.new.amount ≡ after) × (stores.new.parts ≡ stores.old.parts) }
+    ensures topic { (topic.new.amount ≡ after) × (topic.new.parts ≡ topic.old.parts) }
+{
+    if before <= after {
+        tally.lock(rt).raise(stores, topic, after - before);
+    } else {
+        tally.lock(rt).lower(stores, topic, before - after);
+    }
+}

@@ -1,0 +1,55 @@
+// A topic that is there, as threads share it.
+ghost use Rattle.std.specs.Prelude.{◌≡◌};
+
+use crate::counted::CountedTopic;
+use crate::stores::CountedStores;
+use crate::tally::Tallies;
+use disk::Shelf;
+use std::sync::{Mutex, OnceLock, OnceToken};
+use topic_core::TopicStore;
+
+/// A topic behind its lock.
+pub type LockedTopic<K> = Mutex<CountedTopic<K>>;
+
+/// A topic that is there, and its stores. The lock of the stores is taken after that of the topic, or alone.
+#[derive(Drop)]
+pub struct SharedTopic<T: TopicStore, S: Shelf + Drop, K: Tallies> {
+    pub topic: LockedTopic<K>,
+    pub stores: Mutex<CountedStores<T, S, K>>,
+}
+
+/// The place of a topic's number, which is filled once: when the topic is opened or made.
+pub type Place<T, S, K> = OnceLock<SharedTopic<T, S, K>>;
+
+/// A place that is known to be filled.
+#[derive(Drop)]
+pub struct Known<'a, T: TopicStore, S: Shelf + Drop, K: Tallies> {
+    place: &'a Place<T, S, K>,
+    token: OnceToken<'a, SharedTopic<T, S, K>>,
+    ghost same: { token.of ≡ place.now.id },
+}
+
+impl<'a, T: TopicStore, S: Shelf + Drop, K: Tallies> Known<'a, T, S, K> {
+    /// A place, with what shows that it is filled.
+    pub(crate) fn new(
+        place: &'a Place<T, S, K>,
+        token: OnceToken<'a, SharedTopic<T, S, K>>,
+    ) -> Known<'a, T, S, K>
+        requires { token.of ≡ place.now.id }
+    {
+        Known { place, token }
+    }
+
+    /// The topic that is there.
+    pub fn get(&self) -> &'a SharedTopic<T, S, K> {
+        self.place.value(&self.token)
+    }
+
+    /// The same once more.
+    pub fn again(&self) -> Known<'a, T, S, K> {
+        Known {
+            place: self.place,
+            token: self.token.again(),
+        }
+    }
+}

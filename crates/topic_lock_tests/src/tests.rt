@@ -1,0 +1,171 @@
+// Each test ends by itself, whatever the schedule: whoever waits does so for so many turns at most.
+mod counts;
+mod held;
+
+ghost use Rattle.std.specs.Prelude.{◌≡◌, IfOk, length};
+
+use bytes::Bytes;
+use catalog::{Catalog, EntriesPerLedger};
+use commands::{Reply, ReplyText, read_entry};
+use disk_mem::MemShelf;
+use gated_log::Refusal;
+use names::TopicName;
+use session::{Found, Port};
+use std::alloc::{AllocError, Global};
+use std::sync::atomic::{AtomicBool, Ordering};
+use std::sync::{Mutex, OnceLock, Wait};
+use std::thread;
+use topic_core::{Answer, FileStores, PlainEntry, Send, SentEntry, TopicCommand};
+use topic_lock::{
+    DurableTally, Flusher, LockedCatalog, Place, SharedCatalog, SharedTopic, Spare, Tallies,
+    TopicParts,
+};
+
+// How long a thread waits for another one, in turns.
+const TURNS: u32 = 100_000;
+
+const TOPIC: &[u8] = b"persistent://a/b/c";
+
+// Metadata of ten bytes, behind their size: the producer "p", the sequence id 0, the time 1 and a field that isn't known.
+const PLAIN: &[u8] = b"\0\0\0\x0a\x0a\x01p\x10\0\x18\x01\xc0>\x05";
+
+// The catalog's device of a new broker.
+fn catalog_shelf(alloc: Global) -> Result<MemShelf, Refusal> {
+    let Some(entries) = EntriesPerLedger::new(1000) else {
+        unreachable!();
+    };
+    let mut shelf = MemShelf::new(alloc);
+    drop(Catalog::create(alloc, &mut shelf, entries)?);
+    Ok(shelf)
+}
+
+// The places of all topics.
+fn places<K: Tallies>(alloc: Global) -> Result<Vec<Place<FileStores, MemShelf, K>>, AllocError>
+    ensures { IfOk result (λ places. length places.items ≡ 64) }
+{
+    let mut places = Vec::new(alloc);
+    for _ in 0..64u32 {
+        places.push(OnceLock::new())?;
+    }
+    Ok(places)
+}
+
+// What is kept for topics that aren't there yet.
+fn spares<K: Tallies>(
+    alloc: Global,
+    parts: Vec<TopicParts<K>>,
+) -> Result<Vec<Spare<MemShelf, K>>, AllocError>
+    requires { length parts.items ≡ 64 }
+    ensures { IfOk result (λ spares. length spares.items ≡ 64) }
+{
+    let mut left = parts;
+    let mut spares = Vec::new(alloc);
+    while let Some(parts) = left.pop() {
+        let shelf = MemShelf::new(alloc);
+        spares.push(Spare { shelf, parts })?;
+    }
+    Ok(spares)
+}
+
+// The catalog of a new broker, behind its lock.
+fn new_catalog<'a, K: Tallies, R: Wait>(
+    rt: &R,
+    alloc: Global,
+    tally: &DurableTally<K>,
+    places: &'a [Place<FileStores, MemShelf, K>],
+    parts: Vec<TopicParts<K>>,
+) -> Result<LockedCatalog<'a, FileStores, MemShelf, K>, Refusal>
+    requires { (length places.now ≡ 64) × (length parts.items ≡ 64) }
+{
+    let shelf = catalog_shelf(alloc)?;
+    let spares = spares(alloc, parts)?;
+    let catalog = SharedCatalog::open(rt, alloc, tally, shelf, places, spares)?;
+    Ok(Mutex::new(catalog))
+}
+
+// By which clients would find the broker.
+fn url(alloc: Global) -> Result<ReplyText, AllocError> {
+    let text = String::from_str(alloc, "pulsar://test")?;
+    if text.len() > 13 {
+        return Err(AllocError);
+    }
+    Ok(ReplyText::new(text))
+}
+
+// Asks for the producer 1 of the topic, and answers the topic's number.
+fn publishes<P: Port>(alloc: Global, port: &mut P, who: u64) -> Result<Option<u64>, Refusal> {
+    let Ok(name) = TopicName::read(alloc, TOPIC) else {
+        return Err(Refusal::NoMemory);
+    };
+    let topic = match port.find(&name) {
+        Found::Topic(topic) => topic,
+        Found::TooMany => return Ok(None),
+        Found::NoMemory => return Err(Refusal::NoMemory),
+        Found::Failed => return Err(Refusal::Device),
+    };
+    if topic >= port.topics() {
+        return Ok(None);
+    }
+    let answer = port.command(topic, who, producer(alloc, who)?);
+    match answer {
+        Answer::NoMemory => Err(Refusal::NoMemory),
+        Answer::Now(Reply::ProducerSuccess { .. }) => Ok(Some(topic)),
+        _ => Ok(None),
+    }
+}
+
+// The session's producer 1 is asked for, by a name of its own.
+fn producer(alloc: Global, who: u64) -> Result<TopicCommand, AllocError> {
+    let name = String::from_str(alloc, if who == 0 { "first" } else { "second" })?;
+    if name.len() > 9 {
+        return Err(AllocError);
+    }
+    Ok(TopicCommand::Producer {
+        producer_id: 1,
+        request_id: 101,
+        producer_name: ReplyText::new(name),
+    })
+}
+
+// The producer 1 sends.
+fn send(alloc: Global, sequence_id: u64) -> Result<TopicCommand, AllocError> {
+    let bytes = Bytes::from_static(PLAIN);
+    let Ok(metadata) = read_entry(alloc, bytes.as_slice()) else {
+        return Err(AllocError);
+    };
+    Ok(TopicCommand::Send(Send {
+        producer_id: 1,
+        sequence_id,
+        num_messages: 1,
+        entry: SentEntry::Plain(PlainEntry { bytes, metadata }),
+    }))
+}
+
+// A flush of the topic, as its flusher makes it.
+fn flush<K: Tallies, R: Wait>(
+    rt: &R,
+    tally: &DurableTally<K>,
+    shared: &SharedTopic<FileStores, MemShelf, K>,
+    flusher: Flusher<K>,
+) -> Option<Flusher<K>> {
+    let taken = shared.topic.lock(rt).take_batch();
+    let Ok(Some(batch)) = taken else {
+        return Some(flusher);
+    };
+    let written = shared.stores.lock(rt).write(rt, tally, flusher, batch);
+    match shared.topic.lock(rt).finish(written) {
+        Ok((flusher, _)) => Some(flusher),
+        Err(_) => None,
+    }
+}
+
+// Waits until a flag is set, for so many turns at most.
+fn waits_for(flag: &AtomicBool) -> bool {
+    for _ in 0..TURNS {
+        if flag.load(Ordering::SeqCst) {
+            return true;
+        }
+        thread::yield_now();
+    }
+    false
+}

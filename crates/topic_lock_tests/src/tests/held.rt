@@ -1,0 +1,137 @@
+// A write that is held holds nobody's SEND.
+ghost use Rattle.std.specs.Prelude.{◌≡◌};
+ghost use Rattle.topic_lock.specs.Ledgers.{IsOf};
+
+use super::{new_catalog, places, publishes, send, url, waits_for};
+use disk_mem::MemShelf;
+use gated_log::Refusal;
+use session::Port;
+use std::alloc::{AllocError, Global};
+use std::marker::Brand;
+use std::sync::Wait;
+use std::sync::atomic::{AtomicBool, Ordering};
+use std::test::Fail;
+use std::thread;
+use std::thread::Threads;
+use topic_core::{Answer, FileStores};
+use topic_lock::{
+    Blanks, DurableTally, FlushFault, Flusher, Ledgers, LockedPort, SharedTopic, Tallies,
+};
+
+// What is held, and when it may go on.
+#[derive(Drop)]
+struct Gate {
+    is_held: AtomicBool,
+    may_go_on: AtomicBool,
+}
+
+// Flushes the topic; the write is held, with the stores' lock, until another session's SEND was answered. Answers whether it was, and
+// how many entries were committed.
+fn flush_held<K: Tallies, R: Wait>(
+    rt: &R,
+    tally: &DurableTally<K>,
+    shared: &SharedTopic<FileStores, MemShelf, K>,
+    flusher: Flusher<K>,
+    gate: &Gate,
+) -> Result<(bool, usize), Refusal> {
+    let taken = shared.topic.lock(rt).take_batch();
+    let Some(batch) = taken? else {
+        return Ok((false, 0));
+    };
+    let mut stores = shared.stores.lock(rt);
+    gate.is_held.store(true, Ordering::SeqCst);
+    let was_answered = waits_for(&gate.may_go_on);
+    let written = stores.write(rt, tally, flusher, batch);
+    drop(stores);
+    match shared.topic.lock(rt).finish(written) {
+        Ok((_, Ok(count))) => Ok((was_answered, count)),
+        Ok((_, Err(FlushFault::NoMemory))) => Err(Refusal::NoMemory),
+        _ => Ok((was_answered, 0)),
+    }
+}
+
+// Sends while the write is held, and answers whether that was accepted.
+fn send_meanwhile<P: Port + Drop>(
+    alloc: Global,
+    port: P,
+    topic: u64,
+    gate: &Gate,
+) -> Result<bool, Refusal> {
+    let mut port = port;
+    if !waits_for(&gate.is_held) || topic >= port.topics() {
+        return Ok(false);
+    }
+    let answer = match send(alloc, 0) {
+        Ok(command) => port.command(topic, 1, command),
+        Err(AllocError) => Answer::NoMemory,
+    };
+    gate.may_go_on.store(true, Ordering::SeqCst);
+    match answer {
+        Answer::NoMemory => Err(Refusal::NoMemory),
+        answer => Ok(matches!(answer, Answer::Later)),
+    }
+}
+
+// Whether the flush saw the other session's SEND answered, how many entries it committed, and whether the SEND was accepted.
+fn run<K: Tallies + Send + Sync, R: Threads + Wait + Sync>(
+    rt: &R,
+    alloc: Global,
+    blanks: Blanks,
+) -> Result<((bool, usize), bool), Refusal>
+    requires accepted { IsOf blanks.accepted_topics K.accepted.one 64 × IsOf blanks.accepted_ports K.accepted.other 2 }
+    requires handed { IsOf blanks.handed_topics K.handed.one 64 × IsOf blanks.handed_ports K.handed.other 2 }
+    requires durable { IsOf blanks.durable_stores K.durable.one 64 × IsOf blanks.durable_topics K.durable.other 192 }
+{
+    let Ledgers {
+        accepted,
+        handed,
+        durable,
+        topics,
+        mut flushers,
+        mut ports,
+    } = Ledgers::<K>::open(alloc, blanks, 2)?;
+    let places = places(alloc)?;
+    let url = url(alloc)?;
+    let catalog = new_catalog(rt, alloc, &durable, places.as_slice(), topics)?;
+    let (Some(one), Some(other), Some(flusher)) = (ports.pop(), ports.pop(), flushers.pop()) else {
+        unreachable!();
+    };
+    let mut first = LockedPort::new(rt, alloc, &url, &catalog, &accepted, &handed, &durable, one);
+    let mut second = LockedPort::new(
+        rt, alloc, &url, &catalog, &accepted, &handed, &durable, other,
+    );
+    let (Some(topic), Some(_)) = (
+        publishes(alloc, &mut first, 0)?,
+        publishes(alloc, &mut second, 1)?,
+    ) else {
+        return Ok(((false, 0), false));
+    };
+    if topic >= first.topics() {
+        return Ok(((false, 0), false));
+    }
+    if let Answer::NoMemory = first.command(topic, 0, send(alloc, 0)?) {
+        return Err(Refusal::NoMemory);
+    }
+    let Some(shared) = places[0].get() else {
+        return Ok(((false, 0), false));
+    };
+    let gate = Gate {
+        is_held: AtomicBool::new(false),
+        may_go_on: AtomicBool::new(false),
+    };
+    let (gate, durable) = (&gate, &durable);
+    let (flushed, sent) = thread::join(
+        rt,
+        move || flush_held(rt, durable, shared, flusher, gate),
+        move || send_meanwhile(alloc, second, topic, gate),
+    );
+    Ok((flushed?, sent?))
+}
+
+// The write ends only after the other session's SEND was accepted, and commits the one entry that it was taken of.
+#[test]
+fn a_write_holds_no_send(rt: HostRuntime) -> Result<(), Fail> {
+    let seen = run::<Brand, _>(&rt, rt.alloc(), Blanks::new(2))?;
+    assert_eq!(rt; seen, ((true, 1), true));
+    Ok(())
+}
