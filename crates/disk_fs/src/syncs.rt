@@ -1,0 +1,53 @@
+// Whether a sync has failed.
+ghost use Rattle.std.specs.Prelude.{◌≡◌, ◌↔◌, true, false, IsOk, IsErr, OnOk};
+
+use std::fs::OpenFile;
+use std::io;
+use std::io::ErrorKind;
+
+/// Whether all syncs so far went well. A system that couldn't write a file's bytes says so to one sync, counts them as
+/// written, and may answer the next sync as if nothing had happened. So after a sync that failed no other one is believed.
+#[derive(Drop)]
+pub(crate) struct Syncs {
+    pub(crate) have_failed: bool,
+}
+
+impl Syncs {
+    /// An error where a sync has failed.
+    pub(crate) fn check(&self) -> io::Result<()>
+        ensures { IsOk result ↔ (self.now.have_failed ≡ false) }
+    {
+        if self.have_failed {
+            return Err(io::Error::from(ErrorKind::Other));
+        }
+        Ok(())
+    }
+
+    /// Has the system write what it holds of the file: its bytes and its length, but not its times.
+    pub(crate) fn sync_file<F: OpenFile>(&mut self, file: &F) -> io::Result<()>
+        ensures failed { IsErr result → self.new.have_failed ≡ true }
+        ensures fine { OnOk result (self.new ≡ self.old) }
+    {
+        self.note(file.sync_data())
+    }
+
+    /// Has the system write what it holds of the folder: the names of its files.
+    pub(crate) fn sync_folder<F: OpenFile>(&mut self, folder: &F) -> io::Result<()>
+        ensures failed { IsErr result → self.new.have_failed ≡ true }
+        ensures fine { OnOk result (self.new ≡ self.old) }
+    {
+        self.note(folder.sync_all())
+    }
+
+    // Hands on how a sync went, and keeps it in mind where it failed.
+    fn note(&mut self, synced: io::Result<()>) -> io::Result<()>
+        ensures same { result ≡ synced }
+        ensures failed { IsErr synced → self.new.have_failed ≡ true }
+        ensures fine { OnOk synced (self.new ≡ self.old) }
+    {
+        if synced.is_err() {
+            self.have_failed = true;
+        }
+        synced
+    }
+}
