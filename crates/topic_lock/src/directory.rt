@@ -6,7 +6,7 @@ ghost use Rattle.session.specs.declared.port.Found.TheVariants.{NoMemory, Failed
 use crate::counted::{CountedTopic, TopicShares};
 use crate::durable::DurableTally;
 use crate::parts::TopicParts;
-use crate::shared::{Known, Place, SharedTopic};
+use crate::places::{Known, Place, SharedTopic};
 use crate::stores::CountedStores;
 use crate::tally::Tallies;
 use catalog::Catalog;

@@ -7,7 +7,7 @@ ghost use Rattle.session.specs.Broker.{IfFound};
 use crate::directory::{SharedCatalog, outage, share};
 use crate::durable::DurableTally;
 use crate::opening::open_next;
-use crate::shared::{Known, Place};
+use crate::places::{Known, Place};
 use crate::tally::Tallies;
 use catalog::Catalog;
 use disk::{FileId, Shelf};

@@ -9,7 +9,7 @@ use crate::counted::{AcceptedTally, HandedTally};
 use crate::directory::LockedCatalog;
 use crate::durable::DurableTally;
 use crate::parts::PortShares;
-use crate::shared::{Known, SharedTopic};
+use crate::places::{Known, SharedTopic};
 use crate::tally::{AcceptedByPorts, HandedByPorts, Tallies};
 use commands::{Reply, ReplyText};
 use disk::Shelf;

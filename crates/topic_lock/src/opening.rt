@@ -4,7 +4,7 @@ ghost use Rattle.catalog.specs.Catalogs.{remembered};
 
 use crate::directory::{SharedCatalog, Spare, share};
 use crate::durable::DurableTally;
-use crate::shared::{Known, Place};
+use crate::places::{Known, Place};
 use crate::tally::Tallies;
 use catalog::Catalog;
 use disk::Shelf;
