@@ -1,0 +1,12 @@
+//! What a server's connections wait at. A reader waits while too much of what it was answered stands unwritten, and a writer
+//! until there is something to write; each wakes the other, and each ends the other behind its loop. Nothing is proved of them
+//! but that their calls are safe.
+#![tactic(auto)]
+
+mod parting;
+mod reader;
+mod writer;
+
+pub use parting::Parting;
+pub use reader::ReaderGate;
+pub use writer::WriterGate;

@@ -1,0 +1,14 @@
+//! The loops of a connection's two threads: one reads and feeds its session, one pumps it and writes. What the writer took from
+//! the ring and what is left there are the reader's replies, in order, each once; outputs are whole frames, written whole, in
+//! rising numbers. Each thread tells the other where its loop is over.
+#![tactic(auto)]
+
+mod connection;
+mod loops;
+mod numbered;
+mod outgoing;
+
+pub use connection::{Ends, serve_connection};
+pub use loops::{Point, Turnstile, read_loop, write_loop};
+pub use numbered::{Numbered, Pumped};
+pub use outgoing::{Outgoing, Output};

@@ -1,0 +1,185 @@
+// The loops of a connection's two threads.
+ghost use Rattle.std.specs.Prelude.{◌≡◌, ◌<◌, ◌≤◌, ◌++◌, [], true, OnOk, IfOk, IfSome, length};
+ghost use Rattle.rtrb.specs.Ring.{known_free, known_items, SameConsumer};
+ghost use Rattle.workers.specs.Writes.{Wrote, Extends, FinishesAfter};
+
+use crate::numbered::{NUMBERS, Numbered, Pumped};
+use crate::outgoing::{Outgoing, Output};
+use rtrb::{Finished, Producer};
+use session::Port;
+use std::io;
+use std::io::{Read, Write};
+use std::sync::{Mutex, Wait};
+
+/// Where a loop asks whether to go on: that of a session's reader or writer, or that of a topic's flusher, by its number.
+#[derive(Clone, Copy, Debug, PartialEq, Eq)]
+pub enum Point {
+    Read(u64),
+    Write(u64),
+    Flush(u64),
+}
+
+/// What a loop asks before each turn. It may wait until there is something to do.
+pub trait Turnstile {
+    /// Whether the loop goes on.
+    fn pass(&self, point: Point) -> bool;
+}
+
+// Feeds a piece, where the session goes on. The replies are pushed before its lock is let go.
+fn feed_locked<P: Port, R: Wait>(
+    rt: &R,
+    session: &Mutex<Numbered>,
+    piece: &[u8],
+    port: &mut P,
+    replies: &mut Producer<Output>,
+) -> bool
+    requires { 0 < known_free replies.old }
+    ensures { Extends replies.old replies.new }
+{
+    let mut session = session.lock(rt);
+    if session.is_over() {
+        return false;
+    }
+    session.feed(piece, port, replies)
+}
+
+// Reads and feeds once, where the ring has a free place. Answers whether the loop goes on.
+fn read_turn<I: Read, P: Port, R: Wait>(
+    rt: &R,
+    session: &Mutex<Numbered>,
+    input: &mut I,
+    buffer: &mut [u8],
+    port: &mut P,
+    replies: &mut Producer<Output>,
+) -> bool
+    ensures { Extends replies.old replies.new }
+{
+    if replies.slots() == 0 {
+        return true;
+    }
+    let Ok(count) = input.read(buffer) else {
+        return false;
+    };
+    if count == 0 {
+        return false;
+    }
+    feed_locked(rt, session, &buffer[..count], port, replies)
+}
+
+// Reads and feeds until the input or the session ends or no turn is let pass.
+fn read_all<I: Read, P: Port, T: Turnstile, R: Wait>(
+    rt: &R,
+    number: u64,
+    turnstile: &T,
+    session: &Mutex<Numbered>,
+    input: &mut I,
+    buffer: &mut [u8],
+    port: &mut P,
+    replies: &mut Producer<Output>,
+)
+    ensures { Extends replies.old replies.new }
+{
+    for _ in rt.forever() {
+        if !turnstile.pass(Point::Read(number)) {
+            break;
+        }
+        if !read_turn(rt, session, input, buffer, port, replies) {
+            break;
+        }
+    }
+}
+
+/// Feeds a session what the input gives, at most as many bytes a turn as the buffer has, and pushes what each feed gave as one
+/// reply, until the input or the session ends or no turn is let pass. A turn that finds the ring full reads nothing. Then the
+/// session ends.
+pub fn read_loop<I: Read, P: Port, T: Turnstile, R: Wait>(
+    rt: &R,
+    number: u64,
+    turnstile: &T,
+    session: &Mutex<Numbered>,
+    input: &mut I,
+    buffer: &mut [u8],
+    port: &mut P,
+    replies: Producer<Output>,
+) -> Option<Finished<Output>>
+    ensures { IfSome result (λ f. FinishesAfter replies f) }
+{
+    let mut replies = replies;
+    read_all(
+        rt,
+        number,
+        turnstile,
+        session,
+        input,
+        buffer,
+        port,
+        &mut replies,
+    );
+    session.lock(rt).end(port);
+    replies.finish()
+}
+
+// Says what is written, and pumps, where the session goes on.
+fn pump_locked<P: Port, R: Wait>(
+    rt: &R,
+    session: &Mutex<Numbered>,
+    port: &mut P,
+    next: u64,
+    replied: u64,
+) -> Pumped {
+    let mut session = session.lock(rt);
+    session.tell_written(next, replied);
+    if session.is_over() {
+        return Pumped {
+            output: None,
+            ended: true,
+        };
+    }
+    session.pump(port)
+}
+
+// Pumps and writes once. Answers whether the session has ended; what stood in the ring is then written.
+fn write_turn<W: Write, P: Port, R: Wait>(
+    rt: &R,
+    session: &Mutex<Numbered>,
+    port: &mut P,
+    outgoing: &mut Outgoing<W>,
+) -> io::Result<bool>
+    ensures ring { SameConsumer outgoing.old.replies outgoing.new.replies }
+    ensures wrote { OnOk result (Wrote W.contents outgoing.old outgoing.new) }
+    ensures ended { IfOk result (λ ended. ended ≡ true → known_items outgoing.new.replies ≡ []) }
+{
+    let pumped = pump_locked(rt, session, port, outgoing.next, outgoing.replied);
+    let Some(output) = &pumped.output else {
+        outgoing.write_below(NUMBERS)?;
+        return Ok(pumped.ended);
+    };
+    outgoing.write_pumped(output)?;
+    outgoing.write_below(NUMBERS)?;
+    Ok(pumped.ended)
+}
+
+/// Writes what the session's pumps give and the reader's replies, in rising numbers, until the session ends or no turn is let
+/// pass. Answers whether the session has ended; all that was seen in the ring is then written.
+pub fn write_loop<W: Write, P: Port, T: Turnstile, R: Wait>(
+    rt: &R,
+    number: u64,
+    turnstile: &T,
+    session: &Mutex<Numbered>,
+    port: &mut P,
+    outgoing: &mut Outgoing<W>,
+) -> io::Result<bool>
+    ensures ring { SameConsumer outgoing.old.replies outgoing.new.replies }
+    ensures wrote { OnOk result (Wrote W.contents outgoing.old outgoing.new) }
+    ensures ended { IfOk result (λ ended. ended ≡ true → known_items outgoing.new.replies ≡ []) }
+{
+    for _ in rt.forever() {
+        if !turnstile.pass(Point::Write(number)) {
+            return Ok(false);
+        }
+        if write_turn(rt, session, port, outgoing)? {
+            return Ok(true);
+        }
+    }
+    unreachable!()
+}

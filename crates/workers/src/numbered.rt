@@ -1,0 +1,186 @@
+// A session and the numbers of its outputs, which stand together behind its lock.
+ghost use Rattle.std.specs.Prelude.{◌≡◌, ◌+◌, ◌<◌, ◌^◌, ◌++◌, [], List, ℕ, Result, true, false, is_none};
+ghost use Rattle.rtrb.specs.Ring.{known_free, SameProducer};
+ghost use Rattle.workers.specs.Outputs.{AreFrames};
+ghost use Rattle.session.specs.declared.pumping.More.{More};
+ghost use Rattle.session.specs.declared.pumping.PumpFault.{PumpFault};
+ghost use Rattle.session.specs.Client.{play};
+ghost use Rattle.session.specs.Pumping.{PumpStep};
+ghost use Rattle.session.specs.Working.{FeedStep, feed_result};
+ghost use Rattle.workers.specs.Numbers.{is_over, has_room, Numbers, Feeds, Pumps, bytes_of_replies, bytes_of_output};
+ghost use Rattle.workers.specs.Writes.{pushed};
+
+use crate::outgoing::Output;
+use rtrb::Producer;
+use session::{More, Port, PumpFault, Session};
+use std::alloc::Global;
+
+/// The loops end at this number.
+pub(crate) const NUMBERS: u64 = 1 << 62;
+
+/// A reader waits while so many outputs stand unwritten, which is as many as the ring has places.
+const MOST_OUTPUTS: u64 = 256;
+
+/// A reader waits while more bytes of its replies stand unwritten.
+const MOST_BYTES: u64 = 1_048_576;
+
+/// A session and the numbers of its outputs.
+#[derive(Drop)]
+pub struct Numbered {
+    alloc: Global,
+    session: Session,
+    /// The number of its next output.
+    next: u64,
+    /// All outputs of smaller number are written.
+    written: u64,
+    /// How many bytes the replies of its feeds have, and how many of these are written. Both stop at 2^64 - 1, which no
+    /// connection reaches: what stands unwritten would then seem less, and the bound on the number of outputs goes on.
+    replied: u64,
+    replied_written: u64,
+    /// Its last pump stopped at a bound of its own, so that more may be due or admitted.
+    more: bool,
+    ended: bool,
+}
+
+/// What a turn of the writer has to write.
+#[derive(Drop)]
+pub struct Pumped {
+    pub output: Option<Output>,
+    /// No further output comes.
+    pub ended: bool,
+}
+
+impl Numbered {
+    /// A session that has given nothing yet.
+    pub fn new(alloc: Global, session: Session) -> Numbered
+        ensures { result ≡ record { alloc = alloc; session = session; next = 0; written = 0; replied = 0; replied_written = 0; more = false; ended = false } }
+    {
+        Numbered {
+            alloc,
+            session,
+            next: 0,
+            written: 0,
+            replied: 0,
+            replied_written: 0,
+            more: false,
+            ended: false,
+        }
+    }
+
+    /// The session.
+    pub fn session(&self) -> &Session
+        ensures { result.now ≡ self.now.session }
+    {
+        &self.session
+    }
+
+    /// The number of the next output.
+    pub fn next(&self) -> u64
+        ensures { result ≡ self.now.next }
+    {
+        self.next
+    }
+
+    /// Whether the last pump stopped at a bound of its own.
+    pub fn has_more(&self) -> bool
+        ensures { result ≡ self.now.more }
+    {
+        self.more
+    }
+
+    /// Whether it has ended, or its numbers are used up.
+    pub fn is_over(&self) -> bool
+        ensures { result ≡ is_over self.now }
+    {
+        self.ended || self.next >= NUMBERS
+    }
+
+    /// Whether so few outputs stand unwritten that the reader may go on.
+    pub fn has_room(&self) -> bool
+        ensures { result ≡ has_room self.now }
+    {
+        self.next.saturating_sub(self.written) < MOST_OUTPUTS
+            && self.replied.saturating_sub(self.replied_written) <= MOST_BYTES
+    }
+
+    /// The writer says that all outputs below this number are written, and so many bytes of replies.
+    pub fn tell_written(&mut self, next: u64, replied: u64)
+        ensures { self.new ≡ record self.old { written = next; replied_written = replied } }
+    {
+        self.written = next;
+        self.replied_written = replied;
+    }
+
+    /// Feeds a piece, and pushes what that gave as one reply. Answers whether the session goes on.
+    pub fn feed<P: Port>(
+        &mut self,
+        piece: &[u8],
+        port: &mut P,
+        replies: &mut Producer<Output>,
+    ) -> bool
+        requires room { 0 < known_free replies.old }
+        requires stands { is_over self.old ≡ false }
+        ensures ring { SameProducer replies.old replies.new }
+        ensures pushed { (more : List (ℕ × List ℕ)) × (pushed replies.new ≡ pushed replies.old ++ more) × Feeds self.old more self.new
+            × (P.sole port.old → FeedStep (P.fails port.old port.new) (play self.old.session (P.broker port.old) []) piece.now (feed_result self.new.session.fault)
+            (play self.new.session (P.broker port.new) (bytes_of_replies more))) }
+        ensures goes_on { result ≡ is_none self.new.session.fault }
+    {
+        let mut bytes = Vec::new(self.alloc);
+        let goes_on = self.session.feed(piece, port, &mut bytes).is_ok();
+        let Some(reply) = self.number(bytes) else {
+            return goes_on;
+        };
+        self.replied = self.replied.saturating_add(reply.bytes.len() as u64);
+        replies.push_reserved(reply);
+        goes_on
+    }
+
+    /// Pumps the session.
+    pub fn pump<P: Port>(&mut self, port: &mut P) -> Pumped
+        requires { is_over self.old ≡ false }
+        ensures pumps { Pumps self.old result.output self.new }
+        ensures step { P.sole port.old → (how : Result More PumpFault) × PumpStep (λ why. P.refuses port.old why port.new) (play self.old.session (P.broker port.old) [])
+            how (play self.new.session (P.broker port.new) (bytes_of_output result.output)) }
+        ensures ended { result.ended ≡ self.new.ended }
+    {
+        let mut bytes = Vec::new(self.alloc);
+        let pumped = self.session.pump(port, &mut bytes);
+        self.more = matches!(&pumped, Ok(More::Yes));
+        self.ended = matches!(&pumped, Err(PumpFault::Ended(_)));
+        let output = self.number(bytes);
+        Pumped {
+            output,
+            ended: self.ended,
+        }
+    }
+
+    // These bytes as an output of the next number. No byte is none.
+    fn number(&mut self, bytes: Vec<u8>) -> Option<Output>
+        requires whole { AreFrames bytes.items }
+        requires number { self.old.next < 2 ^ 62 }
+        ensures { Numbers self.old bytes.items result self.new }
+    {
+        if bytes.is_empty() {
+            return None;
+        }
+        let number = self.next;
+        self.next += 1;
+        Some(Output { number, bytes })
+    }
+
+    /// No further turn is made, and the session leaves each topic.
+    pub fn end<P: Port>(&mut self, port: &mut P)
+        ensures { self.new ≡ record self.old { ended = true } }
+    {
+        self.ended = true;
+        self.session.end(port);
+    }
+
+    /// No further turn is made.
+    pub fn stop(&mut self)
+        ensures { self.new ≡ record self.old { ended = true } }
+    {
+        self.ended = true;
+    }
+}
