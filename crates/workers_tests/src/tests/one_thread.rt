@@ -137,7 +137,7 @@ fn reads_nothing_while_the_ring_is_full(rt: HostRuntime) -> Result<(), Fail> {
 fn fill(feeder: &mut Feeder) -> (u32, bool) {
     feeder.feed(CONNECT);
     let mut count = 1;
-    for _ in 0..300 {
+    for _ in 0..300u32 {
         if feeder.numbered.has_room() && feeder.feed(PING) {
             count += 1;
         }

@@ -101,7 +101,7 @@ fn pongs(bytes: &[u8]) -> Option<usize> {
     }
     let mut left = &bytes[CONNECTED.len()..];
     let mut count = 0;
-    for _ in 0..1000 {
+    for _ in 0..1000u32 {
         if !left.starts_with(PONG) {
             break;
         }
