@@ -19,6 +19,7 @@ impl Dice {
     // Some number below the bound.
     fn below(&mut self, bound: u64) -> u64
         requires { 0 < bound }
+        ensures { result < bound }
     {
         self.state = self
             .state
@@ -60,7 +61,9 @@ fn work<S: Shelf, M: Shelf>(
     match dice.below(5) {
         0 => {
             let offset = dice.below(len.saturating_add(1));
-            let bytes = &text[dice.below(20) as usize..][..dice.below(20) as usize];
+            let start = dice.below(20) as usize;
+            let end = start + dice.below(20) as usize;
+            let bytes = &text[start..end];
             real.write_at(file, offset, bytes)?;
             memory.write_at(file, offset, bytes)?;
         }
