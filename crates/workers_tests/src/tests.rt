@@ -1,11 +1,11 @@
 // Frames were worked out by hand from the protocol's published description. A session that finds no memory ends for that, so a
 // test looks at the session's fault before it looks at what came out.
 mod desk;
+mod limits;
 mod one_thread;
 mod places;
 mod sockets;
 mod streams;
-mod two_threads;
 
 use session::{Fault, Session};
 

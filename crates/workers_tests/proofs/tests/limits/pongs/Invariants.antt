@@ -1,5 +1,5 @@
 use Rattle.std.proofs.Common.{◌≤◌}
-use Rattle.workers_tests.proofs.tests.two_threads.pongs.Given as goal
+use Rattle.workers_tests.proofs.tests.limits.pongs.Given as goal
 
 abbrev pub invariant-loop : goal.invariant-loop
 invariant-loop l = l.count ≤ l.counter

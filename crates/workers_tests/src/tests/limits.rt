@@ -1,3 +1,4 @@
+// Up to the limits of what stands unwritten, in two threads; too many outputs for each of their allocations to be refused in turn.
 use super::desk::Desk;
 use super::streams::{HangUp, Line, Sink, Source};
 use super::{CONNECT, CONNECTED, PING, PONG, ample};
