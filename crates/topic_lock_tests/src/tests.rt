@@ -1,6 +1,6 @@
 // Each test ends by itself, whatever the schedule: whoever waits does so for so many turns at most.
-mod counts;
 mod held;
+mod limits;
 
 ghost use Rattle.std.specs.Prelude.{◌≡◌, IfOk, length};
 
@@ -17,8 +17,8 @@ use std::sync::{Mutex, OnceLock, Wait};
 use std::thread;
 use topic_core::{Answer, FileStores, PlainEntry, Send, SentEntry, TopicCommand};
 use topic_lock::{
-    DurableTally, Flusher, LockedCatalog, Place, SharedCatalog, SharedTopic, Spare, Tallies,
-    TopicParts,
+    DurableTally, FlushFault, Flusher, LockedCatalog, Place, SharedCatalog, SharedTopic, Spare,
+    Tallies, TopicParts,
 };
 
 // How long a thread waits for another one, in turns.
@@ -141,21 +141,22 @@ fn send(alloc: Global, sequence_id: u64) -> Result<TopicCommand, AllocError> {
     }))
 }
 
-// A flush of the topic, as its flusher makes it.
+// A flush of the topic, as its flusher makes it. Where it commits nothing since memory was refused or the device failed, so it says.
 fn flush<K: Tallies, R: Wait>(
     rt: &R,
     tally: &DurableTally<K>,
     shared: &SharedTopic<FileStores, MemShelf, K>,
     flusher: Flusher<K>,
-) -> Option<Flusher<K>> {
+) -> Result<Flusher<K>, Refusal> {
     let taken = shared.topic.lock(rt).take_batch();
-    let Ok(Some(batch)) = taken else {
-        return Some(flusher);
+    let Some(batch) = taken? else {
+        return Ok(flusher);
     };
     let written = shared.stores.lock(rt).write(rt, tally, flusher, batch);
     match shared.topic.lock(rt).finish(written) {
-        Ok((flusher, _)) => Some(flusher),
-        Err(_) => None,
+        Ok((flusher, Ok(_))) => Ok(flusher),
+        Ok((_, Err(FlushFault::NoMemory))) => Err(Refusal::NoMemory),
+        _ => Err(Refusal::Device),
     }
 }
 

@@ -46,7 +46,7 @@ fn flush_held<K: Tallies, R: Wait>(
     match shared.topic.lock(rt).finish(written) {
         Ok((_, Ok(count))) => Ok((was_answered, count)),
         Ok((_, Err(FlushFault::NoMemory))) => Err(Refusal::NoMemory),
-        _ => Ok((was_answered, 0)),
+        _ => Err(Refusal::Device),
     }
 }
 

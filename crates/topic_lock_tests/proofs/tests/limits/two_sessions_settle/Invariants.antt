@@ -1,4 +1,4 @@
-use Rattle.topic_lock_tests.proofs.tests.counts.two_sessions_settle.Given as goal
+use Rattle.topic_lock_tests.proofs.tests.limits.two_sessions_settle.Given as goal
 
 abbrev pub ghosts-run : goal.ghosts-run
 ghosts-run g a = record {

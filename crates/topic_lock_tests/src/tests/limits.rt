@@ -1,4 +1,4 @@
-// What the ports of two sending sessions settle.
+// What the ports of two sending sessions settle. Whoever waits goes on up to a limit of turns, so allocations of this test are not refused in turn.
 ghost use Rattle.topic_lock.specs.Ledgers.{IsOf};
 
 use super::{TURNS, flush, new_catalog, places, publishes, send, url};
@@ -90,11 +90,12 @@ fn session_and_flusher<'p, 'a, K: Tallies + Send + Sync, R: Threads + Wait + Syn
     flusher: Flusher<K>,
     finished: &AtomicU64,
 ) -> Result<Settled, Refusal> {
-    let (settled, ()) = thread::join(
+    let (settled, flushed) = thread::join(
         rt,
         move || session(alloc, port, 1, finished),
         move || flush_while(rt, tally, place, flusher, finished),
     );
+    flushed?;
     settled
 }
 
@@ -143,8 +144,8 @@ fn flush_while<K: Tallies, R: Wait>(
     place: &Place<FileStores, MemShelf, K>,
     flusher: Flusher<K>,
     finished: &AtomicU64,
-) {
-    let mut idle = Some(flusher);
+) -> Result<(), Refusal> {
+    let mut idle = flusher;
     for _ in rt.forever() {
         if finished.load(Ordering::SeqCst) >= 2 {
             break;
@@ -153,11 +154,9 @@ fn flush_while<K: Tallies, R: Wait>(
         let Some(shared) = place.get() else {
             continue;
         };
-        let Some(flusher) = idle else {
-            return;
-        };
-        idle = flush(rt, tally, shared, flusher);
+        idle = flush(rt, tally, shared, idle)?;
     }
+    Ok(())
 }
 
 // Both totals are the number of the receipts: none is told twice, and none is lost.
