@@ -1,11 +1,18 @@
-// What the threads of connections sleep on.
+// What the threads of connections and the flushers sleep on.
 use crate::marks::Marks;
 use std::alloc::{AllocError, Global};
 use std::sync::Wait;
 use std::thread::Parker;
+use std::time::Duration;
 
 /// How many connections there are at most.
 pub const PLACES: u16 = 256;
+
+/// How many topics there are at most, each with a flusher.
+const TOPICS: u8 = 64;
+
+/// How long a flusher sleeps that was refused memory, in milliseconds.
+const PAUSE: u64 = 20;
 
 /// A reader's and a writer's sleep.
 #[derive(Drop)]
@@ -14,22 +21,19 @@ struct Pair {
     writer: Parker,
 }
 
-/// What the threads of connections sleep on, by the places of the connections.
+/// What threads sleep on: those of connections by the places of these, and flushers by the numbers of their topics.
 #[derive(Drop)]
 pub struct Bells {
     pairs: Vec<Pair>,
+    flushers: Vec<Parker>,
 }
 
 impl Bells {
     pub fn new(alloc: Global) -> Result<Bells, AllocError> {
-        let mut pairs = Vec::new(alloc);
-        for _ in 0..PLACES {
-            pairs.push(Pair {
-                reader: Parker::new(),
-                writer: Parker::new(),
-            })?;
-        }
-        Ok(Bells { pairs })
+        Ok(Bells {
+            pairs: pairs(alloc)?,
+            flushers: flushers(alloc)?,
+        })
     }
 
     pub fn ring_writer(&self, place: u8) {
@@ -41,6 +45,12 @@ impl Bells {
     pub fn ring_reader(&self, place: u8) {
         if let Some(pair) = self.pairs.get(usize::from(place)) {
             pair.reader.unpark();
+        }
+    }
+
+    pub fn ring_flusher(&self, topic: u64) {
+        if let Some(flusher) = self.flushers.get(topic as usize) {
+            flusher.unpark();
         }
     }
 
@@ -58,6 +68,21 @@ impl Bells {
         }
     }
 
+    /// Sleeps until it is rung, also where it was rung before.
+    pub fn wait_flusher<R: Wait>(&self, rt: &R, topic: u64) {
+        if let Some(flusher) = self.flushers.get(topic as usize) {
+            flusher.park(rt);
+        }
+    }
+
+    /// Sleeps for 20 milliseconds at most, and doesn't sleep when it next waits.
+    pub fn pause_flusher<R: Wait>(&self, rt: &R, topic: u64) {
+        if let Some(flusher) = self.flushers.get(topic as usize) {
+            flusher.park_timeout(rt, Duration::from_millis(PAUSE));
+            flusher.unpark();
+        }
+    }
+
     /// Wakes the writers of these places.
     pub fn ring_all(&self, marks: &Marks) {
         if marks.is_empty() {
@@ -69,4 +94,23 @@ impl Bells {
             }
         }
     }
+}
+
+fn pairs(alloc: Global) -> Result<Vec<Pair>, AllocError> {
+    let mut pairs = Vec::new(alloc);
+    for _ in 0..PLACES {
+        pairs.push(Pair {
+            reader: Parker::new(),
+            writer: Parker::new(),
+        })?;
+    }
+    Ok(pairs)
+}
+
+fn flushers(alloc: Global) -> Result<Vec<Parker>, AllocError> {
+    let mut flushers = Vec::new(alloc);
+    for _ in 0..TOPICS {
+        flushers.push(Parker::new())?;
+    }
+    Ok(flushers)
 }

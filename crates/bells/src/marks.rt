@@ -1,5 +1,5 @@
 ghost use Rattle.std.specs.Prelude.{◌≡◌, ◌↔◌, ℕ, true, false, Bool, List};
-ghost use Rattle.bells.specs.Marking.{no_marks, is_marked, with_mark};
+ghost use Rattle.bells.specs.Marking.{no_marks, all_marks, is_marked, with_mark};
 
 use std::marker::Model;
 use std::mem;
@@ -30,6 +30,16 @@ impl Marks {
         Marks {
             places: [false; 256],
             any: false,
+        }
+    }
+
+    /// All places are marked.
+    pub const fn all() -> Marks
+        ensures { result ≡ all_marks }
+    {
+        Marks {
+            places: [true; 256],
+            any: true,
         }
     }
 

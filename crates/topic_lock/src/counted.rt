@@ -13,6 +13,7 @@ use crate::stores::CountedStores;
 use crate::tally::{
     AcceptedByPorts, AcceptedByTopics, HandedByPorts, HandedByTopics, Tallies, Tally,
 };
+use crate::waiting::Waiting;
 use commands::Reply;
 use disk::Shelf;
 use std::marker::Model;
@@ -42,7 +43,7 @@ pub struct TopicShares<K: Tallies> {
 }
 
 /// A topic without its stores, with its shares. What a flush that failed had made durable stays behind until the topic is opened
-/// again.
+/// again. Who waits for it stands beside.
 #[derive(Drop)]
 pub struct CountedTopic<K: Tallies> {
     pub(crate) core: TopicCore,
@@ -51,6 +52,7 @@ pub struct CountedTopic<K: Tallies> {
     pub(crate) committed: Share<DurableByTopics<K>>,
     pub(crate) behind: Share<DurableByTopics<K>>,
     pub(crate) left: u64,
+    pub(crate) waiting: Waiting,
     ghost accepted_counted: { (accepted.amount ≡ core.accepted) × (accepted.parts ≡ 1) },
     ghost handed_counted: { (handed.amount ≡ core.handed) × (handed.parts ≡ 1) },
     ghost committed_counted: { (committed.amount ≡ core.committed) × (committed.parts ≡ 1) },
@@ -81,6 +83,7 @@ impl<K: Tallies> CountedTopic<K> {
             committed,
             behind,
             left: 0,
+            waiting: Waiting::new(),
         }
     }
 

@@ -45,12 +45,18 @@ impl Blanks {
     }
 }
 
-/// The tallies of a server behind their locks, and the shares of its topics, flushers and ports, which count nothing yet.
+/// The tallies of a server behind their locks.
 #[derive(Drop)]
-pub struct Ledgers<K: Tallies> {
+pub struct Totals<K: Tallies> {
     pub accepted: AcceptedTally<K>,
     pub handed: HandedTally<K>,
     pub durable: DurableTally<K>,
+}
+
+/// The tallies of a server, and the shares of its topics, flushers and ports, which count nothing yet.
+#[derive(Drop)]
+pub struct Ledgers<K: Tallies> {
+    pub totals: Totals<K>,
     pub topics: Vec<TopicParts<K>>,
     pub flushers: Vec<Flusher<K>>,
     pub ports: Vec<PortShares<K>>,
@@ -82,9 +88,11 @@ impl<K: Tallies> Ledgers<K> {
         let (by_topics, mut known) = durable_topics.open::<DurableByTopics<K>>();
         let flushers = cut_flushers(alloc, &mut known)?;
         Ok(Ledgers {
-            accepted: accepted_tally,
-            handed: handed_tally,
-            durable: Mutex::new(Durable::new(by_stores, by_topics)),
+            totals: Totals {
+                accepted: accepted_tally,
+                handed: handed_tally,
+                durable: Mutex::new(Durable::new(by_stores, by_topics)),
+            },
             topics: cut_topics(alloc, accepted, handed, held, known)?,
             flushers,
             ports: cut_ports(alloc, port_accepted, port_handed, ports)?,

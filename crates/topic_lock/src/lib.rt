@@ -4,6 +4,8 @@
 //! says in full what it does to the state that it is lent.
 #![tactic(auto)]
 
+mod asking;
+mod broker;
 mod counted;
 mod directory;
 mod durable;
@@ -18,16 +20,22 @@ mod places;
 mod reopening;
 mod stores;
 mod tally;
+mod turning;
+mod turns;
+mod waiting;
 mod written;
 
+pub use broker::{Seat, SharedBroker};
 pub use counted::{AcceptedTally, CountedTopic, HandedTally, TopicShares};
 pub use directory::{LockedCatalog, SharedCatalog, Spare};
 pub use durable::{Durable, DurableByStores, DurableByTopics, DurableTally};
 pub use fault::FlushFault;
-pub use ledgers::{Blanks, Ledgers};
+pub use ledgers::{Blanks, Ledgers, Totals};
 pub use locked::LockedPort;
 pub use parts::{PortShares, TopicParts};
 pub use places::{Known, LockedTopic, Place, SharedTopic};
 pub use stores::CountedStores;
 pub use tally::{AcceptedByPorts, AcceptedByTopics, HandedByPorts, HandedByTopics, Tallies, Tally};
+pub use turns::Turns;
+pub use waiting::Waiting;
 pub use written::{Flusher, Written};

@@ -5,30 +5,27 @@ ghost use Rattle.session.specs.Broker.{CommandStep, CollectedAt, FindStep, IfFou
 ghost use Rattle.topic_lock.specs.Counting.{sends_of, receipts_collected};
 ghost use Rattle.topic_lock.specs.Locked.{unknown_broker};
 
-use crate::counted::{AcceptedTally, HandedTally};
-use crate::directory::LockedCatalog;
-use crate::durable::DurableTally;
+use crate::broker::{Seat, SharedBroker};
 use crate::parts::PortShares;
 use crate::places::{Known, SharedTopic};
 use crate::tally::{AcceptedByPorts, HandedByPorts, Tallies};
-use commands::{Reply, ReplyText};
+use crate::turns::Turns;
+use commands::Reply;
 use disk::Shelf;
 use names::TopicName;
 use session::{Found, Port};
 use std::alloc::{AllocError, Global};
 use std::sync::Wait;
+use std::sync::atomic::Ordering;
 use std::sync::ledger::Share;
 use topic_core::{Answer, Outgoing, ReadError, TooManyPermits, TopicCommand, TopicStore};
 
-/// A port over the topics' locks, with shares of what all ports were told. It knows the topics that it found.
+/// A port over the topics' locks, with shares of what all ports were told. It knows the topics that were there when it last looked.
 #[derive(Drop)]
 pub struct LockedPort<'p, 'a, T: TopicStore, S: Shelf + Drop, K: Tallies, R: Wait> {
     rt: &'p R,
-    url: &'p ReplyText,
-    catalog: &'p LockedCatalog<'a, T, S, K>,
-    accepted_tally: &'p AcceptedTally<K>,
-    handed_tally: &'p HandedTally<K>,
-    durable_tally: &'p DurableTally<K>,
+    broker: &'p SharedBroker<'a, T, S, K>,
+    seat: &'p Seat,
     known: Vec<Known<'a, T, S, K>>,
     accepted: Share<AcceptedByPorts<K>>,
     handed: Share<HandedByPorts<K>>,
@@ -36,15 +33,13 @@ pub struct LockedPort<'p, 'a, T: TopicStore, S: Shelf + Drop, K: Tallies, R: Wai
 }
 
 impl<'p, 'a, T: TopicStore, S: Shelf + Drop, K: Tallies, R: Wait> LockedPort<'p, 'a, T, S, K, R> {
-    /// A port that knows no topic yet, with the shares of one.
+    /// A port of the connection that sits here, which knows no topic yet, with the shares of one. A connection's two ports share
+    /// its seat.
     pub fn new(
         rt: &'p R,
         alloc: Global,
-        url: &'p ReplyText,
-        catalog: &'p LockedCatalog<'a, T, S, K>,
-        accepted_tally: &'p AcceptedTally<K>,
-        handed_tally: &'p HandedTally<K>,
-        durable_tally: &'p DurableTally<K>,
+        broker: &'p SharedBroker<'a, T, S, K>,
+        seat: &'p Seat,
         shares: PortShares<K>,
     ) -> LockedPort<'p, 'a, T, S, K, R>
         ensures { (result.accepted.amount ≡ shares.accepted.amount) × (result.handed.amount ≡ shares.handed.amount) }
@@ -52,11 +47,8 @@ impl<'p, 'a, T: TopicStore, S: Shelf + Drop, K: Tallies, R: Wait> LockedPort<'p,
         let PortShares { accepted, handed } = shares;
         LockedPort {
             rt,
-            url,
-            catalog,
-            accepted_tally,
-            handed_tally,
-            durable_tally,
+            broker,
+            seat,
             known: Vec::new(alloc),
             accepted,
             handed,
@@ -75,14 +67,13 @@ impl<'p, 'a, T: TopicStore, S: Shelf + Drop, K: Tallies, R: Wait> LockedPort<'p,
     {
         let LockedPort {
             rt,
-            accepted_tally,
-            handed_tally,
+            broker,
             mut accepted,
             mut handed,
             ..
         } = self;
-        let all_accepted = accepted_tally.lock(rt).total(&mut accepted);
-        let all_handed = handed_tally.lock(rt).total(&mut handed);
+        let all_accepted = broker.totals.accepted.lock(rt).total(&mut accepted);
+        let all_handed = broker.totals.handed.lock(rt).total(&mut handed);
         ((accepted, all_accepted), (handed, all_handed))
     }
 
@@ -105,6 +96,31 @@ impl<'p, 'a, T: TopicStore, S: Shelf + Drop, K: Tallies, R: Wait> LockedPort<'p,
         }
         Ok(())
     }
+
+    /// Learns of the topics that are there by now, without the catalog's lock.
+    fn look_around(&mut self) -> Result<(), AllocError>
+        ensures grows { length self.old.known.items ≤ length self.new.known.items }
+        ensures counts { (self.new.accepted.amount ≡ self.old.accepted.amount) × (self.new.handed.amount ≡ self.old.handed.amount) }
+    {
+        let LockedPort { broker, known, .. } = self;
+        let places = broker.places;
+        for number in known.len()..places.len() {
+            let place = &places[number];
+            let Some(token) = place.witness() else {
+                break;
+            };
+            known.push(Known::new(place, token))?;
+        }
+        Ok(())
+    }
+}
+
+impl<'p, 'a, T: TopicStore, S: Shelf + Drop, K: Tallies, R: Wait> Turns
+    for LockedPort<'p, 'a, T, S, K, R> {
+    fn begin_turn(&mut self) {
+        // Where memory is refused, the topics that aren't known are passed over in this turn.
+        let _ = self.look_around();
+    }
 }
 
 impl<'p, 'a, T: TopicStore, S: Shelf + Drop, K: Tallies, R: Wait> Port
@@ -124,7 +140,7 @@ impl<'p, 'a, T: TopicStore, S: Shelf + Drop, K: Tallies, R: Wait> Port
     ghost refuses = { λ _ _ _. Unit {0} };
 
     fn service_url(&self) -> &str {
-        self.url.as_str()
+        self.broker.url.as_str()
     }
 
     fn topics(&self) -> u64 {
@@ -146,10 +162,11 @@ impl<'p, 'a, T: TopicStore, S: Shelf + Drop, K: Tallies, R: Wait> Port
     }
 
     fn find(&mut self, name: &TopicName) -> Found {
-        let mut catalog = self.catalog.lock(self.rt);
-        let found = catalog.find_or_make(self.rt, self.durable_tally, name);
+        let broker = self.broker;
+        let mut catalog = broker.catalog.lock(self.rt);
+        let found = catalog.find_or_make(self.rt, &broker.totals.durable, name);
         match self.learn(&catalog.known) {
-            Ok(()) => found,
+            Ok(()) => self.seat.use_topic(found),
             Err(AllocError) => Found::NoMemory,
         }
     }
@@ -165,14 +182,13 @@ impl<'p, 'a, T: TopicStore, S: Shelf + Drop, K: Tallies, R: Wait> Port
         let shared = self.topic(topic);
         let LockedPort {
             rt,
-            accepted_tally,
+            broker,
+            seat,
             accepted,
             ..
         } = self;
-        shared
-            .topic
-            .lock(*rt)
-            .command(*rt, accepted_tally, accepted, who, command)
+        let (bells, tally) = (&broker.bells, &broker.totals.accepted);
+        shared.command(*rt, bells, topic, seat.place, tally, accepted, who, command)
     }
 
     fn grant(
@@ -182,10 +198,13 @@ impl<'p, 'a, T: TopicStore, S: Shelf + Drop, K: Tallies, R: Wait> Port
         consumer_id: u64,
         permits: u32,
     ) -> Result<(), TooManyPermits> {
-        self.topic(topic)
+        let granted = self
+            .topic(topic)
             .topic
             .lock(self.rt)
-            .grant(who, consumer_id, permits)
+            .grant(who, consumer_id, permits);
+        self.broker.bells.ring_writer(self.seat.place);
+        granted
     }
 
     fn dispatch(
@@ -194,16 +213,14 @@ impl<'p, 'a, T: TopicStore, S: Shelf + Drop, K: Tallies, R: Wait> Port
         who: u64,
         consumer_id: u64,
     ) -> Result<Option<Outgoing>, ReadError> {
-        let shared = self.topic(topic);
-        shared
-            .topic
-            .lock(self.rt)
-            .dispatch(self.rt, &shared.stores, who, consumer_id)
+        self.topic(topic)
+            .dispatch(self.rt, self.seat.place, who, consumer_id)
     }
 
     fn next_due(&self, _who: u64, from: u64) -> Option<u64> {
-        if from < self.topics() {
-            Some(from)
+        let topic = self.seat.first_used(from)?;
+        if topic < self.topics() {
+            Some(topic)
         } else {
             None
         }
@@ -219,18 +236,20 @@ impl<'p, 'a, T: TopicStore, S: Shelf + Drop, K: Tallies, R: Wait> Port
         let shared = self.topic(topic);
         let LockedPort {
             rt,
-            handed_tally,
+            broker,
             handed,
             ..
         } = self;
         shared
             .topic
             .lock(*rt)
-            .collect(*rt, handed_tally, handed, who)
+            .collect(*rt, &broker.totals.handed, handed, who)
     }
 
     fn leave(&mut self, topic: u64, who: u64) {
-        self.topic(topic).topic.lock(self.rt).leave(who)
+        if self.seat.uses(topic) {
+            self.topic(topic).leave(self.rt, &self.broker.bells, who)
+        }
     }
 
     ghost use Rattle.std.proofs.Common.{refl, sym, ap, ◌∙◌, arith};

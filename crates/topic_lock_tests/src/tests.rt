@@ -13,12 +13,11 @@ use names::TopicName;
 use session::{Found, Port};
 use std::alloc::{AllocError, Global};
 use std::sync::atomic::{AtomicBool, Ordering};
-use std::sync::{Mutex, OnceLock, Wait};
+use std::sync::{OnceLock, Wait};
 use std::thread;
 use topic_core::{Answer, FileStores, PlainEntry, Send, SentEntry, TopicCommand};
 use topic_lock::{
-    DurableTally, FlushFault, Flusher, LockedCatalog, Place, SharedCatalog, SharedTopic, Spare,
-    Tallies, TopicParts,
+    FlushFault, Flusher, Place, SharedBroker, SharedTopic, Spare, Tallies, TopicParts, Totals,
 };
 
 // How long a thread waits for another one, in turns.
@@ -67,20 +66,20 @@ fn spares<K: Tallies>(
     Ok(spares)
 }
 
-// The catalog of a new broker, behind its lock.
-fn new_catalog<'a, K: Tallies, R: Wait>(
+// A new broker without topics, as threads share it.
+fn new_broker<'a, K: Tallies, R: Wait>(
     rt: &R,
     alloc: Global,
-    tally: &DurableTally<K>,
     places: &'a [Place<FileStores, MemShelf, K>],
+    totals: Totals<K>,
     parts: Vec<TopicParts<K>>,
-) -> Result<LockedCatalog<'a, FileStores, MemShelf, K>, Refusal>
+) -> Result<SharedBroker<'a, FileStores, MemShelf, K>, Refusal>
     requires { (length places.now ≡ 64) × (length parts.items ≡ 64) }
 {
+    let url = url(alloc)?;
     let shelf = catalog_shelf(alloc)?;
     let spares = spares(alloc, parts)?;
-    let catalog = SharedCatalog::open(rt, alloc, tally, shelf, places, spares)?;
-    Ok(Mutex::new(catalog))
+    SharedBroker::open(rt, alloc, url, shelf, places, spares, totals)
 }
 
 // By which clients would find the broker.
@@ -142,18 +141,13 @@ fn send(alloc: Global, sequence_id: u64) -> Result<TopicCommand, AllocError> {
 }
 
 // A flush of the topic, as its flusher makes it. Where it commits nothing since memory was refused or the device failed, so it says.
-fn flush<K: Tallies, R: Wait>(
+fn flush<'a, K: Tallies, R: Wait>(
     rt: &R,
-    tally: &DurableTally<K>,
+    broker: &SharedBroker<'a, FileStores, MemShelf, K>,
     shared: &SharedTopic<FileStores, MemShelf, K>,
     flusher: Flusher<K>,
 ) -> Result<Flusher<K>, Refusal> {
-    let taken = shared.topic.lock(rt).take_batch();
-    let Some(batch) = taken? else {
-        return Ok(flusher);
-    };
-    let written = shared.stores.lock(rt).write(rt, tally, flusher, batch);
-    match shared.topic.lock(rt).finish(written) {
+    match shared.flush(rt, &broker.totals.durable, &broker.bells, flusher) {
         Ok((flusher, Ok(_))) => Ok(flusher),
         Ok((_, Err(FlushFault::NoMemory))) => Err(Refusal::NoMemory),
         _ => Err(Refusal::Device),

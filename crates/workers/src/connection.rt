@@ -13,6 +13,7 @@ use std::io::{Read, Write};
 use std::sync::{Mutex, Wait};
 use std::thread;
 use std::thread::Threads;
+use topic_lock::Turns;
 
 /// So many replies stand in a connection's ring at most.
 const PLACES: usize = 256;
@@ -49,7 +50,7 @@ pub fn serve_connection<I, W, P, T, U, E, R>(
 where
     I: Read + Drop + Send,
     W: Write + Drop + Send,
-    P: Port + Send,
+    P: Port + Turns + Send,
     T: Turnstile + Sync,
     U: Turnstile + Sync,
     E: Ends + Sync,
@@ -104,7 +105,7 @@ where
 }
 
 // The reader's thread.
-fn reader<I: Read + Drop, P: Port, T: Turnstile, E: Ends, R: Wait>(
+fn reader<I: Read + Drop, P: Port + Turns, T: Turnstile, E: Ends, R: Wait>(
     rt: &R,
     number: u64,
     session: &Mutex<Numbered>,
@@ -134,7 +135,7 @@ fn reader<I: Read + Drop, P: Port, T: Turnstile, E: Ends, R: Wait>(
 }
 
 // The writer's thread.
-fn writer<W: Write, P: Port, T: Turnstile, E: Ends, R: Wait>(
+fn writer<W: Write, P: Port + Turns, T: Turnstile, E: Ends, R: Wait>(
     rt: &R,
     number: u64,
     session: &Mutex<Numbered>,

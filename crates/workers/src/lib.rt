@@ -4,11 +4,13 @@
 #![tactic(auto)]
 
 mod connection;
+mod flushing;
 mod loops;
 mod numbered;
 mod outgoing;
 
 pub use connection::{Ends, serve_connection};
+pub use flushing::flush_loop;
 pub use loops::{Point, Turnstile, read_loop, write_loop};
 pub use numbered::{Numbered, Pumped};
 pub use outgoing::{Outgoing, Output};

@@ -10,6 +10,7 @@ use session::Port;
 use std::io;
 use std::io::{Read, Write};
 use std::sync::{Mutex, Wait};
+use topic_lock::Turns;
 
 /// Where a loop asks whether to go on: that of a session's reader or writer, or that of a topic's flusher, by its number.
 #[derive(Clone, Copy, Debug, PartialEq, Eq)]
@@ -26,7 +27,7 @@ pub trait Turnstile {
 }
 
 // Feeds a piece, where the session goes on. The replies are pushed before its lock is let go.
-fn feed_locked<P: Port, R: Wait>(
+fn feed_locked<P: Port + Turns, R: Wait>(
     rt: &R,
     session: &Mutex<Numbered>,
     piece: &[u8],
@@ -40,11 +41,12 @@ fn feed_locked<P: Port, R: Wait>(
     if session.is_over() {
         return false;
     }
+    port.begin_turn();
     session.feed(piece, port, replies)
 }
 
 // Reads and feeds once, where the ring has a free place. Answers whether the loop goes on.
-fn read_turn<I: Read, P: Port, R: Wait>(
+fn read_turn<I: Read, P: Port + Turns, R: Wait>(
     rt: &R,
     session: &Mutex<Numbered>,
     input: &mut I,
@@ -67,7 +69,7 @@ fn read_turn<I: Read, P: Port, R: Wait>(
 }
 
 // Reads and feeds until the input or the session ends or no turn is let pass.
-fn read_all<I: Read, P: Port, T: Turnstile, R: Wait>(
+fn read_all<I: Read, P: Port + Turns, T: Turnstile, R: Wait>(
     rt: &R,
     number: u64,
     turnstile: &T,
@@ -92,7 +94,7 @@ fn read_all<I: Read, P: Port, T: Turnstile, R: Wait>(
 /// Feeds a session what the input gives, at most as many bytes a turn as the buffer has, and pushes what each feed gave as one
 /// reply, until the input or the session ends or no turn is let pass. A turn that finds the ring full reads nothing. Then the
 /// session ends.
-pub fn read_loop<I: Read, P: Port, T: Turnstile, R: Wait>(
+pub fn read_loop<I: Read, P: Port + Turns, T: Turnstile, R: Wait>(
     rt: &R,
     number: u64,
     turnstile: &T,
@@ -120,7 +122,7 @@ pub fn read_loop<I: Read, P: Port, T: Turnstile, R: Wait>(
 }
 
 // Says what is written, and pumps, where the session goes on.
-fn pump_locked<P: Port, R: Wait>(
+fn pump_locked<P: Port + Turns, R: Wait>(
     rt: &R,
     session: &Mutex<Numbered>,
     port: &mut P,
@@ -135,11 +137,12 @@ fn pump_locked<P: Port, R: Wait>(
             ended: true,
         };
     }
+    port.begin_turn();
     session.pump(port)
 }
 
 // Pumps and writes once. Answers whether the session has ended; what stood in the ring is then written.
-fn write_turn<W: Write, P: Port, R: Wait>(
+fn write_turn<W: Write, P: Port + Turns, R: Wait>(
     rt: &R,
     session: &Mutex<Numbered>,
     port: &mut P,
@@ -161,7 +164,7 @@ fn write_turn<W: Write, P: Port, R: Wait>(
 
 /// Writes what the session's pumps give and the reader's replies, in rising numbers, until the session ends or no turn is let
 /// pass. Answers whether the session has ended; all that was seen in the ring is then written.
-pub fn write_loop<W: Write, P: Port, T: Turnstile, R: Wait>(
+pub fn write_loop<W: Write, P: Port + Turns, T: Turnstile, R: Wait>(
     rt: &R,
     number: u64,
     turnstile: &T,

@@ -2,7 +2,7 @@
 ghost use Rattle.std.specs.Prelude.{◌≡◌};
 ghost use Rattle.topic_lock.specs.Ledgers.{IsOf};
 
-use super::{new_catalog, places, publishes, send, url, waits_for};
+use super::{new_broker, places, publishes, send, waits_for};
 use disk_mem::MemShelf;
 use gated_log::Refusal;
 use session::Port;
@@ -15,7 +15,7 @@ use std::thread;
 use std::thread::Threads;
 use topic_core::{Answer, FileStores};
 use topic_lock::{
-    Blanks, DurableTally, FlushFault, Flusher, Ledgers, LockedPort, SharedTopic, Tallies,
+    Blanks, DurableTally, FlushFault, Flusher, Ledgers, LockedPort, Seat, SharedTopic, Tallies,
 };
 
 // What is held, and when it may go on.
@@ -83,23 +83,19 @@ fn run<K: Tallies + Send + Sync, R: Threads + Wait + Sync>(
     requires durable { IsOf blanks.durable_stores K.durable.one 64 × IsOf blanks.durable_topics K.durable.other 192 }
 {
     let Ledgers {
-        accepted,
-        handed,
-        durable,
+        totals,
         topics,
         mut flushers,
         mut ports,
     } = Ledgers::<K>::open(alloc, blanks, 2)?;
     let places = places(alloc)?;
-    let url = url(alloc)?;
-    let catalog = new_catalog(rt, alloc, &durable, places.as_slice(), topics)?;
+    let broker = new_broker(rt, alloc, places.as_slice(), totals, topics)?;
     let (Some(one), Some(other), Some(flusher)) = (ports.pop(), ports.pop(), flushers.pop()) else {
         unreachable!();
     };
-    let mut first = LockedPort::new(rt, alloc, &url, &catalog, &accepted, &handed, &durable, one);
-    let mut second = LockedPort::new(
-        rt, alloc, &url, &catalog, &accepted, &handed, &durable, other,
-    );
+    let seats = (Seat::new(0), Seat::new(1));
+    let mut first = LockedPort::new(rt, alloc, &broker, &seats.0, one);
+    let mut second = LockedPort::new(rt, alloc, &broker, &seats.1, other);
     let (Some(topic), Some(_)) = (
         publishes(alloc, &mut first, 0)?,
         publishes(alloc, &mut second, 1)?,
@@ -119,7 +115,7 @@ fn run<K: Tallies + Send + Sync, R: Threads + Wait + Sync>(
         is_held: AtomicBool::new(false),
         may_go_on: AtomicBool::new(false),
     };
-    let (gate, durable) = (&gate, &durable);
+    let (gate, durable) = (&gate, &broker.totals.durable);
     let (flushed, sent) = thread::join(
         rt,
         move || flush_held(rt, durable, shared, flusher, gate),

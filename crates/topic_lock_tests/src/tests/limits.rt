@@ -1,7 +1,7 @@
 // What the ports of two sending sessions settle. Whoever waits goes on up to a limit of turns, so allocations of this test are not refused in turn.
 ghost use Rattle.topic_lock.specs.Ledgers.{IsOf};
 
-use super::{TURNS, flush, new_catalog, places, publishes, send, url};
+use super::{TURNS, flush, new_broker, places, publishes, send};
 use commands::Reply;
 use disk_mem::MemShelf;
 use gated_log::Refusal;
@@ -14,7 +14,7 @@ use std::test::Fail;
 use std::thread;
 use std::thread::Threads;
 use topic_core::{Answer, FileStores};
-use topic_lock::{Blanks, DurableTally, Flusher, Ledgers, LockedPort, Place, Tallies};
+use topic_lock::{Blanks, Flusher, Ledgers, LockedPort, Seat, SharedBroker, Tallies};
 
 // How many entries each session sends.
 const SENDS: u64 = 50;
@@ -85,15 +85,14 @@ fn session_and_flusher<'p, 'a, K: Tallies + Send + Sync, R: Threads + Wait + Syn
     rt: &R,
     alloc: Global,
     port: MemPort<'p, 'a, K, R>,
-    tally: &DurableTally<K>,
-    place: &Place<FileStores, MemShelf, K>,
+    broker: &SharedBroker<'a, FileStores, MemShelf, K>,
     flusher: Flusher<K>,
     finished: &AtomicU64,
 ) -> Result<Settled, Refusal> {
     let (settled, flushed) = thread::join(
         rt,
         move || session(alloc, port, 1, finished),
-        move || flush_while(rt, tally, place, flusher, finished),
+        move || flush_while(rt, broker, flusher, finished),
     );
     flushed?;
     settled
@@ -110,38 +109,33 @@ fn run<K: Tallies + Send + Sync, R: Threads + Wait + Sync>(
     requires durable { IsOf blanks.durable_stores K.durable.one 64 × IsOf blanks.durable_topics K.durable.other 192 }
 {
     let Ledgers {
-        accepted,
-        handed,
-        durable,
+        totals,
         topics,
         mut flushers,
         mut ports,
     } = Ledgers::<K>::open(alloc, blanks, 2)?;
     let places = places(alloc)?;
-    let url = url(alloc)?;
-    let catalog = new_catalog(rt, alloc, &durable, places.as_slice(), topics)?;
+    let broker = new_broker(rt, alloc, places.as_slice(), totals, topics)?;
     let (Some(one), Some(other), Some(flusher)) = (ports.pop(), ports.pop(), flushers.pop()) else {
         unreachable!();
     };
-    let first = LockedPort::new(rt, alloc, &url, &catalog, &accepted, &handed, &durable, one);
-    let second = LockedPort::new(
-        rt, alloc, &url, &catalog, &accepted, &handed, &durable, other,
-    );
+    let seats = (Seat::new(0), Seat::new(1));
+    let first = LockedPort::new(rt, alloc, &broker, &seats.0, one);
+    let second = LockedPort::new(rt, alloc, &broker, &seats.1, other);
     let finished = AtomicU64::new(0);
-    let (finished, place, durable) = (&finished, &places[0], &durable);
+    let (finished, broker) = (&finished, &broker);
     let (one, other) = thread::join(
         rt,
         move || session(alloc, first, 0, finished),
-        move || session_and_flusher(rt, alloc, second, durable, place, flusher, finished),
+        move || session_and_flusher(rt, alloc, second, broker, flusher, finished),
     );
     Ok((one?, other?))
 }
 
-// Flushes the topic of a place, once it is there, until both sessions have published.
-fn flush_while<K: Tallies, R: Wait>(
+// Flushes the first topic, once it is there, until both sessions have published.
+fn flush_while<'a, K: Tallies, R: Wait>(
     rt: &R,
-    tally: &DurableTally<K>,
-    place: &Place<FileStores, MemShelf, K>,
+    broker: &SharedBroker<'a, FileStores, MemShelf, K>,
     flusher: Flusher<K>,
     finished: &AtomicU64,
 ) -> Result<(), Refusal> {
@@ -151,10 +145,13 @@ fn flush_while<K: Tallies, R: Wait>(
             break;
         }
         thread::yield_now();
+        let Some(place) = broker.places.first() else {
+            continue;
+        };
         let Some(shared) = place.get() else {
             continue;
         };
-        idle = flush(rt, tally, shared, idle)?;
+        idle = flush(rt, broker, shared, idle)?;
     }
     Ok(())
 }

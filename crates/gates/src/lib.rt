@@ -1,0 +1,14 @@
+//! What a server's threads wait at. A reader waits while too much of what it was answered stands unwritten, and a writer
+//! until there is something to write; each wakes the other, and each ends the other behind its loop; a flusher waits until its
+//! topic owes somebody a reply. Nothing is proved of them but that their calls are safe.
+#![tactic(auto)]
+
+mod flusher;
+mod parting;
+mod reader;
+mod writer;
+
+pub use flusher::FlusherGate;
+pub use parting::Parting;
+pub use reader::ReaderGate;
+pub use writer::WriterGate;

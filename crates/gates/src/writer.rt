@@ -1,0 +1,44 @@
+use bells::Bells;
+use std::sync::{Mutex, Wait};
+use workers::{Numbered, Point, Turnstile};
+
+/// A writer's turnstile. It wakes a reader that waits for room, and waits until it is rung; where the last pump stopped at a
+/// bound of its own, the next one comes at once.
+#[derive(Drop)]
+pub struct WriterGate<'a, R: Wait> {
+    rt: &'a R,
+    bells: &'a Bells,
+    session: &'a Mutex<Numbered>,
+    place: u8,
+}
+
+fn has_more<R: Wait>(rt: &R, session: &Mutex<Numbered>) -> bool {
+    session.lock(rt).has_more()
+}
+
+impl<'a, R: Wait> WriterGate<'a, R> {
+    /// The turnstile of the connection at this place.
+    pub fn new(
+        rt: &'a R,
+        bells: &'a Bells,
+        session: &'a Mutex<Numbered>,
+        place: u8,
+    ) -> WriterGate<'a, R> {
+        WriterGate {
+            rt,
+            bells,
+            session,
+            place,
+        }
+    }
+}
+
+impl<'a, R: Wait> Turnstile for WriterGate<'a, R> {
+    fn pass(&self, _point: Point) -> bool {
+        self.bells.ring_reader(self.place);
+        if !has_more(self.rt, self.session) {
+            self.bells.wait_writer(self.rt, self.place);
+        }
+        true
+    }
+}
