@@ -1,8 +1,21 @@
 -- What a command line asks for.
-use Rattle.std.specs.Prelude.{ℕ, List, Option, option_map, option_and_then, codes}
-use Rattle.clap.specs.Words.{first_of, subcommand_rows_of}
+use Rattle.std.specs.Prelude.{ℕ, List, [], Option, Some, None, option_map, option_and_then, codes}
+use Rattle.clap.specs.Words.{first_of, first_value, found_of, one_text, subcommand_rows_of}
 use Rattle.clap.specs.declared.parser.matches.ArgMatches.{ArgMatches}
 
 -- the file that the subcommand names; none where no subcommand stands
 abbrev pub file_of : ArgMatches → Option (List ℕ)
 file_of matches = option_and_then (λ rows. first_of (codes "FILE") rows) (option_map (λ p. p.1) (subcommand_rows_of matches))
+
+-- the path, or that without a byte where none is given
+abbrev pub or_none : Option (List ℕ) → List ℕ
+or_none (Some path) = path
+or_none None = []
+
+-- the folder that a subcommand's words name
+abbrev pub folder_in : ArgMatches → List ℕ
+folder_in words = or_none (first_value (found_of words) (codes "DIR"))
+
+-- the text that says how many entries a ledger is to have
+abbrev pub entries_in : ArgMatches → Option (List ℕ)
+entries_in words = one_text (found_of words) (codes "entries")

@@ -1,8 +1,10 @@
-ghost use Rattle.std.specs.Prelude.{◌≡◌, option_map};
-ghost use Rattle.pulsar_node.specs.Arguments.{file_of};
+ghost use Rattle.std.specs.Prelude.{◌≡◌, ℕ, List, option_map, IfSome};
+ghost use Rattle.pulsar_node.specs.Arguments.{file_of, folder_in, entries_in};
 
-use clap::{Arg, ArgMatches, Command};
+use clap::{Arg, ArgMatches, Command, value_parser};
+use node::EntriesPerLedger;
 use std::alloc::{AllocError, Global};
+use std::str::FromStr;
 
 const NAME: &str = "pulsar_node";
 
@@ -21,7 +23,64 @@ pub(crate) fn command<'a>(alloc: Global) -> Result<Command<'a>, AllocError> {
         .version(VERSION)
         .about("A broker of one node that speaks the Pulsar binary protocol")
         .after_help("Without any words a script is read from the standard input.")
+        .subcommand(init_command(alloc)?)?
+        .subcommand(serve_command(alloc)?)?
+        .subcommand(inspect_command(alloc)?)?
         .subcommand(replay)
+}
+
+fn init_command<'a>(alloc: Global) -> Result<Command<'a>, AllocError> {
+    let entries = Arg::new(alloc, "entries")
+        .long("entries")
+        .value_name("N")
+        .value_parser(value_parser!(u32).range(1..=50000))
+        .default_value("1000")
+        .help("How many entries a ledger has, 1 to 50000");
+    Command::new(alloc, "init")
+        .about("Makes a broker without topics in a folder")
+        .arg(folder_argument(alloc))?
+        .arg(entries)
+}
+
+fn serve_command<'a>(alloc: Global) -> Result<Command<'a>, AllocError> {
+    let address = Arg::new(alloc, "ADDR")
+        .required(true)
+        .help("Where to listen, as 127.0.0.1:6650");
+    Command::new(alloc, "serve")
+        .about("Serves the broker of a folder to clients, until it is killed")
+        .arg(address)?
+        .arg(folder_argument(alloc))
+}
+
+fn inspect_command<'a>(alloc: Global) -> Result<Command<'a>, AllocError> {
+    Command::new(alloc, "inspect")
+        .about(
+            "Prints a line for each topic in a folder, and behind it one for each of its subscriptions",
+        )
+        .arg(folder_argument(alloc))
+}
+
+fn folder_argument<'a>(alloc: Global) -> Arg<'a> {
+    Arg::new(alloc, "DIR").required(true).help("The folder")
+}
+
+/// The folder that a subcommand names.
+pub(crate) fn folder_of<'a>(words: &ArgMatches<'a>) -> &'a str
+    ensures { result.now ≡ folder_in words.now }
+{
+    words.get_str("DIR").unwrap_or_default()
+}
+
+/// The address that `serve` names.
+pub(crate) fn address_of<'a>(words: &ArgMatches<'a>) -> &'a str {
+    words.get_str("ADDR").unwrap_or_default()
+}
+
+/// How many entries a ledger is to have; none where a ledger may not have so many, which the command line refuses.
+pub(crate) fn entries_per_ledger(init: &ArgMatches<'_>) -> Option<EntriesPerLedger>
+    ensures { (text : List ℕ) → entries_in init.now ≡ Some text → IfSome result (λ entries. (⟦<u32 as FromStr>⟧.from_str_gives) text (Ok entries.count)) }
+{
+    EntriesPerLedger::new(init.get_one::<u32>("entries")?)
 }
 
 const REPLAY: &str = "Runs a script of events over a broker in memory.

@@ -3,6 +3,8 @@
 //! bad script is answered by the number of its first bad line, and nothing is written.
 #![tactic(auto)]
 
+ghost use Rattle.std.specs.Prelude.{◌≡◌, OnOk, OnErr};
+
 mod arguments;
 mod event;
 mod fault;
@@ -11,16 +13,22 @@ mod sink;
 mod source;
 mod working;
 
-use crate::arguments::{command, script_file};
+use crate::arguments::{address_of, command, entries_per_ledger, folder_of, script_file};
 use crate::fault::{ProgramFault, exit_status, write_fault};
 use crate::replay::replay;
 use crate::sink::ToWriter;
 use crate::source::FromReader;
 use clap::ArgMatches;
 use clap::error::ErrorKind;
+use folder::FolderFault;
+use log::{Log, error};
+use server::ServeFault;
 use std::fs::File;
+use std::net::{Net, TcpListener, TcpStream};
 use std::process::ExitCode;
 use std::rt::{Env, Files};
+use std::sync::Wait;
+use std::thread::Threads;
 use std::{env, io};
 
 const REFUSED: u8 = 2;
@@ -37,7 +45,21 @@ fn main(rt: HostRuntime) -> ExitCode {
 }
 
 // Reads the command line and does what it says. The status is 0, or 2 for a command line that is refused.
-fn run<R: AllocGlobal + Print + Eprint + Input + Env + Files>(rt: &R) -> Result<u8, ProgramFault> {
+fn run<R>(rt: &R) -> Result<u8, ProgramFault>
+where
+    R: AllocGlobal
+        + Print
+        + Eprint
+        + Input
+        + Env
+        + Log
+        + Files<File = File>
+        + Threads
+        + Wait
+        + Sync,
+    R: Net<Stream = TcpStream, Listener = TcpListener>,
+    R::Dir: Send + Sync,
+{
     let mut command = command(rt.alloc())?;
     let words = match env::args(rt) {
         Ok(words) => words.collect::<Vec<String>>(rt.alloc())?,
@@ -48,13 +70,81 @@ fn run<R: AllocGlobal + Print + Eprint + Input + Env + Files>(rt: &R) -> Result<
         Err(_) => return Err(ProgramFault::NoMemory),
     };
     match command.try_get_matches_from(words.as_slice()) {
-        Ok(matches) => {
-            replay_input(rt, &matches)?;
-            Ok(0)
-        }
+        Ok(matches) => work(rt, &matches),
         Err(error) if error.kind() == ErrorKind::OutOfMemory => Err(ProgramFault::NoMemory),
         Err(error) => show(rt, &error),
     }
+}
+
+// Does what the command line says, and answers the status.
+fn work<R>(rt: &R, matches: &ArgMatches<'_>) -> Result<u8, ProgramFault>
+where
+    R: AllocGlobal + Print + Eprint + Input + Log + Files<File = File> + Threads + Wait + Sync,
+    R: Net<Stream = TcpStream, Listener = TcpListener>,
+    R::Dir: Send + Sync,
+{
+    match matches.subcommand() {
+        Some(("init", words)) => Ok(init(rt, words)),
+        Some(("serve", words)) => Ok(serve(rt, words)),
+        Some(("inspect", words)) => Ok(inspect(rt, words)),
+        Some(_) | None => {
+            replay_input(rt, matches)?;
+            Ok(0)
+        }
+    }
+}
+
+fn init<R: AllocGlobal + Print + Eprint + Log + Files<File = File>>(
+    rt: &R,
+    words: &ArgMatches<'_>,
+) -> u8 {
+    let Some(per_ledger) = entries_per_ledger(words) else {
+        return REFUSED;
+    };
+    let done = folder::init(rt, folder_of(words), per_ledger, &mut io::writer(rt));
+    status_of(rt, done)
+}
+
+// Serves a folder. It comes back only where that can't be done.
+fn serve<R>(rt: &R, words: &ArgMatches<'_>) -> u8
+where
+    R: AllocGlobal + Print + Eprint + Log + Files<File = File> + Threads + Wait + Sync,
+    R: Net<Stream = TcpStream, Listener = TcpListener>,
+    R::Dir: Send + Sync,
+{
+    match server::serve(rt, address_of(words), folder_of(words)) {
+        Ok(()) => 0,
+        Err(ServeFault::Folder(fault)) => status_of(rt, Err(fault)),
+        Err(fault) => {
+            // Where standard error fails too, the status alone tells.
+            let _ = eprintln!(rt; "error: {fault}");
+            server::exit_status(&fault)
+        }
+    }
+}
+
+fn inspect<R: AllocGlobal + Print + Eprint + Log + Files<File = File>>(
+    rt: &R,
+    words: &ArgMatches<'_>,
+) -> u8 {
+    let done = folder::inspect(rt, folder_of(words), &mut io::writer(rt));
+    status_of(rt, done)
+}
+
+// The status of a command on a folder, which says on standard error why it ended early.
+fn status_of<R: Eprint + Log>(rt: &R, done: Result<(), FolderFault>) -> u8
+    ensures done { OnOk done (result ≡ 0) }
+    ensures failed { OnErr done (result ≡ 1) }
+{
+    let Err(fault) = done else {
+        return 0;
+    };
+    if fault == FolderFault::InUse {
+        error!(rt; "another process holds the folder");
+    }
+    // Where standard error fails too, the status alone tells.
+    let _ = eprintln!(rt; "error: {fault}");
+    folder::exit_status(&fault)
 }
 
 // Prints help, the version, or why the command line is refused.

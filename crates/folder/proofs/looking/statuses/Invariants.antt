@@ -1,0 +1,11 @@
+use Rattle.std.proofs.Common.{◌-◌, ◌^◌, length}
+use Rattle.node.specs.Standing.{state_of, Stands}
+use Rattle.folder.proofs.Told.{AreFirst}
+use Rattle.folder.proofs.looking.statuses.Given as goal
+
+-- the topics so far are told
+abbrev pub invariant-loop-statuses : goal.invariant-loop-statuses
+invariant-loop-statuses g l = Stands g.S.Shelf.disk l.fn.node → AreFirst (state_of g.S.Shelf.disk l.fn.node) l.statuses.items
+
+abbrev pub decreases-loop-statuses : goal.decreases-loop-statuses
+decreases-loop-statuses g l = 2 ^ 64 - length l.statuses.items

@@ -1,0 +1,36 @@
+-- What is told of a node.
+use Rattle.std.specs.Prelude.{◌≡◌, ◌⊎◌, ℕ, List, Some, length, slice_get}
+use Rattle.disk.specs.Disk.{Image}
+use Rattle.gated_log.specs.declared.refusal.Refusal.{Refusal}
+use Rattle.managed_ledger.specs.Entries.{Entries}
+use Rattle.records.specs.Maps.{Kept}
+use Rattle.node.specs.State.{State}
+use Rattle.node.specs.Driving.{StatusIn}
+use Rattle.node.specs.Opening.{IsJustOpened, IsFirstFault}
+use Rattle.node.specs.declared.status.TopicStatus.{TopicStatus}
+use Rattle.folder.specs.declared.fault.FolderFault.{FolderFault}
+use Rattle.folder.specs.declared.fault.FolderFault.TheVariants.{Refused, AlreadyInitialised, InUse}
+use Rattle.folder.specs.Faults.{IsOutage}
+
+-- each of these topics is told by its number
+abbrev pub AreOf : State → List TopicStatus → Type 0
+AreOf state statuses = (number : ℕ) (status : TopicStatus) → slice_get statuses number ≡ Some status → StatusIn (Some number) state (Some status)
+
+-- all topics are told, in the order of their numbers
+pub record AreTold (state : State) (statuses : List TopicStatus) : Type 0 where
+  pub all : length statuses ≡ length state.broker.topics
+  pub each : AreOf state statuses
+
+-- the topics are told of the node that the files stand for
+abbrev pub AreFound : (ℕ → Image → Entries → Kept → Type 0) → Image → List TopicStatus → Type 0
+AreFound files_stand files statuses = (state : State) × IsJustOpened files_stand files state × AreTold state statuses
+
+-- the first fault that stands in the files
+abbrev pub IsFoundFault : (ℕ → Image → Entries → Kept → Type 0) → (ℕ → Image → Refusal → Type 0) → Image → FolderFault → Type 0
+IsFoundFault files_stand faulty files (Refused why) = IsFirstFault files_stand faulty files why
+IsFoundFault files_stand faulty files AlreadyInitialised = ⊥
+IsFoundFault files_stand faulty files InUse = ⊥
+
+-- memory was refused, or the device failed, or that
+abbrev pub IsFaultOfLooking : (ℕ → Image → Entries → Kept → Type 0) → (ℕ → Image → Refusal → Type 0) → Image → FolderFault → Type 0
+IsFaultOfLooking files_stand faulty files fault = IsOutage fault ⊎ IsFoundFault files_stand faulty files fault

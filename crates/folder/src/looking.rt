@@ -1,0 +1,98 @@
+// A node's files are looked at.
+ghost use Rattle.std.specs.Prelude.{◌≡◌, ◌≢◌, List, IfOk, IfErr, OnOk};
+ghost use Rattle.std.specs.Io.KnownBytes.{Appends};
+ghost use Rattle.gated_log.specs.declared.refusal.Refusal.TheVariants.{Device, NoMemory};
+ghost use Rattle.admin.specs.Status.{lines_of_all};
+ghost use Rattle.node.specs.declared.status.TopicStatus.{TopicStatus};
+ghost use Rattle.node.specs.Standing.{state_of, Stands};
+ghost use Rattle.folder.specs.Faults.{IsOutage};
+ghost use Rattle.folder.specs.Looking.{AreTold, AreFound, IsFaultOfLooking};
+
+use crate::fault::FolderFault;
+use crate::held::Folder;
+use admin::print_status;
+use disk::Shelf;
+use node::{Node, ReplyText, Site, TopicStatus};
+use std::alloc::{AllocError, Global};
+use std::fs::File;
+use std::io::Write;
+use std::rt::Files;
+use topic_core::{FileStores, TopicStore};
+
+/// By which clients would find the broker of a folder that is only looked at.
+const SERVICE_URL: &str = "pulsar://inspect";
+
+/// Writes the status lines of the node in the folder of this path, as `inspect_on` does. No folder and no file is made.
+pub fn inspect<R: AllocGlobal + Files<File = File>, W: Write>(
+    rt: &R,
+    path: &str,
+    writer: &mut W,
+) -> Result<(), FolderFault>
+    ensures lines { OnOk result ((statuses : List TopicStatus) × Appends (W.contents writer.old) (W.contents writer.new) (lines_of_all statuses)) }
+    ensures silent { IfErr result (λ fault. fault ≢ FolderFault.Refused Device → fault ≢ FolderFault.Refused NoMemory → writer.new ≡ writer.old) }
+{
+    let folder = Folder::open(rt, path)?;
+    let shelf = folder.shelf(rt)?;
+    inspect_on(rt.alloc(), shelf, writer)
+}
+
+/// Writes the status lines of the node on this device: all of them or, after any fault but one of the writer, none. The node
+/// is opened for it, which syncs its files and changes nothing.
+pub fn inspect_on<S: Shelf + Drop, W: Write>(
+    alloc: Global,
+    shelf: S,
+    writer: &mut W,
+) -> Result<(), FolderFault>
+    // Where the device is honest, they are those of the node that its files stand for.
+    ensures found { (S.disk shelf).honest → OnOk result ((statuses : List TopicStatus) × AreFound (⟦<FileStores as TopicStore>⟧.stands) (S.disk shelf).seen statuses
+        × Appends (W.contents writer.old) (W.contents writer.new) (lines_of_all statuses)) }
+    ensures refused { (S.disk shelf).honest → IfErr result (IsFaultOfLooking (⟦<FileStores as TopicStore>⟧.stands) (⟦<FileStores as TopicStore>⟧.faulty) (S.disk shelf).seen) }
+
+    ensures lines { OnOk result ((statuses : List TopicStatus) × Appends (W.contents writer.old) (W.contents writer.new) (lines_of_all statuses)) }
+    ensures silent { IfErr result (λ fault. fault ≢ FolderFault.Refused Device → fault ≢ FolderFault.Refused NoMemory → writer.new ≡ writer.old) }
+{
+    let statuses = statuses_on(alloc, shelf)?;
+    write_lines(alloc, statuses.as_slice(), writer)
+}
+
+// Writes the status lines of topics, of which nothing is written where memory for them is refused.
+fn write_lines<W: Write>(
+    alloc: Global,
+    statuses: &[TopicStatus],
+    writer: &mut W,
+) -> Result<(), FolderFault>
+    ensures lines { OnOk result (Appends (W.contents writer.old) (W.contents writer.new) (lines_of_all statuses.now)) }
+    ensures faults { IfErr result IsOutage }
+{
+    let mut lines = Vec::new(alloc);
+    print_status(statuses, &mut lines)?;
+    writer.write_all(lines.as_slice())?;
+    Ok(())
+}
+
+// What all topics of the node on this device have, in the order of their numbers.
+fn statuses_on<S: Shelf + Drop>(alloc: Global, shelf: S) -> Result<Vec<TopicStatus>, FolderFault>
+    ensures found { (S.disk shelf).honest → IfOk result (λ statuses. AreFound (⟦<FileStores as TopicStore>⟧.stands) (S.disk shelf).seen statuses.items) }
+    ensures refused { (S.disk shelf).honest → IfErr result (IsFaultOfLooking (⟦<FileStores as TopicStore>⟧.stands) (⟦<FileStores as TopicStore>⟧.faulty) (S.disk shelf).seen) }
+{
+    let text = String::from_str(alloc, SERVICE_URL)?;
+    let url = ReplyText::new(text);
+    match Node::open(alloc, Site { url, shelf }) {
+        Ok(node) => Ok(statuses(alloc, &node)?),
+        Err((refusal, _)) => Err(FolderFault::Refused(refusal)),
+    }
+}
+
+// What all topics of the node have.
+fn statuses<S: Shelf>(
+    alloc: Global,
+    node: &Node<FileStores, S>,
+) -> Result<Vec<TopicStatus>, AllocError>
+    ensures { Stands S.disk node.now → IfOk result (λ statuses. AreTold (state_of S.disk node.now) statuses.items) }
+{
+    let mut statuses = Vec::new(alloc);
+    while let Some(status) = node.status(statuses.len() as u64)? {
+        statuses.push(status)?;
+    }
+    Ok(statuses)
+}

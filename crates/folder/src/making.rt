@@ -1,0 +1,86 @@
+// A node's files are made.
+ghost use Rattle.std.specs.Prelude.{◌≡◌, ◌≢◌, ℕ, List, IfErr, IsErrOf, OnOk};
+ghost use Rattle.std.specs.Io.KnownBytes.{Appends};
+ghost use Rattle.disk.specs.Disk.{Same, Failed};
+ghost use Rattle.gated_log.specs.declared.refusal.Refusal.TheVariants.{Device, NoMemory};
+ghost use Rattle.catalog.specs.Names.{Names};
+ghost use Rattle.catalog.specs.Catalogs.{StandsFor};
+ghost use Rattle.node.specs.State.{State, fresh_broker};
+ghost use Rattle.node.specs.Standing.{AtRest};
+ghost use Rattle.folder.specs.Making.{initialised_line, fault_of_making, IsFaultOfMaking, MakesNothing};
+
+use crate::fault::FolderFault;
+use crate::held::Folder;
+use catalog::{Catalog, EntriesPerLedger};
+use disk::Shelf;
+use node::{Node, Refusal};
+use std::alloc::Global;
+use std::fs::File;
+use std::io;
+use std::io::Write;
+use std::rt::Files;
+use topic_core::{FileStores, TopicStore};
+
+/// Makes a node without topics in the folder of this path, and writes a line that says how many entries its ledgers have. The
+/// folder is made where it isn't there. One that has a list of topics, sound or not, stays as it is; one in which an
+/// earlier `init` was cut off is made anew. Nothing is written where the node isn't made.
+pub fn init<R: AllocGlobal + Files<File = File>, W: Write>(
+    rt: &R,
+    path: &str,
+    per_ledger: EntriesPerLedger,
+    writer: &mut W,
+) -> Result<(), FolderFault>
+    ensures line { OnOk result (Appends (W.contents writer.old) (W.contents writer.new) (initialised_line per_ledger.count)) }
+    ensures silent { IfErr result (λ fault. fault ≢ FolderFault.Refused Device → fault ≢ FolderFault.Refused NoMemory → writer.new ≡ writer.old) }
+{
+    let folder = Folder::make(rt, path)?;
+    let mut shelf = folder.shelf(rt)?;
+    init_on(rt.alloc(), per_ledger, &mut shelf)?;
+    write_line(per_ledger, writer)?;
+    Ok(())
+}
+
+// Our own rule.
+fn write_line<W: Write>(per_ledger: EntriesPerLedger, writer: &mut W) -> io::Result<()>
+    ensures { OnOk result (Appends (W.contents writer.old) (W.contents writer.new) (initialised_line per_ledger.count)) }
+{
+    let count = per_ledger.get();
+    writeln!(writer, "initialised, {count} entries a ledger")
+}
+
+/// Makes a node without topics on a device that has none. Where a list of topics stands nothing is made, whenever the power is
+/// cut.
+pub fn init_on<S: Shelf + Drop>(
+    alloc: Global,
+    per_ledger: EntriesPerLedger,
+    shelf: &mut S,
+) -> Result<(), FolderFault>
+    ensures made { OnOk result ((S.disk shelf.old).honest → (url : List ℕ) →
+        (state : State) × (state.broker ≡ fresh_broker per_ledger.count url) × AtRest (⟦<FileStores as TopicStore>⟧.stands) state (S.disk shelf.new)) }
+    ensures once { (number : ℕ) (names : Names) → (S.disk shelf.old).honest → StandsFor number (S.disk shelf.old).seen names → MakesNothing (S.disk shelf.old) (S.disk shelf.new) result }
+    ensures already { (S.disk shelf.old).honest → IsErrOf result FolderFault.AlreadyInitialised → Same (S.disk shelf.old).seen (S.disk shelf.new).seen }
+    ensures faults { IfErr result IsFaultOfMaking }
+    ensures cause { IsErrOf result (FolderFault.Refused Device) → Failed (S.disk shelf.old) (S.disk shelf.new) }
+{
+    match Catalog::open(alloc, shelf) {
+        Ok(_) => return Err(FolderFault::AlreadyInitialised),
+        Err(Refusal::NotInitialised) => {}
+        Err(refusal) => return Err(fault_of_making(refusal)),
+    }
+    Node::<FileStores, S>::init(alloc, per_ledger, shelf)?;
+    Ok(())
+}
+
+// Why no node is made where the opening of a list of topics is refused. Behind an open header there is one, sound or not.
+fn fault_of_making(refusal: Refusal) -> FolderFault
+    ensures { result ≡ fault_of_making refusal }
+{
+    match refusal {
+        Refusal::Damaged { .. } | Refusal::Version | Refusal::TooLarge => {
+            FolderFault::AlreadyInitialised
+        }
+        Refusal::Device | Refusal::NotInitialised | Refusal::NoMemory => {
+            FolderFault::Refused(refusal)
+        }
+    }
+}

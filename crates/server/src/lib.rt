@@ -1,0 +1,16 @@
+//! A broker's server: it opens a node's folder, and serves what connects, with a reader's and a writer's thread for each connection
+//! and a flusher's for each topic. What a client is told is what the ports over the topics' locks answer, in the order of the
+//! loops; the counts of all ports and topics are cut before any thread starts. At most 256 connections are served at a time.
+#![tactic(auto)]
+
+mod connection;
+mod fault;
+mod parts;
+mod pool;
+mod serving;
+mod threads;
+
+pub use fault::{ServeFault, exit_status};
+pub use pool::{Free, Pool};
+pub use serving::serve;
+pub use threads::{Hall, serve_connections};

@@ -1,0 +1,136 @@
+// A folder is opened and served.
+ghost use Rattle.std.specs.Prelude.{◌≡◌, length};
+ghost use Rattle.topic_lock.specs.Ledgers.{IsOf};
+
+use crate::fault::ServeFault;
+use crate::parts::{places, spares};
+use crate::pool::Pool;
+use crate::threads::{Hall, serve_connections};
+use commands::ReplyText;
+use disk::Shelf;
+use folder::Folder;
+use log::{Log, info};
+use std::alloc::{AllocError, Global};
+use std::fs::File;
+use std::marker::Brand;
+use std::net::{Net, TcpListener, TcpStream};
+use std::rt::Files;
+use std::sync::atomic::AtomicBool;
+use std::sync::{Mutex, Wait};
+use std::thread::Threads;
+use topic_core::FileStores;
+use topic_lock::{Blanks, Flusher, Ledgers, PortShares, SharedBroker, Spare, Tallies, Totals};
+
+/// The ports of 256 connections, two for each.
+const PORTS: u32 = 512;
+
+/// The longest address, in bytes; a reply that names it has room for more.
+const LONGEST_ADDRESS: usize = 1024;
+
+/// Takes a folder for itself, opens the node that is in it, listens at the address, tells both, and serves whatever connects until
+/// the program is killed. All that was told to clients is then in the folder's files.
+pub fn serve<R>(rt: &R, address: &str, folder: &str) -> Result<(), ServeFault>
+where
+    R: AllocGlobal + Print + Log + Files<File = File> + Threads + Wait + Sync,
+    R: Net<Stream = TcpStream, Listener = TcpListener>,
+    R::Dir: Send + Sync,
+{
+    let folder = Folder::open(rt, folder)?;
+    let address = String::from_str(rt.alloc(), address)?;
+    serve_counted::<Brand, R>(rt, address, &folder, Blanks::new(PORTS))
+}
+
+// The same, once a type stands for the ledgers.
+fn serve_counted<K, R>(
+    rt: &R,
+    address: String,
+    folder: &Folder,
+    blanks: Blanks,
+) -> Result<(), ServeFault>
+where
+    K: Tallies + Send + Sync,
+    R: AllocGlobal + Print + Log + Files<File = File> + Threads + Wait + Sync,
+    R: Net<Stream = TcpStream, Listener = TcpListener>,
+    R::Dir: Send + Sync,
+    requires accepted { IsOf blanks.accepted_topics K.accepted.one 64 × IsOf blanks.accepted_ports K.accepted.other 512 }
+    requires handed { IsOf blanks.handed_topics K.handed.one 64 × IsOf blanks.handed_ports K.handed.other 512 }
+    requires durable { IsOf blanks.durable_stores K.durable.one 64 × IsOf blanks.durable_topics K.durable.other 192 }
+{
+    let alloc = rt.alloc();
+    let Ledgers {
+        totals,
+        topics,
+        flushers,
+        ports,
+    } = Ledgers::<K>::open(alloc, blanks, PORTS)?;
+    let spares = spares(rt, alloc, folder, topics)?;
+    let shelf = folder.shelf(rt)?;
+    let address = address.as_str();
+    serve_devices(rt, alloc, address, shelf, spares, totals, flushers, ports)
+}
+
+// The same over devices: the catalog's, and one for each topic.
+fn serve_devices<S, K, R>(
+    rt: &R,
+    alloc: Global,
+    address: &str,
+    shelf: S,
+    spares: Vec<Spare<S, K>>,
+    totals: Totals<K>,
+    flushers: Vec<Flusher<K>>,
+    ports: Vec<PortShares<K>>,
+) -> Result<(), ServeFault>
+where
+    S: Shelf + Drop + Send,
+    K: Tallies + Send + Sync,
+    R: Print + Log + Threads + Wait + Sync,
+    R: Net<Stream = TcpStream, Listener = TcpListener>,
+    requires { length spares.items ≡ 64 }
+{
+    let url = service_url(alloc, address)?;
+    let pool = Mutex::new(Pool::new(alloc, ports)?);
+    let places = places::<S, K>(alloc)?;
+    let places = places.as_slice();
+    let broker = SharedBroker::open(rt, alloc, url, shelf, places, spares, totals)?;
+    let hall = Hall {
+        broker,
+        pool,
+        flushers: Mutex::new(flushers),
+        stop: AtomicBool::new(false),
+    };
+    serve_hall(rt, alloc, address, &hall)
+}
+
+// Listens at the address, tells it, and serves whatever connects.
+fn serve_hall<'a, S, K, R>(
+    rt: &R,
+    alloc: Global,
+    address: &str,
+    hall: &Hall<'a, FileStores, S, K>,
+) -> Result<(), ServeFault>
+where
+    S: Shelf + Drop + Send,
+    K: Tallies + Send + Sync,
+    R: Print + Log + Threads + Wait + Sync,
+    R: Net<Stream = TcpStream, Listener = TcpListener>,
+{
+    let Ok(listener) = TcpListener::bind(rt, address) else {
+        return Err(ServeFault::CannotBind);
+    };
+    let topics = hall.broker.catalog.lock(rt).topics();
+    info!(rt; "serving {topics} topics");
+    if println!(rt; "listening on {address}").is_err() {
+        return Err(ServeFault::Device);
+    }
+    serve_connections(rt, alloc, &listener, hall, u64::MAX)
+}
+
+// By which clients find a broker at this address.
+fn service_url(alloc: Global, address: &str) -> Result<ReplyText, ServeFault> {
+    if address.len() > LONGEST_ADDRESS {
+        return Err(ServeFault::CannotBind);
+    }
+    let mut url = String::from_str(alloc, "pulsar://")?;
+    url.push_str(address)?;
+    Ok(ReplyText::new(url))
+}

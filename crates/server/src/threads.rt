@@ -1,0 +1,114 @@
+// The threads of a server.
+use crate::connection::serve_socket;
+use crate::fault::ServeFault;
+use crate::pool::Pool;
+use bells::Bells;
+use disk::Shelf;
+use gates::FlusherGate;
+use log::Log;
+use std::alloc::Global;
+use std::net::TcpListener;
+use std::sync::atomic::{AtomicBool, Ordering};
+use std::sync::{Mutex, Wait};
+use std::thread;
+use std::thread::{Parker, Threads};
+use std::time::Duration;
+use topic_core::TopicStore;
+use topic_lock::{Flusher, SharedBroker, Tallies};
+use workers::flush_loop;
+
+/// How many topics there are at most, each with a flusher.
+const TOPICS: u64 = 64;
+
+/// How long nobody is let in after an arrival failed, as where too many files are open, in milliseconds.
+const PAUSE: u64 = 100;
+
+/// What the threads of a server share: the broker, the places for connections, the flushers that have no topic yet, and
+/// whether flushers are to stop.
+#[derive(Drop)]
+pub struct Hall<'a, T: TopicStore, S: Shelf + Drop, K: Tallies> {
+    pub broker: SharedBroker<'a, T, S, K>,
+    pub pool: Mutex<Pool<K>>,
+    pub flushers: Mutex<Vec<Flusher<K>>>,
+    pub stop: AtomicBool,
+}
+
+/// Serves so many connections that arrive at the listener, with a flusher for each topic, and returns once all of them have ended.
+pub fn serve_connections<'a, T, S, K, R>(
+    rt: &R,
+    alloc: Global,
+    listener: &TcpListener,
+    hall: &Hall<'a, T, S, K>,
+    connections: u64,
+) -> Result<(), ServeFault>
+where
+    T: TopicStore + Send,
+    S: Shelf + Drop + Send,
+    K: Tallies + Send + Sync,
+    R: Threads + Wait + Log + Sync,
+{
+    thread::scope(thread::scope_env(), rt, |scope| {
+        let mut is_well = true;
+        for topic in 0..TOPICS {
+            is_well = is_well && scope.spawn(move || flush(rt, hall, topic)).is_ok();
+        }
+        if is_well {
+            serve_arrivals(rt, alloc, listener, hall, connections);
+        }
+        hall.stop.store(true, Ordering::SeqCst);
+        ring_flushers(&hall.broker.bells);
+        if is_well {
+            Ok(())
+        } else {
+            Err(ServeFault::Device)
+        }
+    })
+}
+
+// A topic's flusher's thread.
+fn flush<'a, T: TopicStore, S: Shelf + Drop, K: Tallies, R: Wait + Log>(
+    rt: &R,
+    hall: &Hall<'a, T, S, K>,
+    topic: u64,
+) {
+    let taken = hall.flushers.lock(rt).pop();
+    let Some(flusher) = taken else {
+        return;
+    };
+    let gate = FlusherGate::new(rt, &hall.broker.bells, &hall.stop);
+    let _ = flush_loop(rt, topic, &gate, &hall.broker, flusher);
+}
+
+// Wakes all flushers.
+fn ring_flushers(bells: &Bells) {
+    for topic in 0..TOPICS {
+        bells.ring_flusher(topic);
+    }
+}
+
+// Serves so many connections that arrive, each by threads of its own, until all of them have ended.
+fn serve_arrivals<'a, T, S, K, R>(
+    rt: &R,
+    alloc: Global,
+    listener: &TcpListener,
+    hall: &Hall<'a, T, S, K>,
+    connections: u64,
+)
+where
+    T: TopicStore + Send,
+    S: Shelf + Drop + Send,
+    K: Tallies + Send + Sync,
+    R: Threads + Wait + Sync,
+{
+    let rest = Parker::new();
+    thread::scope(thread::scope_env(), rt, |scope| {
+        for session in 0..connections {
+            let Ok((stream, _)) = listener.accept() else {
+                rest.park_timeout(rt, Duration::from_millis(PAUSE));
+                continue;
+            };
+            // Where no thread can be made the socket is closed.
+            let _ = scope.spawn(move || serve_socket(rt, alloc, hall, session, &stream));
+        }
+    });
+}

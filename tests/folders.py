@@ -1,0 +1,277 @@
+#!/usr/bin/env python3
+"""Runs `pulsar_node init` and `inspect` over real folders, and compares what they print, how they end and what they leave.
+
+Usage: tests/folders.py PROGRAM..
+
+PROGRAM is a built pulsar_node. The files of folders with topics are written here, from docs/FILES.md alone. The last line is
+'folders: N commands, M differ', and the exit status is 1 where any does.
+"""
+import fcntl
+import os
+import re
+import shutil
+import subprocess
+import sys
+import tempfile
+from contextlib import contextmanager
+
+sys.dont_write_bytecode = True
+from encoding import entry_of
+from openings import FEW, MANY, MARK, batch, entries, gated
+
+SECONDS = 60
+NOBODY = 65534
+NAMES = (b"persistent://a/b/c", b"persistent://a/b/d-2")
+NEW = gated(1000)
+NAMED = gated(7, *map(batch, NAMES))
+A, B, C = (entry_of(payload) for payload in (b"a", b"", b"c"))
+TOPICS = {
+    "catalog.dat": NAMED,
+    "t00000-e00000000.dat": gated(0, entries(A, B), entries(C), MARK),
+    "t00000-e00000001.dat": gated(3, entries(A)),
+    "t00000-c0.dat": gated(2, *MANY),
+    "t00000-c1.dat": gated(1, *FEW),
+    "t00001-e00000000.dat": gated(0),
+    "t00001-c0.dat": gated(1),
+    "t00001-c1.dat": gated(0, gate=0),
+}
+LINES = (
+    "T    0          4      2 persistent://a/b/c\n"
+    "S    0          1      1 s\n"
+    "S    0          3      0 t\n"
+    "T    1          0      1 persistent://a/b/d-2\n"
+)
+RANGE = "error: invalid value '{0}' for '--entries <N>': {0} is not in 1..=50000\n\nFor more information, try '--help'.\n"
+
+
+def told(fault):
+    """How a command ends that says this fault."""
+    return "", f"error: {fault}\n", 1
+
+
+# How a command ends whose folder another process holds.
+HELD = "", "[ERROR pulsar_node] another process holds the folder\nerror: device\n", 1
+
+
+def made(count):
+    return f"initialised, {count} entries a ledger\n", "", 0
+
+
+def contents(path):
+    """Each file and folder at or below a path, with its bytes."""
+    if not os.path.isdir(path):
+        return open(path, "rb").read() if os.path.exists(path) else None
+    return {name: contents(f"{path}/{name}") for name in os.listdir(path)}
+
+
+class Room:
+    """A folder in which a program runs, and what went wrong there."""
+
+    def __init__(self, program, path):
+        self.program, self.path, self.count, self.faults = f"{path}/program", path, 0, []
+        shutil.copy(program, self.program)
+
+    def at(self, name):
+        return f"{self.path}/{name}"
+
+    def lay(self, name, files):
+        """Makes a folder of these files."""
+        os.mkdir(self.at(name))
+        for file, content in files.items():
+            with open(self.at(f"{name}/{file}"), "wb") as written:
+                written.write(content)
+
+    def run(self, *words, **how):
+        self.count += 1
+        done = subprocess.run([self.program, *words], stdin=subprocess.DEVNULL, stderr=subprocess.PIPE, timeout=SECONDS, check=False,
+                              **{"cwd": self.path, "stdout": subprocess.PIPE, **how})
+        return (done.stdout or b"").decode(), done.stderr.decode(), done.returncode
+
+    def expect(self, wanted, *words, **how):
+        """The command ends so: what it prints, what it says on standard error, its status."""
+        found = self.run(*words, **how)
+        if found != wanted:
+            self.faults.append(f"{' '.join(words)}: {found}, and not {wanted}")
+
+    def expect_kept(self, wanted, *words, **how):
+        """The same, and all that is in the room stays as it was."""
+        before = contents(self.path)
+        self.expect(wanted, *words, **how)
+        if contents(self.path) != before:
+            self.faults.append(f"{' '.join(words)}: it changed what is there")
+
+    def expect_files(self, name, files):
+        """In this folder stand these files alone, and its lock file, which has no bytes."""
+        if contents(self.at(name)) != {"lock": b"", **files}:
+            self.faults.append(f"{name}: {contents(self.at(name))}, and not {files}")
+
+
+# What is tried
+
+
+def folders_are_made(room):
+    room.expect(made(1000), "init", "plain")
+    room.expect_files("plain", {"catalog.dat": NEW})
+    room.expect_kept(told("already initialised"), "init", "plain")
+    room.expect_kept(told("already initialised"), "init", "plain", "--entries", "7")
+    room.expect_kept(("", "", 0), "inspect", "plain")
+    for number, count in enumerate((1, 2, 50000)):
+        for place, words in enumerate((("init", f"n{number}-0", "--entries", str(count)), ("init", f"--entries={count}", f"n{number}-1"))):
+            room.expect(made(count), *words)
+            room.expect_files(f"n{number}-{place}", {"catalog.dat": gated(count)})
+    os.mkdir(room.at("empty"))
+    for path in ("empty", "slash/", "./dots/../inner", room.at("absolute")):
+        os.makedirs(room.at("dots"), exist_ok=True)
+        room.expect(made(1000), "init", path)
+        room.expect_files(path if not path.startswith("/") else "absolute", {"catalog.dat": NEW})
+    os.mkdir(room.at("here"))
+    room.expect(made(1000), "init", ".", cwd=room.at("here"))
+    room.expect_files("here", {"catalog.dat": NEW})
+
+
+def words_are_refused(room):
+    for count in ("0", "50001"):
+        room.expect_kept(("", RANGE.format(count), 2), "init", "refused", "--entries", count)
+    for words in ("init", "inspect", "init a b", "inspect a b", "inspect a --entries 7", "init a --entries", "init a --entries x", "init a --entries=-1",
+                  "init a --entries 18446744073709551617", "init a --entries 1 --entries 2", "make a"):
+        before = contents(room.path)
+        printed, said, status = room.run(*words.split())
+        if (printed, status) != ("", 2) or not re.match(r"error: .*\n(.*\n)*\nFor more information, try '--help'\.\n$", said):
+            room.faults.append(f"{words}: {(printed, said, status)}, and not why it is refused")
+        if contents(room.path) != before:
+            room.faults.append(f"{words}: it changed what is there")
+    for words in ("--help", "help", "init --help", "help inspect", "inspect -h"):
+        printed, said, status = room.run(*words.split())
+        if "Usage: " not in printed or (said, status) != ("", 0):
+            room.faults.append(f"{words}: {(printed, said, status)}, and not help")
+
+
+def what_is_not_there_is_not_made(room):
+    room.expect_kept(told("not initialised"), "inspect", "nowhere")
+    room.expect_kept(told("not initialised"), "inspect", "")
+    room.expect_kept(told("device"), "init", "")
+    room.expect_kept(told("device"), "init", "nowhere/inner")
+    room.lay("bare", {})
+    room.expect_kept(told("not initialised"), "inspect", "bare")
+    room.lay("without_lock", {"catalog.dat": NEW})
+    room.expect_kept(told("not initialised"), "inspect", "without_lock")
+    room.expect(told("already initialised"), "init", "without_lock")
+    room.expect_files("without_lock", {"catalog.dat": NEW})
+
+
+def half_made_ones_are_made(room):
+    halves = ({}, {"catalog.dat": b""}, {"catalog.dat": NEW[:15]}, {"catalog.dat": gated(1000, gate=0)}, {"catalog.dat": gated(7, gate=2)})
+    for number, files in enumerate(halves):
+        room.lay(f"half{number}", {"lock": b"", **files})
+        room.expect_kept(told("not initialised"), "inspect", f"half{number}")
+        room.expect(made(1000), "init", f"half{number}")
+        room.expect_files(f"half{number}", {"catalog.dat": NEW})
+
+
+def topics_are_told(room):
+    room.lay("topics", {"lock": b"", **TOPICS})
+    room.expect_kept((LINES, "", 0), "inspect", "topics")
+    room.expect_kept(told("already initialised"), "init", "topics")
+
+
+def damage_is_told(room):
+    damaged = {
+        "damaged catalog.dat at 0": {"catalog.dat": gated(0)},
+        "damaged catalog.dat at 16": {"catalog.dat": gated(7, batch(b"a name"))},
+        "damaged catalog.dat at 39": {"catalog.dat": gated(7, batch(NAMES[0]), batch(NAMES[0]))},
+        "version": {"catalog.dat": gated(7, version=2)},
+        "damaged t00000-e00000001.dat at 0": {**TOPICS, "t00000-e00000001.dat": gated(4, entries(A))},
+        "damaged t00001-c0.dat at 16": {**TOPICS, "t00001-c0.dat": gated(1, batch(b""))},
+        "damaged t00001-e00000000.dat at 0": {name: content for name, content in TOPICS.items() if name != "t00001-e00000000.dat"},
+    }
+    for number, (fault, files) in enumerate(damaged.items()):
+        room.lay(f"damaged{number}", {"lock": b"", **files})
+        room.expect_kept(told(fault), "inspect", f"damaged{number}")
+        room.expect_kept(told("already initialised"), "init", f"damaged{number}")
+
+
+def what_is_no_folder_fails(room):
+    with open(room.at("file"), "wb") as file:
+        file.write(b"text")
+    os.symlink("gone", room.at("link"))
+    for name in ("file", "link"):
+        room.expect_kept(told("device"), "init", name)
+    room.expect_kept(told("device"), "inspect", "file")
+    room.expect_kept(told("not initialised"), "inspect", "link")
+    room.lay("folders", {"lock": b""})
+    os.mkdir(room.at("folders/catalog.dat"))
+    for command in ("init", "inspect"):
+        room.expect_kept(told("device"), command, "folders")
+    room.lay("no_lock", {"catalog.dat": NEW})
+    os.mkdir(room.at("no_lock/lock"))
+    for command in ("init", "inspect"):
+        room.expect_kept(told("device"), command, "no_lock")
+
+
+def without_permission_it_fails(room):
+    """As somebody who may not: root may all."""
+    as_nobody = {"user": NOBODY, "group": NOBODY, "extra_groups": []} if os.geteuid() == 0 else {}
+    room.lay("closed", {"lock": b"", "catalog.dat": NEW})
+    room.lay("unwritten", {})
+    for name, mode in (("closed", 0), ("unwritten", 0o555)):
+        os.chmod(room.at(name), mode)
+    for words in ("init closed", "inspect closed", "init closed/inner", "init unwritten", "init unwritten/inner"):
+        room.expect(told("device"), *words.split(), **as_nobody)
+    for name in ("closed", "unwritten"):
+        os.chmod(room.at(name), 0o755)
+    room.expect_files("closed", {"catalog.dat": NEW})
+    if contents(room.at("unwritten")) != {}:
+        room.faults.append("something was made in a folder that may not be written")
+
+
+@contextmanager
+def held(path, how):
+    """The lock of this file is held."""
+    with open(path, "rb+") as file:
+        fcntl.flock(file, how)
+        yield
+
+
+def one_process_has_it(room):
+    room.lay("held", {"lock": b"", **TOPICS})
+    room.lay("held_half", {"lock": b""})
+    for how in (fcntl.LOCK_EX, fcntl.LOCK_SH):
+        with held(room.at("held/lock"), how), held(room.at("held_half/lock"), how):
+            for words in ("init held", "inspect held", "init held_half", "inspect held_half"):
+                room.expect_kept(HELD, *words.split())
+    room.expect_kept((LINES, "", 0), "inspect", "held")
+    room.expect(made(1000), "init", "held_half")
+
+
+def where_printing_fails(room):
+    room.lay("told", {"lock": b"", **TOPICS})
+    with open("/dev/full", "wb") as full:
+        room.expect_kept(told("device"), "inspect", "told", stdout=full)
+        room.expect(told("device"), "init", "made", stdout=full)
+    room.expect_files("made", {"catalog.dat": NEW})
+
+
+TRIED = (folders_are_made, words_are_refused, what_is_not_there_is_not_made, half_made_ones_are_made, topics_are_told, damage_is_told,
+         what_is_no_folder_fails, without_permission_it_fails, one_process_has_it, where_printing_fails)
+
+
+def main():
+    programs = sys.argv[1:]
+    if not programs or any(word.startswith("-") for word in programs):
+        print(__doc__, end="", file=sys.stdout if programs in (["-h"], ["--help"]) else sys.stderr)
+        return 0 if programs in (["-h"], ["--help"]) else 2
+    count, faults = 0, []
+    for program in programs:
+        for tried in TRIED:
+            with tempfile.TemporaryDirectory(prefix="pulsar-folders-") as path:
+                os.chmod(path, 0o711)
+                room = Room(program, path)
+                tried(room)
+                count, faults = count + room.count, faults + [f"{tried.__name__}: {fault}" for fault in room.faults]
+    print("".join(f"{fault}\n" for fault in faults), end="")
+    print(f"folders: {count} commands, {len(faults)} differ")
+    return 1 if faults else 0
+
+
+if __name__ == "__main__":
+    sys.exit(main())
