@@ -99,6 +99,14 @@ def unsubscribe(consumer_id, request_id=8):
     return frame(12, number(1, consumer_id) + number(2, request_id))
 
 
+def close_consumer(consumer_id, request_id=8):
+    return frame(16, number(1, consumer_id) + number(2, request_id))
+
+
+def redeliver(consumer_id, places=()):
+    return frame(20, number(1, consumer_id) + b"".join(text(2, place) for place in places))
+
+
 class Exchange:
     """A script, and the lines that it must give."""
 

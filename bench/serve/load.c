@@ -1,0 +1,471 @@
+/* A load on a served broker: producers that keep so many SENDs under way each, and consumers that acknowledge; in one thread, over one epoll.
+
+   Usage: load HOST:PORT [--connections N] [--outstanding N] [--bytes N] [--topics N] [--consumers N] [--type exclusive|failover|shared]
+               [--permits N] [--acks N] [--seconds S] [--warmup S] [--messages N] [--redis 1]
+
+   Producer i publishes on topic i modulo the topics, entries with a payload of so many bytes. Consumer j is of topic j modulo the topics: on one
+   subscription, or, where the type is exclusive, on one of its own, from the first entry on; it acknowledges in frames of so many message ids, each of
+   which is answered. What is counted comes in the seconds behind the warm-up, once all producers and consumers are there; then what is under way is
+   waited for. With --messages all is counted from the start, up to that many messages. With --redis 1 each message is an XADD to a stream of its topic's number, and there are no consumers.
+
+   Prints one line of JSON: counts, the times from a SEND to its receipt and from a SEND to its message at 50, 99 and 99.9 per cent, in
+   microseconds, and which part of one processor the load took itself. */
+#define _GNU_SOURCE
+#include <arpa/inet.h>
+#include <errno.h>
+#include <fcntl.h>
+#include <netinet/tcp.h>
+#include <stdarg.h>
+#include <sys/epoll.h>
+#include <sys/resource.h>
+#include <sys/socket.h>
+#include <time.h>
+#include <unistd.h>
+
+#include "wire.h"
+
+enum { PIECE = 1 << 18, MOST_OUT = 1 << 18, EVENTS = 256, EXCLUSIVE = 0, SHARED = 1, FAILOVER = 2, EARLIEST = 1, ID = 1, LAST_WAIT = 60 };
+
+static struct {
+    const char *address;
+    unsigned connections, outstanding, bytes, topics, consumers, type, permits, acks;
+    double seconds, warmup;
+    uint64_t messages;
+    int redis;
+} options = {.connections = 1, .outstanding = 1, .bytes = 100, .topics = 1, .permits = 1000, .acks = 1, .seconds = 5, .warmup = 0.5};
+
+enum phase { SETUP, WARMUP, MEASURED, LAST };
+static enum phase phase = SETUP;
+
+struct message_id {
+    uint64_t ledger, entry;
+};
+
+struct connection {
+    int socket, is_consumer, is_ready, is_watched;
+    unsigned number, topic;
+    struct buffer in, out;
+    uint64_t sent, received; /* a producer's SENDs and receipts */
+    uint64_t *sent_at;       /* when those that are under way were sent, a ring */
+    unsigned permits;        /* a consumer's that are left */
+    struct message_id *ids;  /* what it hasn't acknowledged yet */
+    unsigned id_count;
+};
+
+static struct connection *all;
+static uint64_t *topic_receipts;
+static unsigned count, ready;
+static int epoll;
+static unsigned char *payload;
+static struct buffer fields; /* of the command that is being written */
+
+/* Counts and times */
+
+static struct counts {
+    uint64_t sent, receipts, messages, acknowledgements, errors;
+} counted;
+
+/* Times in microseconds: exact below 64, and else 32 places for each power of two. */
+enum { PLACES = 32 * 60 };
+struct histogram {
+    uint64_t of[PLACES], all;
+};
+static struct histogram receipt_times, message_times;
+
+static uint64_t nanoseconds(void) {
+    struct timespec it;
+    clock_gettime(CLOCK_MONOTONIC, &it);
+    return it.tv_sec * 1000000000ull + it.tv_nsec;
+}
+
+static unsigned place_of(uint64_t n) {
+    if (n < 64) return n;
+    unsigned power = 63 - __builtin_clzll(n);
+    return 32 * (power - 4) + (n >> (power - 5) & 31);
+}
+
+/* The middle of what falls on a place. */
+static double time_at(unsigned place) {
+    if (place < 64) return place;
+    unsigned power = place / 32 + 4;
+    return (32 + place % 32 + 0.5) * (1ull << (power - 5));
+}
+
+static void note_time(struct histogram *it, uint64_t from, uint64_t to) {
+    if (phase != MEASURED) return;
+    it->of[place_of((to - from) / 1000)]++;
+    it->all++;
+}
+
+static double time_below(const struct histogram *it, double part) {
+    uint64_t seen = 0;
+    for (unsigned place = 0; place < PLACES; place++)
+        if ((seen += it->of[place]) > 0 && seen >= part * it->all) return time_at(place);
+    return 0;
+}
+
+static _Noreturn void fail(const char *format, ...) {
+    va_list what;
+    va_start(what, format);
+    fputs("load: ", stderr);
+    vfprintf(stderr, format, what);
+    fputc('\n', stderr);
+    exit(1);
+}
+
+/* What is sent */
+
+static size_t topic_name(char *to, unsigned topic) { return sprintf(to, "persistent://bench/serve/topic-%u", topic); }
+
+static void ask_for_producer(struct connection *it) {
+    char name[64];
+    put_text(&fields, 1, name, topic_name(name, it->topic));
+    put_number(&fields, 2, ID);
+    put_number(&fields, 3, 1);
+    put_command(&it->out, PRODUCER, &fields, 0);
+}
+
+static void ask_for_consumer(struct connection *it) {
+    char name[64];
+    put_text(&fields, 1, name, topic_name(name, it->topic));
+    put_text(&fields, 2, name, sprintf(name, "load-%u", options.type == EXCLUSIVE ? it->number : 0));
+    put_number(&fields, 3, options.type);
+    put_number(&fields, 4, ID);
+    put_number(&fields, 5, 1);
+    put_number(&fields, 13, EARLIEST);
+    put_command(&it->out, SUBSCRIBE, &fields, 0);
+}
+
+static void greet(struct connection *it) {
+    put_text(&fields, 1, "load", 4);
+    put_number(&fields, 4, 5);
+    put_command(&it->out, CONNECT, &fields, 0);
+}
+
+static void put_send(struct connection *it, uint64_t now) {
+    static struct buffer metadata;
+    metadata.start = metadata.end = 0;
+    put_text(&metadata, 1, "load", 4);
+    put_number(&metadata, 2, it->sent);
+    put_number(&metadata, 3, now / 1000000);
+    put_number(&fields, 1, ID);
+    put_number(&fields, 2, it->sent);
+    put_command(&it->out, SEND, &fields, 4 + metadata.end + options.bytes);
+    put_size(&it->out, metadata.end);
+    put(&it->out, metadata.bytes, metadata.end);
+    put(&it->out, payload, options.bytes);
+}
+
+static void put_xadd(struct connection *it) {
+    char head[128], topic[16];
+    int size = sprintf(topic, "topic-%u", it->topic);
+    put(&it->out, head, sprintf(head, "*5\r\n$4\r\nXADD\r\n$%d\r\n%s\r\n$1\r\n*\r\n$1\r\nm\r\n$%u\r\n", size, topic, options.bytes));
+    put(&it->out, payload, options.bytes);
+    put(&it->out, "\r\n", 2);
+}
+
+/* Sends as many as may be under way, as far as there is room for what isn't written yet. */
+static void publish(struct connection *it, uint64_t now) {
+    if (it->is_consumer || !it->is_ready || phase == SETUP || phase == LAST) return;
+    memcpy(payload, &now, sizeof now); /* so that a consumer can tell how old the message is */
+    while (it->sent - it->received < options.outstanding && in_use(&it->out) < MOST_OUT) {
+        if (options.redis) put_xadd(it);
+        else put_send(it, now);
+        it->sent_at[it->sent++ % options.outstanding] = now;
+        counted.sent++;
+    }
+}
+
+static void grant(struct connection *it) {
+    if (it->permits > options.permits / 2) return;
+    put_number(&fields, 1, ID);
+    put_number(&fields, 2, options.permits - it->permits);
+    put_command(&it->out, FLOW, &fields, 0);
+    it->permits = options.permits;
+}
+
+static void acknowledge(struct connection *it) {
+    put_number(&fields, 1, ID);
+    put_number(&fields, 2, 0);
+    for (unsigned n = 0; n < it->id_count; n++) {
+        static struct buffer id;
+        id.start = id.end = 0;
+        put_number(&id, 1, it->ids[n].ledger);
+        put_number(&id, 2, it->ids[n].entry);
+        put_text(&fields, 3, id.bytes, id.end);
+    }
+    put_number(&fields, 8, it->id_count); /* the request id says of how many this is, so that the answer does */
+    put_command(&it->out, ACK, &fields, 0);
+    it->id_count = 0;
+}
+
+/* What comes */
+
+static void be_ready(struct connection *it) {
+    it->is_ready = 1;
+    ready++;
+    if (it->is_consumer) grant(it);
+}
+
+static void take_receipt(struct connection *it, uint64_t now) {
+    if (it->received == it->sent) fail("a receipt that isn't due");
+    note_time(&receipt_times, it->sent_at[it->received++ % options.outstanding], now);
+}
+
+static void take_message(struct connection *it, const struct reply *got, uint64_t now) {
+    struct reply id;
+    const unsigned char *content = payload_of(got, sizeof(uint64_t));
+    if (!it->is_consumer || !content || !take_fields(&id, got->text[2].bytes, got->text[2].bytes + got->text[2].size)) fail("a message that can't be read");
+    uint64_t sent;
+    memcpy(&sent, content, sizeof sent);
+    note_time(&message_times, sent, now);
+    counted.messages++;
+    it->ids[it->id_count++] = (struct message_id){id.number[1], id.number[2]};
+    if (it->id_count == options.acks) acknowledge(it);
+    it->permits--;
+    grant(it);
+}
+
+static void take(struct connection *it, const struct reply *got, uint64_t now) {
+    switch (got->type) {
+    case CONNECTED:
+        if (it->is_consumer) ask_for_consumer(it);
+        else ask_for_producer(it);
+        return;
+    case PRODUCER_SUCCESS:
+    case SUCCESS: be_ready(it); return;
+    case SEND_RECEIPT:
+        if (got->number[2] != it->received) fail("a receipt out of turn");
+        counted.receipts++;
+        topic_receipts[it->topic]++;
+        take_receipt(it, now);
+        return;
+    case SEND_ERROR:
+        counted.errors++;
+        take_receipt(it, now);
+        return;
+    case MESSAGE: take_message(it, got, now); return;
+    case ACK_RESPONSE:
+        if (got->has & 1u << 4) counted.errors++;
+        else counted.acknowledgements += got->number[6];
+        return;
+    case ERROR: fail("refused: %.*s", (int)got->text[3].size, got->text[3].bytes);
+    default: fail("a reply of type %u", got->type);
+    }
+}
+
+/* The size of the whole frame at the front, with its totalSize, or 0 where it isn't there yet. */
+static size_t frame_at(const struct buffer *in) {
+    const unsigned char *at = in->bytes + in->start;
+    return in_use(in) < 4 || in_use(in) < 4 + size_at(at) ? 0 : 4 + size_at(at);
+}
+
+static void take_frames(struct connection *it, uint64_t now) {
+    struct reply got;
+    for (size_t size; (size = frame_at(&it->in)) > 0; it->in.start += size) {
+        if (!take_reply(&got, it->in.bytes + it->in.start + 4, size - 4)) fail("a frame that can't be read");
+        take(it, &got, now);
+    }
+}
+
+/* The size of the line at the front, with its end, or 0 where it isn't there yet. */
+static size_t line_at(const struct buffer *in) {
+    const unsigned char *at = in->bytes + in->start, *end = memchr(at, '\n', in_use(in));
+    return end ? end + 1 - at : 0;
+}
+
+/* The answer to an XADD is an id in two lines, or an error in one. */
+static void take_lines(struct connection *it, uint64_t now) {
+    for (size_t size; (size = line_at(&it->in)) > 0; it->in.start += size) {
+        char kind = it->in.bytes[it->in.start];
+        if (kind == '$') continue;
+        if (kind == '-') counted.errors++;
+        else counted.receipts++;
+        take_receipt(it, now);
+    }
+}
+
+/* The loop */
+
+static void watch(struct connection *it, int with_room) {
+    struct epoll_event event = {EPOLLIN | (with_room ? EPOLLOUT : 0), {.ptr = it}};
+    if (epoll_ctl(epoll, EPOLL_CTL_MOD, it->socket, &event)) fail("epoll: %s", strerror(errno));
+    it->is_watched = with_room;
+}
+
+/* Writes what goes; more is sent once there is room for it. */
+static void flush(struct connection *it) {
+    while (in_use(&it->out) > 0) {
+        ssize_t wrote = write(it->socket, it->out.bytes + it->out.start, in_use(&it->out));
+        if (wrote < 0 && errno != EAGAIN) fail("a connection failed: %s", strerror(errno));
+        if (wrote < 0) break;
+        it->out.start += wrote;
+        publish(it, nanoseconds());
+    }
+    if ((in_use(&it->out) > 0) != it->is_watched) watch(it, !it->is_watched);
+}
+
+static void receive(struct connection *it) {
+    ssize_t got = read(it->socket, reserve(&it->in, PIECE), PIECE);
+    if (got < 0 && errno == EAGAIN) return;
+    if (got <= 0) fail("a connection ended: %s", got ? strerror(errno) : "by the other side");
+    it->in.end += got;
+    uint64_t now = nanoseconds();
+    if (options.redis) take_lines(it, now);
+    else take_frames(it, now);
+}
+
+static void turn(void) {
+    struct epoll_event events[EVENTS];
+    int happened = epoll_wait(epoll, events, EVENTS, 10);
+    if (happened < 0 && errno != EINTR) fail("epoll: %s", strerror(errno));
+    for (int n = 0; n < happened; n++) {
+        struct connection *it = events[n].data.ptr;
+        if (events[n].events & ~EPOLLOUT) receive(it);
+        publish(it, nanoseconds());
+        flush(it);
+    }
+}
+
+/* Works up to a time, or until all messages came that are awaited. */
+static void turn_until(uint64_t end) {
+    while (nanoseconds() < end && !(options.messages && counted.messages >= options.messages)) turn();
+}
+
+static int is_any_under_way(void) {
+    for (unsigned n = 0; n < count; n++)
+        if (all[n].sent != all[n].received) return 1;
+    return 0;
+}
+
+static void begin(enum phase next) {
+    phase = next;
+    for (unsigned n = 0; n < count; n++) {
+        publish(&all[n], nanoseconds());
+        flush(&all[n]);
+    }
+}
+
+/* Beginning and end */
+
+static struct sockaddr_in address(void) {
+    char host[64];
+    unsigned port;
+    struct sockaddr_in it = {.sin_family = AF_INET};
+    if (sscanf(options.address, "%63[0-9.]:%u", host, &port) != 2 || !inet_aton(host, &it.sin_addr)) fail("no address: %s", options.address);
+    it.sin_port = htons(port);
+    return it;
+}
+
+static void open_connection(struct connection *it, unsigned number) {
+    struct sockaddr_in to = address();
+    int yes = 1;
+    it->is_consumer = number >= options.connections;
+    it->number = it->is_consumer ? number - options.connections : number;
+    it->topic = it->number % options.topics;
+    it->sent_at = calloc(options.outstanding, sizeof *it->sent_at);
+    it->ids = calloc(options.acks, sizeof *it->ids);
+    it->socket = socket(AF_INET, SOCK_STREAM, 0);
+    if (!it->sent_at || !it->ids || connect(it->socket, (struct sockaddr *)&to, sizeof to)) fail("no connection: %s", strerror(errno));
+    setsockopt(it->socket, IPPROTO_TCP, TCP_NODELAY, &yes, sizeof yes);
+    fcntl(it->socket, F_SETFL, O_NONBLOCK);
+    struct epoll_event event = {EPOLLIN, {.ptr = it}};
+    if (epoll_ctl(epoll, EPOLL_CTL_ADD, it->socket, &event)) fail("epoll: %s", strerror(errno));
+    if (options.redis) be_ready(it);
+    else greet(it);
+}
+
+static double processor_seconds(void) {
+    struct rusage used;
+    getrusage(RUSAGE_SELF, &used);
+    return used.ru_utime.tv_sec + used.ru_stime.tv_sec + (used.ru_utime.tv_usec + used.ru_stime.tv_usec) / 1e6;
+}
+
+static void print_times(const char *name, const struct histogram *it) {
+    printf("\"%s\": [%.0f, %.0f, %.0f], ", name, time_below(it, 0.5), time_below(it, 0.99), time_below(it, 0.999));
+}
+
+static void run(void) {
+    uint64_t began = nanoseconds();
+    struct counts before = counted;
+    double used = processor_seconds();
+    while (ready < count) turn();
+    begin(WARMUP);
+    if (!options.messages) {
+        turn_until(nanoseconds() + options.warmup * 1e9);
+        before = counted;
+        began = nanoseconds();
+        used = processor_seconds();
+    }
+    phase = MEASURED;
+    turn_until(began + options.seconds * 1e9);
+    double took = (nanoseconds() - began) / 1e9, part = (processor_seconds() - used) / took;
+    struct counts now = counted;
+    phase = LAST;
+    for (uint64_t end = nanoseconds() + LAST_WAIT * 1000000000ull; is_any_under_way() && nanoseconds() < end;) turn();
+    printf("{\"seconds\": %.3f, \"receipts\": %llu, \"messages\": %llu, \"acknowledgements\": %llu, ", took, (unsigned long long)(now.receipts - before.receipts),
+           (unsigned long long)(now.messages - before.messages), (unsigned long long)(now.acknowledgements - before.acknowledgements));
+    print_times("receipt_times", &receipt_times);
+    print_times("message_times", &message_times);
+    fputs("\"topic_receipts\": [", stdout);
+    for (unsigned n = 0; n < options.topics; n++) printf("%s%llu", n ? ", " : "", (unsigned long long)topic_receipts[n]);
+    printf("], \"errors\": %llu, \"unanswered\": %llu, \"all_receipts\": %llu, \"processor\": %.2f}\n", (unsigned long long)counted.errors,
+           (unsigned long long)(counted.sent - counted.receipts - counted.errors), (unsigned long long)counted.receipts, part);
+}
+
+/* Options */
+
+static unsigned whole(const char *word, unsigned least) {
+    char *end;
+    unsigned long n = strtoul(word, &end, 10);
+    if (*end || n < least || n > 100000000) fail("no number for this option: %s", word);
+    return n;
+}
+
+static unsigned type_named(const char *word) {
+    static const char *names[] = {"exclusive", "shared", "failover"};
+    for (unsigned n = 0; n < 3; n++)
+        if (!strcmp(word, names[n])) return n;
+    fail("no type of a subscription: %s", word);
+}
+
+static void take_option(const char *name, const char *value) {
+    if (!strcmp(name, "--connections")) options.connections = whole(value, 0);
+    else if (!strcmp(name, "--outstanding")) options.outstanding = whole(value, 1);
+    else if (!strcmp(name, "--bytes")) options.bytes = whole(value, sizeof(uint64_t));
+    else if (!strcmp(name, "--topics")) options.topics = whole(value, 1);
+    else if (!strcmp(name, "--consumers")) options.consumers = whole(value, 0);
+    else if (!strcmp(name, "--type")) options.type = type_named(value);
+    else if (!strcmp(name, "--permits")) options.permits = whole(value, 1);
+    else if (!strcmp(name, "--acks")) options.acks = whole(value, 1);
+    else if (!strcmp(name, "--redis")) options.redis = whole(value, 0) != 0;
+    else if (!strcmp(name, "--messages")) options.messages = whole(value, 1);
+    else if (!strcmp(name, "--seconds")) options.seconds = atof(value);
+    else if (!strcmp(name, "--warmup")) options.warmup = atof(value);
+    else fail("no such option: %s", name);
+}
+
+static void take_options(int words, char **word) {
+    if (words < 2) fail("no address");
+    options.address = word[1];
+    for (int n = 2; n < words; n += 2) {
+        if (n + 1 == words) fail("no value of %s", word[n]);
+        take_option(word[n], word[n + 1]);
+    }
+    if (options.redis && options.consumers) fail("no consumers with --redis");
+}
+
+int main(int words, char **word) {
+    take_options(words, word);
+    count = options.connections + options.consumers;
+    all = calloc(count, sizeof *all);
+    payload = malloc(options.bytes);
+    epoll = epoll_create1(0);
+    topic_receipts = calloc(options.topics, sizeof *topic_receipts);
+    if (!all || !payload || !topic_receipts || epoll < 0) fail("no memory");
+    memset(payload, 'x', options.bytes);
+    for (unsigned n = 0; n < count; n++) open_connection(&all[n], n);
+    begin(SETUP);
+    run();
+    return 0;
+}

@@ -1,0 +1,82 @@
+#!/usr/bin/env python3
+"""Subscribes to a topic, prints each message with its message id, and acknowledges it.
+
+Usage: examples/consume.py HOST:PORT TOPIC SUBSCRIPTION [--type exclusive|failover|shared] [--earliest] [--count N]
+
+A subscription remembers what was acknowledged, so each run goes on behind the one before. A new one begins behind the messages that are there;
+with --earliest it begins at the first one. Ends behind N messages, once all are acknowledged for good; else with the connection. A fault, such
+as that end, is told on standard error, with exit status 1.
+"""
+import argparse
+import os
+import sys
+
+sys.dont_write_bytecode = True
+from frames import ACK, ACK_RESPONSE, FLOW, MESSAGE, SUBSCRIBE, SUCCESS, Connection, Failed, number, payload_of, text, told_id  # noqa: E402
+
+CONSUMER_ID = 1  # the client's own choice; one connection may have several consumers
+TYPES = {"exclusive": 0, "shared": 1, "failover": 2}
+WINDOW = 100  # messages that may be under way
+INDIVIDUAL = 0  # an acknowledgement of just the messages that it names
+EARLIEST = 1
+
+
+class Permits:
+    """What the broker may send: it sends no message without a permit, and each message takes one."""
+
+    def __init__(self, connection, count):
+        self.connection, self.left, self.open = connection, count, 0
+
+    def top_up(self):
+        """Grants further permits where half of them are used, but never more than messages are wanted."""
+        more = WINDOW - self.open if self.left is None else min(WINDOW - self.open, self.left)
+        if more > 0 and self.open <= WINDOW // 2:
+            self.connection.send(FLOW, number(1, CONSUMER_ID) + number(2, more))
+            self.open += more
+            self.left = None if self.left is None else self.left - more
+
+    def use(self):
+        self.open -= 1
+        self.top_up()
+
+
+def consume(words):
+    connection = Connection(words.address)
+    asked = text(1, os.fsencode(words.topic)) + text(2, os.fsencode(words.subscription)) + number(3, TYPES[words.type])
+    asked += number(4, CONSUMER_ID) + number(5, 1) + (number(13, EARLIEST) if words.earliest else b"")
+    connection.send(SUBSCRIBE, asked)
+    connection.expect(SUCCESS)
+    permits = Permits(connection, words.count)
+    permits.top_up()
+    acknowledged = 0
+    while words.count is None or acknowledged < words.count:
+        kind, fields, entry = connection.receive()
+        if kind == MESSAGE:
+            print(told_id(fields[2]), payload_of(entry).decode(errors="replace"), flush=True)
+            # With a request id the broker answers, once the acknowledgement outlives a crash. Without one it wouldn't.
+            connection.send(ACK, number(1, CONSUMER_ID) + number(2, INDIVIDUAL) + text(3, fields[2]) + number(8, 2))
+            permits.use()
+        elif kind == ACK_RESPONSE:
+            acknowledged += 1
+
+
+def main():
+    parser = argparse.ArgumentParser(usage=__doc__.split("Usage: ")[1].split("\n")[0])
+    parser.add_argument("address", metavar="HOST:PORT")
+    parser.add_argument("topic")
+    parser.add_argument("subscription")
+    parser.add_argument("--type", choices=TYPES, default="exclusive")
+    parser.add_argument("--earliest", action="store_true")
+    parser.add_argument("--count", type=int)
+    try:
+        consume(parser.parse_args())
+    except Failed as why:
+        print(f"error: {why}", file=sys.stderr)
+        return 1
+    except KeyboardInterrupt:
+        return 130
+    return 0
+
+
+if __name__ == "__main__":
+    sys.exit(main())

@@ -1,0 +1,104 @@
+"""A broker's program over a folder: how it is begun, ended, asked, and refused."""
+import re
+import selectors
+import signal
+import socket
+import subprocess
+
+SECONDS = 60  # until the program must have answered or ended; a machine that does other things too needs some
+TOPIC_LINE = re.compile(r"T +(\d+) +(\d+) +(\d+) (\S+)")
+SUBSCRIPTION_LINE = re.compile(r"S +(\d+) +(\d+) +(\d+) (\S+)")
+
+
+class Wrong(Exception):
+    """The broker did what it must not do; the text says what."""
+
+
+def free_port():
+    with socket.socket() as it:
+        it.bind(("127.0.0.1", 0))
+        return it.getsockname()[1]
+
+
+class Server:
+    """A served folder. What the program says on standard error stands in the file `log` beside the folder."""
+
+    def __init__(self, program, folder, entries=1000):
+        self.program, self.folder, self.log, self.process, self.port = program, folder, f"{folder}.log", None, None
+        said = self.run("init", folder, "--entries", str(entries))
+        if said != (0, f"initialised, {entries} entries a ledger\n", ""):
+            raise Wrong(f"init answered {said}")
+
+    def run(self, *words):
+        """The exit status, the output and the errors of a call that must end by itself."""
+        try:
+            done = subprocess.run([self.program, *words], stdin=subprocess.DEVNULL, capture_output=True, text=True, timeout=SECONDS, check=False)
+        except subprocess.TimeoutExpired:
+            raise Wrong(f"{words[0]} hadn't ended after {SECONDS} seconds") from None
+        return done.returncode, done.stdout, done.stderr
+
+    def begin(self):
+        """Begins to serve, and doesn't wait until clients are taken."""
+        self.port = free_port()
+        with open(self.log, "a", encoding="utf-8") as log:
+            self.process = subprocess.Popen([self.program, "serve", f"127.0.0.1:{self.port}", self.folder], stdin=subprocess.DEVNULL,
+                                            stdout=subprocess.PIPE, stderr=log, text=True)
+
+    def start(self):
+        """Serves, and takes clients."""
+        self.begin()
+        line, wanted = self.first_line(), f"listening on 127.0.0.1:{self.port}\n"
+        if line != wanted:
+            raise Wrong(f"serve printed {line!r}, and not {wanted!r}; its exit status is {self.process.poll()}, and its log ends with {self.log_end()!r}")
+
+    def first_line(self):
+        with selectors.DefaultSelector() as selector:
+            selector.register(self.process.stdout, selectors.EVENT_READ)
+            return self.process.stdout.readline() if selector.select(SECONDS) else ""
+
+    def log_end(self):
+        with open(self.log, encoding="utf-8", errors="replace") as log:
+            return log.read()[-500:]
+
+    def end(self, how=signal.SIGKILL):
+        """Ends the program by a signal; it must live until then."""
+        if self.process.poll() is not None:
+            raise Wrong(f"serve ended by itself with status {self.process.returncode}; its log ends with {self.log_end()!r}")
+        self.process.send_signal(how)
+        try:
+            self.process.wait(SECONDS)
+        except subprocess.TimeoutExpired:
+            raise Wrong(f"serve hadn't ended {SECONDS} seconds after {how.name}") from None
+        self.process.stdout.close()
+        self.process = None
+
+    def abandon(self):
+        """Leaves nothing behind that runs."""
+        if self.process is not None:
+            self.process.kill()
+            self.process.wait()
+            self.process.stdout.close()
+            self.process = None
+
+    def must_refuse_others(self):
+        """While the folder is served, nobody else may serve it or look at it."""
+        for words in (("serve", f"127.0.0.1:{free_port()}", self.folder), ("inspect", self.folder)):
+            status, said, errors = self.run(*words)
+            if status != 1 or said or not errors.splitlines()[-1:] or not errors.splitlines()[-1].startswith("error: "):
+                raise Wrong(f"a second {words[0]} of a served folder ended with status {status}, printed {said!r}, and said {errors!r}")
+
+    def inspect(self):
+        """By topics: their names, numbers of entries, and the mark-delete positions of their subscriptions by their names."""
+        status, said, errors = self.run("inspect", self.folder)
+        if status or errors:
+            raise Wrong(f"inspect ended with status {status}, and said {errors!r}")
+        found = []
+        for line in said.splitlines():
+            topic, subscription = TOPIC_LINE.fullmatch(line), SUBSCRIPTION_LINE.fullmatch(line)
+            if topic and int(topic[1]) == len(found):
+                found.append((topic[4], int(topic[2]), {}))
+            elif subscription and int(subscription[1]) == len(found) - 1:
+                found[-1][2][subscription[4]] = int(subscription[2])
+            else:
+                raise Wrong(f"inspect printed the line {line!r}")
+        return {name: (entries, marks) for name, entries, marks in found}
