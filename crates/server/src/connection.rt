@@ -9,7 +9,7 @@ use std::net::TcpStream;
 use std::sync::{Mutex, Wait};
 use std::thread::Threads;
 use topic_core::TopicStore;
-use topic_lock::{LockedPort, PortShares, Seat, Tallies};
+use topic_lock::{RestingPort, Seat, Tallies};
 use workers::{Numbered, serve_connection};
 
 /// Serves a socket, where a place is free, and gives the place back. Where none is, the socket is closed without a byte.
@@ -59,10 +59,10 @@ where
     let bells = &hall.broker.bells;
     let seat = Seat::new(place);
     let session = Mutex::new(Numbered::new(alloc, Session::new(alloc, number)));
-    let mut reader = LockedPort::new(rt, alloc, &hall.broker, &seat, reader);
-    let mut writer = LockedPort::new(rt, alloc, &hall.broker, &seat, writer);
+    let reader = RestingPort::new(rt, alloc, &hall.broker, &seat, reader);
+    let writer = RestingPort::new(rt, alloc, &hall.broker, &seat, writer);
     // Where memory is refused the connection is closed.
-    let _ = serve_connection(
+    let served = serve_connection(
         rt,
         alloc,
         number,
@@ -72,20 +72,12 @@ where
         &ReaderGate::new(rt, bells, &session, place),
         &WriterGate::new(rt, bells, &session, place),
         &Parting::new(bells, place, stream),
-        &mut reader,
-        &mut writer,
+        reader,
+        writer,
     );
     Free {
         place,
-        reader: shares_of(reader),
-        writer: shares_of(writer),
+        reader: served.reader_port.into_shares(),
+        writer: served.writer_port.into_shares(),
     }
-}
-
-// A port's shares, once it isn't used any more.
-fn shares_of<'p, 'a, T: TopicStore, S: Shelf + Drop, K: Tallies, R: Wait>(
-    port: LockedPort<'p, 'a, T, S, K, R>,
-) -> PortShares<K> {
-    let ((accepted, _), (handed, _)) = port.settle();
-    PortShares { accepted, handed }
 }

@@ -5,9 +5,12 @@ ghost use Rattle.session.specs.Broker.{CommandStep, CollectedAt, FindStep, IfFou
 ghost use Rattle.topic_lock.specs.Counting.{sends_of, receipts_collected};
 ghost use Rattle.topic_lock.specs.Locked.{unknown_broker};
 
+use crate::asking::length_of;
 use crate::broker::{Seat, SharedBroker};
+use crate::holding::Hold;
 use crate::parts::PortShares;
 use crate::places::{Known, SharedTopic};
+use crate::resting::RestingPort;
 use crate::tally::{AcceptedByPorts, HandedByPorts, Tallies};
 use crate::turns::Turns;
 use commands::Reply;
@@ -15,20 +18,26 @@ use disk::Shelf;
 use names::TopicName;
 use session::{Found, Port};
 use std::alloc::{AllocError, Global};
+use std::cell::Cell;
 use std::sync::Wait;
 use std::sync::atomic::Ordering;
 use std::sync::ledger::Share;
 use topic_core::{Answer, Outgoing, ReadError, TooManyPermits, TopicCommand, TopicStore};
 
 /// A port over the topics' locks, with shares of what all ports were told. It knows the topics that were there when it last looked.
+/// In a turn it keeps the lock of the topic that worked a command or gave a reply for those that follow, until it is asked for anything
+/// else.
 #[derive(Drop)]
 pub struct LockedPort<'p, 'a, T: TopicStore, S: Shelf + Drop, K: Tallies, R: Wait> {
     rt: &'p R,
+    alloc: Global,
     broker: &'p SharedBroker<'a, T, S, K>,
     seat: &'p Seat,
     known: Vec<Known<'a, T, S, K>>,
     accepted: Share<AcceptedByPorts<K>>,
     handed: Share<HandedByPorts<K>>,
+    held: Cell<Option<Hold<'a, K>>>,
+    is_in_turn: bool,
     ghost parts: { (accepted.parts ≡ 1) × (handed.parts ≡ 1) },
 }
 
@@ -50,8 +59,36 @@ impl<'p, 'a, T: TopicStore, S: Shelf + Drop, K: Tallies, R: Wait> LockedPort<'p,
             broker,
             seat,
             known: Vec::new(alloc),
+            alloc,
             accepted,
             handed,
+            held: Cell::new(None),
+            is_in_turn: false,
+        }
+    }
+
+    /// The port at rest, with its shares. It knows no topic then, and keeps no lock.
+    pub fn rest(self) -> RestingPort<'p, 'a, T, S, K, R>
+        ensures { (result.shares.accepted.amount ≡ self.entry.accepted.amount) × (result.shares.handed.amount ≡ self.entry.handed.amount) }
+    {
+        self.let_go();
+        let LockedPort {
+            rt,
+            alloc,
+            broker,
+            seat,
+            accepted,
+            handed,
+            held,
+            ..
+        } = self;
+        drop(held);
+        RestingPort {
+            rt,
+            alloc,
+            broker,
+            seat,
+            shares: PortShares { accepted, handed },
         }
     }
 
@@ -65,13 +102,16 @@ impl<'p, 'a, T: TopicStore, S: Shelf + Drop, K: Tallies, R: Wait> LockedPort<'p,
         ensures accepted { (result.0.0.parts ≡ 1) × (result.0.0.amount ≡ self.entry.accepted.amount) × (min result.0.0.amount (2 ^ 64 - 1) ≤ result.0.1) }
         ensures handed { (result.1.0.parts ≡ 1) × (result.1.0.amount ≡ self.entry.handed.amount) × (min result.1.0.amount (2 ^ 64 - 1) ≤ result.1.1) }
     {
+        self.let_go();
         let LockedPort {
             rt,
             broker,
             mut accepted,
             mut handed,
+            held,
             ..
         } = self;
+        drop(held);
         let all_accepted = broker.totals.accepted.lock(rt).total(&mut accepted);
         let all_handed = broker.totals.handed.lock(rt).total(&mut handed);
         ((accepted, all_accepted), (handed, all_handed))
@@ -82,6 +122,47 @@ impl<'p, 'a, T: TopicStore, S: Shelf + Drop, K: Tallies, R: Wait> LockedPort<'p,
         requires { topic < length self.now.known.items }
     {
         self.known[topic as usize].get()
+    }
+
+    /// The lock of a topic: the one that is kept, where it is of this topic, or one that is taken, once there is room for an entry of
+    /// this length.
+    fn hold(&self, topic: u64, entry_length: Option<usize>) -> Hold<'a, K>
+        requires { topic < length self.now.known.items }
+    {
+        let held = self.held.take();
+        let kept = match held {
+            Some(hold) if hold.number == topic => Some(hold),
+            Some(hold) => {
+                hold.release(&self.broker.bells);
+                None
+            }
+            None => None,
+        };
+        let place = self.seat.place;
+        self.topic(topic).enter(
+            self.rt,
+            &self.broker.bells,
+            topic,
+            place,
+            entry_length,
+            kept,
+        )
+    }
+
+    /// Keeps a lock until the port is asked for something else, where a turn is on.
+    fn keep(&self, hold: Hold<'a, K>) {
+        if self.is_in_turn {
+            self.held.set(Some(hold));
+        } else {
+            hold.release(&self.broker.bells);
+        }
+    }
+
+    /// Lets go the lock that is kept, if one is.
+    fn let_go(&self) {
+        if let Some(hold) = self.held.take() {
+            hold.release(&self.broker.bells);
+        }
     }
 
     /// Learns of the topics that are there by now.
@@ -120,6 +201,12 @@ impl<'p, 'a, T: TopicStore, S: Shelf + Drop, K: Tallies, R: Wait> Turns
     fn begin_turn(&mut self) {
         // Where memory is refused, the topics that aren't known are passed over in this turn.
         let _ = self.look_around();
+        self.is_in_turn = true;
+    }
+
+    fn end_turn(&mut self) {
+        self.is_in_turn = false;
+        self.let_go();
     }
 }
 
@@ -148,6 +235,7 @@ impl<'p, 'a, T: TopicStore, S: Shelf + Drop, K: Tallies, R: Wait> Port
     }
 
     fn has_producer(&self, topic: u64, who: u64, producer_id: u64) -> bool {
+        self.let_go();
         self.topic(topic)
             .topic
             .lock(self.rt)
@@ -155,6 +243,7 @@ impl<'p, 'a, T: TopicStore, S: Shelf + Drop, K: Tallies, R: Wait> Port
     }
 
     fn has_consumer(&self, topic: u64, who: u64, consumer_id: u64) -> bool {
+        self.let_go();
         self.topic(topic)
             .topic
             .lock(self.rt)
@@ -162,6 +251,7 @@ impl<'p, 'a, T: TopicStore, S: Shelf + Drop, K: Tallies, R: Wait> Port
     }
 
     fn find(&mut self, name: &TopicName) -> Found {
+        self.let_go();
         let broker = self.broker;
         let mut catalog = broker.catalog.lock(self.rt);
         let found = catalog.find_or_make(self.rt, &broker.totals.durable, name);
@@ -179,7 +269,7 @@ impl<'p, 'a, T: TopicStore, S: Shelf + Drop, K: Tallies, R: Wait> Port
         ensures accepted { self.new.accepted.amount ≡ self.old.accepted.amount + sends_of command result }
         ensures handed { self.new.handed.amount ≡ self.old.handed.amount }
     {
-        let shared = self.topic(topic);
+        let mut hold = self.hold(topic, length_of(&command));
         let LockedPort {
             rt,
             broker,
@@ -187,8 +277,10 @@ impl<'p, 'a, T: TopicStore, S: Shelf + Drop, K: Tallies, R: Wait> Port
             accepted,
             ..
         } = self;
-        let (bells, tally) = (&broker.bells, &broker.totals.accepted);
-        shared.command(*rt, bells, topic, seat.place, tally, accepted, who, command)
+        let tally = &broker.totals.accepted;
+        let answer = hold.command(*rt, seat.place, tally, accepted, who, command);
+        self.keep(hold);
+        answer
     }
 
     fn grant(
@@ -198,6 +290,7 @@ impl<'p, 'a, T: TopicStore, S: Shelf + Drop, K: Tallies, R: Wait> Port
         consumer_id: u64,
         permits: u32,
     ) -> Result<(), TooManyPermits> {
+        self.let_go();
         let granted = self
             .topic(topic)
             .topic
@@ -213,6 +306,7 @@ impl<'p, 'a, T: TopicStore, S: Shelf + Drop, K: Tallies, R: Wait> Port
         who: u64,
         consumer_id: u64,
     ) -> Result<Option<Outgoing>, ReadError> {
+        self.let_go();
         self.topic(topic)
             .dispatch(self.rt, self.seat.place, who, consumer_id)
     }
@@ -233,20 +327,20 @@ impl<'p, 'a, T: TopicStore, S: Shelf + Drop, K: Tallies, R: Wait> Port
         ensures accepted { self.new.accepted.amount ≡ self.old.accepted.amount }
         ensures handed { self.new.handed.amount ≡ self.old.handed.amount + receipts_collected result }
     {
-        let shared = self.topic(topic);
+        let mut hold = self.hold(topic, None);
         let LockedPort {
             rt,
             broker,
             handed,
             ..
         } = self;
-        shared
-            .topic
-            .lock(*rt)
-            .collect(*rt, &broker.totals.handed, handed, who)
+        let reply = hold.collect(*rt, &broker.totals.handed, handed, who);
+        self.keep(hold);
+        reply
     }
 
     fn leave(&mut self, topic: u64, who: u64) {
+        self.let_go();
         if self.seat.uses(topic) {
             self.topic(topic).leave(self.rt, &self.broker.bells, who)
         }

@@ -1,9 +1,9 @@
 // A flush of a topic by its flusher, and who is woken behind it.
 ghost use Rattle.std.specs.Prelude.{◌≡◌};
 
-use crate::asking::ring;
 use crate::durable::DurableTally;
 use crate::fault::FlushFault;
+use crate::holding::ring;
 use crate::places::SharedTopic;
 use crate::tally::Tallies;
 use crate::written::{Flusher, Written};

@@ -1,25 +1,24 @@
 // A connection, by a reader's and a writer's thread.
-ghost use Rattle.std.specs.Prelude.{◌≡◌, ◌++◌, IfOk, IfSome};
+ghost use Rattle.std.specs.Prelude.{◌≡◌, ◌++◌, IfOk, IfSome, IsErr};
 ghost use Rattle.rtrb.specs.Ring.{received, known_items, all_sent, SameConsumer};
 ghost use Rattle.workers.specs.Writes.{FinishesAfter};
 
-use crate::loops::{Turnstile, read_loop, write_loop};
+use crate::loops::Turnstile;
 use crate::numbered::Numbered;
 use crate::outgoing::{Outgoing, Output};
+use crate::resting::PortAtRest;
 use rtrb::{Finished, Producer, RingBuffer};
-use session::Port;
 use std::alloc::{AllocError, Global};
 use std::io::{Read, Write};
 use std::sync::{Mutex, Wait};
 use std::thread;
 use std::thread::Threads;
-use topic_lock::Turns;
 
 /// So many replies stand in a connection's ring at most.
 const PLACES: usize = 256;
 
-/// So many bytes are read in a turn at most.
-const PIECE: usize = 65_536;
+/// So many bytes are read in a turn at most. Our own rule: a topic's lock is held for a piece, and a flusher comes in between two.
+const PIECE: usize = 16_384;
 
 /// What a connection's threads do behind their loops, so that each ends the other.
 pub trait Ends {
@@ -31,10 +30,20 @@ pub trait Ends {
     fn writer_is_over(&self);
 }
 
-/// Serves a connection by two threads until the loops of both have ended, and hands the ends of its ring back. What the writer
-/// took from the ring and what is left there are the reader's replies, in order, each once. The gates of the two loops wake each
-/// other.
-pub fn serve_connection<I, W, P, T, U, E, R>(
+/// A connection that has ended.
+#[derive(Drop)]
+pub struct Served<A, W> {
+    /// The ports that its reader and its writer had.
+    pub reader_port: A,
+    pub writer_port: A,
+    /// The ends of its ring, where the reader's could be finished; or that memory was refused before any byte was read.
+    pub end: Result<Option<(Outgoing<W>, Finished<Output>)>, AllocError>,
+}
+
+/// Serves a connection by two threads until the loops of both have ended, and hands its ports and the ends of its ring back. What
+/// the writer took from the ring and what is left there are the reader's replies, in order, each once. The gates of the two loops
+/// wake each other.
+pub fn serve_connection<I, W, A, T, U, E, R>(
     rt: &R,
     alloc: Global,
     number: u64,
@@ -44,31 +53,37 @@ pub fn serve_connection<I, W, P, T, U, E, R>(
     reader_gate: &T,
     writer_gate: &U,
     ends: &E,
-    reader_port: &mut P,
-    writer_port: &mut P,
-) -> Result<Option<(Outgoing<W>, Finished<Output>)>, AllocError>
+    reader_port: A,
+    writer_port: A,
+) -> Served<A, W>
 where
     I: Read + Drop + Send,
     W: Write + Drop + Send,
-    P: Port + Turns + Send,
+    A: PortAtRest + Drop + Send,
     T: Turnstile + Sync,
     U: Turnstile + Sync,
     E: Ends + Sync,
     R: Threads + Wait + Sync,
-    ensures { IfOk result (λ r. IfSome r (λ c. received c.0.replies ++ known_items c.0.replies ≡ all_sent c.1)) }
+    ensures { IfOk result.end (λ r. IfSome r (λ c. received c.0.replies ++ known_items c.0.replies ≡ all_sent c.1)) }
 {
-    let (replies, ring) = RingBuffer::new(alloc, PLACES)?;
-    let buffer = vec![in alloc; 0u8; PIECE]?;
+    let ring = RingBuffer::new(alloc, PLACES);
+    let Ok((replies, ring)) = ring else {
+        return refused(reader_port, writer_port);
+    };
+    let buffer = vec![in alloc; 0u8; PIECE];
+    let Ok(buffer) = buffer else {
+        return refused(reader_port, writer_port);
+    };
     let outgoing = Outgoing {
         writer: output,
         replies: ring,
         next: 0,
         replied: 0,
     };
-    let (finished, outgoing) = thread::join(
+    let ((reader_port, finished), (writer_port, outgoing)) = thread::join(
         rt,
-        move || -> Option<Finished<Output>>
-            ensures { IfSome result (λ f. FinishesAfter replies f) }
+        move || -> (A, Option<Finished<Output>>)
+            ensures { IfSome result.1 (λ f. FinishesAfter replies f) }
         {
             reader(
                 rt,
@@ -82,8 +97,8 @@ where
                 replies,
             )
         },
-        move || -> Outgoing<W>
-            ensures { SameConsumer outgoing.replies result.replies }
+        move || -> (A, Outgoing<W>)
+            ensures { SameConsumer outgoing.replies result.1.replies }
         {
             writer(
                 rt,
@@ -97,15 +112,34 @@ where
         },
     );
     let Some(mut finished) = finished else {
-        return Ok(None);
+        return Served {
+            reader_port,
+            writer_port,
+            end: Ok(None),
+        };
     };
     let mut outgoing = outgoing;
     outgoing.replies.slots_after(&mut finished);
-    Ok(Some((outgoing, finished)))
+    Served {
+        reader_port,
+        writer_port,
+        end: Ok(Some((outgoing, finished))),
+    }
+}
+
+// Nothing was read, since memory was refused.
+fn refused<A, W>(reader_port: A, writer_port: A) -> Served<A, W>
+    ensures { IsErr result.end }
+{
+    Served {
+        reader_port,
+        writer_port,
+        end: Err(AllocError),
+    }
 }
 
 // The reader's thread.
-fn reader<I: Read + Drop, P: Port + Turns, T: Turnstile, E: Ends, R: Wait>(
+fn reader<I: Read + Drop, A: PortAtRest, T: Turnstile, E: Ends, R: Wait>(
     rt: &R,
     number: u64,
     session: &Mutex<Numbered>,
@@ -113,42 +147,34 @@ fn reader<I: Read + Drop, P: Port + Turns, T: Turnstile, E: Ends, R: Wait>(
     buffer: Vec<u8>,
     gate: &T,
     ends: &E,
-    port: &mut P,
+    port: A,
     replies: Producer<Output>,
-) -> Option<Finished<Output>>
-    ensures { IfSome result (λ f. FinishesAfter replies f) }
+) -> (A, Option<Finished<Output>>)
+    ensures { IfSome result.1 (λ f. FinishesAfter replies f) }
 {
     let mut input = input;
     let mut buffer = buffer;
-    let finished = read_loop(
-        rt,
-        number,
-        gate,
-        session,
-        &mut input,
-        buffer.as_mut_slice(),
-        port,
-        replies,
-    );
+    let buffer = buffer.as_mut_slice();
+    let read = port.read(rt, number, gate, session, &mut input, buffer, replies);
     ends.reader_is_over();
-    finished
+    read
 }
 
 // The writer's thread.
-fn writer<W: Write, P: Port + Turns, T: Turnstile, E: Ends, R: Wait>(
+fn writer<W: Write, A: PortAtRest, T: Turnstile, E: Ends, R: Wait>(
     rt: &R,
     number: u64,
     session: &Mutex<Numbered>,
     outgoing: Outgoing<W>,
     gate: &T,
     ends: &E,
-    port: &mut P,
-) -> Outgoing<W>
-    ensures { SameConsumer outgoing.replies result.replies }
+    port: A,
+) -> (A, Outgoing<W>)
+    ensures { SameConsumer outgoing.replies result.1.replies }
 {
     let mut outgoing = outgoing;
-    let _ = write_loop(rt, number, gate, session, port, &mut outgoing);
+    let port = port.write(rt, number, gate, session, &mut outgoing);
     session.lock(rt).stop();
     ends.writer_is_over();
-    outgoing
+    (port, outgoing)
 }

@@ -8,9 +8,11 @@ mod flushing;
 mod loops;
 mod numbered;
 mod outgoing;
+mod resting;
 
-pub use connection::{Ends, serve_connection};
+pub use connection::{Ends, Served, serve_connection};
 pub use flushing::flush_loop;
 pub use loops::{Point, Turnstile, read_loop, write_loop};
 pub use numbered::{Numbered, Pumped};
 pub use outgoing::{Outgoing, Output};
+pub use resting::PortAtRest;

@@ -42,7 +42,9 @@ fn feed_locked<P: Port + Turns, R: Wait>(
         return false;
     }
     port.begin_turn();
-    session.feed(piece, port, replies)
+    let goes_on = session.feed(piece, port, replies);
+    port.end_turn();
+    goes_on
 }
 
 // Reads and feeds once, where the ring has a free place. Answers whether the loop goes on.
@@ -138,7 +140,9 @@ fn pump_locked<P: Port + Turns, R: Wait>(
         };
     }
     port.begin_turn();
-    session.pump(port)
+    let pumped = session.pump(port);
+    port.end_turn();
+    pumped
 }
 
 // Pumps and writes once. Answers whether the session has ended; what stood in the ring is then written.

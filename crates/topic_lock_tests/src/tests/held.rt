@@ -6,7 +6,7 @@ use super::{new_broker, places, publishes, send, waits_for};
 use disk_mem::MemShelf;
 use gated_log::Refusal;
 use session::Port;
-use std::alloc::{AllocError, Global};
+use std::alloc::Global;
 use std::marker::Brand;
 use std::sync::Wait;
 use std::sync::atomic::{AtomicBool, Ordering};
@@ -15,8 +15,12 @@ use std::thread;
 use std::thread::Threads;
 use topic_core::{Answer, FileStores};
 use topic_lock::{
-    Blanks, DurableTally, FlushFault, Flusher, Ledgers, LockedPort, Seat, SharedTopic, Tallies,
+    Blanks, DurableTally, FlushFault, Flusher, Ledgers, RestingPort, Seat, SharedBroker,
+    SharedTopic, Tallies,
 };
+
+// A port over topics in memory, at rest.
+type MemPort<'p, 'a, K, R> = RestingPort<'p, 'a, FileStores, MemShelf, K, R>;
 
 // What is held, and when it may go on.
 #[derive(Drop)]
@@ -50,26 +54,58 @@ fn flush_held<K: Tallies, R: Wait>(
     }
 }
 
-// Sends while the write is held, and answers whether that was accepted.
-fn send_meanwhile<P: Port + Drop>(
-    alloc: Global,
-    port: P,
-    topic: u64,
-    gate: &Gate,
-) -> Result<bool, Refusal> {
-    let mut port = port;
-    if !waits_for(&gate.is_held) || topic >= port.topics() {
+// Sends as the only producer of a session, and answers whether that was accepted.
+fn is_accepted<P: Port>(alloc: Global, port: &mut P, who: u64) -> Result<bool, Refusal> {
+    let Some(topic) = publishes(alloc, port, who)? else {
+        return Ok(false);
+    };
+    if topic >= port.topics() {
         return Ok(false);
     }
-    let answer = match send(alloc, 0) {
-        Ok(command) => port.command(topic, 1, command),
-        Err(AllocError) => Answer::NoMemory,
-    };
-    gate.may_go_on.store(true, Ordering::SeqCst);
-    match answer {
+    match port.command(topic, who, send(alloc, 0)?) {
         Answer::NoMemory => Err(Refusal::NoMemory),
         answer => Ok(matches!(answer, Answer::Later)),
     }
+}
+
+// Sends in a session, and flushes.
+fn send_and_flush<'p, 'a, K: Tallies, R: Wait>(
+    rt: &R,
+    alloc: Global,
+    resting: MemPort<'p, 'a, K, R>,
+    broker: &SharedBroker<'a, FileStores, MemShelf, K>,
+    flusher: Flusher<K>,
+    gate: &Gate,
+) -> Result<(bool, usize), Refusal> {
+    let mut port = resting.begin();
+    let sent = is_accepted(alloc, &mut port, 0);
+    drop(port.rest());
+    if !sent? {
+        return Ok((false, 0));
+    }
+    let Some(place) = broker.places.first() else {
+        return Ok((false, 0));
+    };
+    let Some(shared) = place.get() else {
+        return Ok((false, 0));
+    };
+    flush_held(rt, &broker.totals.durable, shared, flusher, gate)
+}
+
+// Sends in the other session while the write is held, and answers whether that was accepted.
+fn send_meanwhile<'p, 'a, K: Tallies, R: Wait>(
+    alloc: Global,
+    resting: MemPort<'p, 'a, K, R>,
+    gate: &Gate,
+) -> Result<bool, Refusal> {
+    if !waits_for(&gate.is_held) {
+        return Ok(false);
+    }
+    let mut port = resting.begin();
+    let sent = is_accepted(alloc, &mut port, 1);
+    drop(port.rest());
+    gate.may_go_on.store(true, Ordering::SeqCst);
+    sent
 }
 
 // Whether the flush saw the other session's SEND answered, how many entries it committed, and whether the SEND was accepted.
@@ -94,32 +130,21 @@ fn run<K: Tallies + Send + Sync, R: Threads + Wait + Sync>(
         unreachable!();
     };
     let seats = (Seat::new(0), Seat::new(1));
-    let mut first = LockedPort::new(rt, alloc, &broker, &seats.0, one);
-    let mut second = LockedPort::new(rt, alloc, &broker, &seats.1, other);
-    let (Some(topic), Some(_)) = (
-        publishes(alloc, &mut first, 0)?,
-        publishes(alloc, &mut second, 1)?,
-    ) else {
-        return Ok(((false, 0), false));
-    };
-    if topic >= first.topics() {
-        return Ok(((false, 0), false));
-    }
-    if let Answer::NoMemory = first.command(topic, 0, send(alloc, 0)?) {
-        return Err(Refusal::NoMemory);
-    }
-    let Some(shared) = places[0].get() else {
-        return Ok(((false, 0), false));
-    };
+    let first = RestingPort::new(rt, alloc, &broker, &seats.0, one);
+    let second = RestingPort::new(rt, alloc, &broker, &seats.1, other);
     let gate = Gate {
         is_held: AtomicBool::new(false),
         may_go_on: AtomicBool::new(false),
     };
-    let (gate, durable) = (&gate, &broker.totals.durable);
+    let (gate, broker) = (&gate, &broker);
     let (flushed, sent) = thread::join(
         rt,
-        move || flush_held(rt, durable, shared, flusher, gate),
-        move || send_meanwhile(alloc, second, topic, gate),
+        move || {
+            let flushed = send_and_flush(rt, alloc, first, broker, flusher, gate);
+            gate.is_held.store(true, Ordering::SeqCst);
+            flushed
+        },
+        move || send_meanwhile(alloc, second, gate),
     );
     Ok((flushed?, sent?))
 }

@@ -1,4 +1,7 @@
-// What the ports of two sending sessions settle. Whoever waits goes on up to a limit of turns, so allocations of this test are not refused in turn.
+// What the ports of two sending sessions settle. Whoever waits goes on up to a limit of turns, so allocations of these tests are not refused in turn.
+mod pumped;
+mod waiting_port;
+
 ghost use Rattle.topic_lock.specs.Ledgers.{IsOf};
 
 use super::{TURNS, flush, new_broker, places, publishes, send};
@@ -14,7 +17,7 @@ use std::test::Fail;
 use std::thread;
 use std::thread::Threads;
 use topic_core::{Answer, FileStores};
-use topic_lock::{Blanks, Flusher, Ledgers, LockedPort, Seat, SharedBroker, Tallies};
+use topic_lock::{Blanks, Flusher, Ledgers, RestingPort, Seat, SharedBroker, Tallies};
 
 // How many entries each session sends.
 const SENDS: u64 = 50;
@@ -57,8 +60,8 @@ fn receipts<P: Port>(port: &mut P, topic: u64, who: u64) -> u64 {
 // How many SENDs a session was told to be accepted, and how many receipts; and how many all ports settle of either.
 type Settled = ((u64, u64), (u64, u64));
 
-// A port over topics in memory.
-type MemPort<'p, 'a, K, R> = LockedPort<'p, 'a, FileStores, MemShelf, K, R>;
+// A port over topics in memory, at rest.
+type MemPort<'p, 'a, K, R> = RestingPort<'p, 'a, FileStores, MemShelf, K, R>;
 
 // Publishes, waits until both sessions have, and settles.
 fn session<'p, 'a, K: Tallies, R: Wait>(
@@ -67,7 +70,7 @@ fn session<'p, 'a, K: Tallies, R: Wait>(
     who: u64,
     finished: &AtomicU64,
 ) -> Result<Settled, Refusal> {
-    let mut port = port;
+    let mut port = port.begin();
     let told = publish(alloc, &mut port, who);
     finished.fetch_add(1, Ordering::SeqCst);
     for _ in 0..TURNS {
@@ -120,8 +123,8 @@ fn run<K: Tallies + Send + Sync, R: Threads + Wait + Sync>(
         unreachable!();
     };
     let seats = (Seat::new(0), Seat::new(1));
-    let first = LockedPort::new(rt, alloc, &broker, &seats.0, one);
-    let second = LockedPort::new(rt, alloc, &broker, &seats.1, other);
+    let first = RestingPort::new(rt, alloc, &broker, &seats.0, one);
+    let second = RestingPort::new(rt, alloc, &broker, &seats.1, other);
     let finished = AtomicU64::new(0);
     let (finished, broker) = (&finished, &broker);
     let (one, other) = thread::join(

@@ -1,8 +1,12 @@
 use commands::Reply;
 use names::TopicName;
+use rtrb::{Finished, Producer};
 use session::{Found, Port};
-use topic_core::{Answer, Outgoing, ReadError, TooManyPermits, TopicCommand};
+use std::io::{Read, Write};
+use std::sync::{Mutex, Wait};
+use topic_core::{Answer, Outgoing as Sent, ReadError, TooManyPermits, TopicCommand};
 use topic_lock::Turns;
+use workers::{Numbered, Outgoing, Output, PortAtRest, Turnstile, read_loop, write_loop};
 
 /// A broker of one topic, which owes the session so many replies, all alike, and answers commands without working them.
 #[derive(Drop)]
@@ -12,6 +16,38 @@ pub struct Desk {
 
 impl Turns for Desk {
     fn begin_turn(&mut self) {}
+
+    fn end_turn(&mut self) {}
+}
+
+impl PortAtRest for Desk {
+    fn read<I: Read, G: Turnstile, R: Wait>(
+        self,
+        rt: &R,
+        number: u64,
+        gate: &G,
+        session: &Mutex<Numbered>,
+        input: &mut I,
+        buffer: &mut [u8],
+        replies: Producer<Output>,
+    ) -> (Desk, Option<Finished<Output>>) {
+        let mut desk = self;
+        let finished = read_loop(rt, number, gate, session, input, buffer, &mut desk, replies);
+        (desk, finished)
+    }
+
+    fn write<W: Write, G: Turnstile, R: Wait>(
+        self,
+        rt: &R,
+        number: u64,
+        gate: &G,
+        session: &Mutex<Numbered>,
+        outgoing: &mut Outgoing<W>,
+    ) -> Desk {
+        let mut desk = self;
+        let _ = write_loop(rt, number, gate, session, &mut desk, outgoing);
+        desk
+    }
 }
 
 impl Port for Desk {
@@ -89,7 +125,7 @@ impl Port for Desk {
         _topic: u64,
         _who: u64,
         _consumer_id: u64,
-    ) -> Result<Option<Outgoing>, ReadError> {
+    ) -> Result<Option<Sent>, ReadError> {
         Ok(None)
     }
 

@@ -76,10 +76,10 @@ fn serve<R: Threads + Wait + Sync>(
         &ReaderGate::new(rt, bells, session, 0),
         &WriterGate::new(rt, bells, session, 0),
         &HangUp::new(bells, line),
-        &mut Desk { due: 0 },
-        &mut Desk { due: 0 },
-    )?;
-    match served {
+        Desk { due: 0 },
+        Desk { due: 0 },
+    );
+    match served.end? {
         Some((outgoing, _)) => Ok(outgoing.writer.bytes),
         None => Err(AllocError),
     }

@@ -30,10 +30,10 @@ fn serve<R: Threads + Wait + Sync>(
         &ReaderGate::new(rt, bells, session, 7),
         &WriterGate::new(rt, bells, session, 7),
         &Parting::new(bells, 7, socket),
-        &mut Desk { due: 0 },
-        &mut Desk { due: 0 },
+        Desk { due: 0 },
+        Desk { due: 0 },
     );
-    served.is_ok()
+    served.end.is_ok()
 }
 
 // Sends, reads the answers, and ends its own side. Tells whether they came, and nothing more behind them.

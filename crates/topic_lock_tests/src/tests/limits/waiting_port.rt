@@ -1,0 +1,122 @@
+use super::super::waits_for;
+use commands::Reply;
+use names::TopicName;
+use session::{Found, Port};
+use std::sync::atomic::{AtomicBool, Ordering};
+use topic_core::{Answer, Outgoing, ReadError, TooManyPermits, TopicCommand};
+
+/// A port whose `collect` waits, before it takes a topic's lock, until another session was told what it waited for.
+#[derive(Drop)]
+pub struct WaitingPort<'g, P: Port> {
+    pub port: P,
+    pub is_held: &'g AtomicBool,
+    pub may_go_on: &'g AtomicBool,
+    /// Whether it was let go on, each time that it waited.
+    pub was_let: bool,
+}
+
+impl<'g, P: Port> Port for WaitingPort<'g, P> {
+    ghost broker = { λ w. P.broker w.port };
+
+    ghost count = { λ w. P.count w.port };
+
+    ghost sole = { λ w. P.sole w.port };
+
+    ghost passes = { λ old new. P.passes old.port new.port };
+
+    ghost works = { λ old new. P.works old.port new.port };
+
+    ghost fails = { λ old new. P.fails old.port new.port };
+
+    ghost refuses = { λ old why new. P.refuses old.port why new.port };
+
+    fn service_url(&self) -> &str {
+        self.port.service_url()
+    }
+
+    fn topics(&self) -> u64 {
+        self.port.topics()
+    }
+
+    fn has_producer(&self, topic: u64, who: u64, producer_id: u64) -> bool {
+        self.port.has_producer(topic, who, producer_id)
+    }
+
+    fn has_consumer(&self, topic: u64, who: u64, consumer_id: u64) -> bool {
+        self.port.has_consumer(topic, who, consumer_id)
+    }
+
+    fn find(&mut self, name: &TopicName) -> Found {
+        let WaitingPort { port, .. } = self;
+        port.find(name)
+    }
+
+    fn command(&mut self, topic: u64, who: u64, command: TopicCommand) -> Answer {
+        let WaitingPort { port, .. } = self;
+        port.command(topic, who, command)
+    }
+
+    fn grant(
+        &mut self,
+        topic: u64,
+        who: u64,
+        consumer_id: u64,
+        permits: u32,
+    ) -> Result<(), TooManyPermits> {
+        let WaitingPort { port, .. } = self;
+        port.grant(topic, who, consumer_id, permits)
+    }
+
+    fn dispatch(
+        &mut self,
+        topic: u64,
+        who: u64,
+        consumer_id: u64,
+    ) -> Result<Option<Outgoing>, ReadError> {
+        let WaitingPort { port, .. } = self;
+        port.dispatch(topic, who, consumer_id)
+    }
+
+    fn next_due(&self, who: u64, from: u64) -> Option<u64> {
+        self.port.next_due(who, from)
+    }
+
+    fn collect(&mut self, topic: u64, who: u64) -> Option<Reply> {
+        self.is_held.store(true, Ordering::SeqCst);
+        let WaitingPort {
+            port,
+            may_go_on,
+            was_let,
+            ..
+        } = self;
+        *was_let = waits_for(*may_go_on) && *was_let;
+        port.collect(topic, who)
+    }
+
+    fn leave(&mut self, topic: u64, who: u64) {
+        let WaitingPort { port, .. } = self;
+        port.leave(topic, who)
+    }
+
+    ghost passes_nothing = { λ w. P.passes_nothing w.port };
+
+    ghost passes_both = { λ a b c first second. P.passes_both a.port b.port c.port first second };
+
+    ghost passes_sole = { λ a b passes sole. P.passes_sole a.port b.port passes sole };
+
+    ghost passes_works = { λ a b passes. P.passes_works a.port b.port passes };
+
+    ghost works_both = { λ a b c first second. P.works_both a.port b.port c.port first second };
+
+    ghost works_sole = { λ a b works sole. P.works_sole a.port b.port works sole };
+
+    ghost works_count = { λ a b works. P.works_count a.port b.port works };
+
+    ghost fails_within = { λ a b c d before between after fails. P.fails_within a.port b.port c.port d.port before between after fails };
+
+    ghost refuses_within = { λ a b c d why before between after refused. P.refuses_within a.port b.port c.port d.port why before between after refused };
+
+    ghost passes_count = { λ a b passes. P.passes_count a.port b.port passes };
+
+    ghost counts_topics = { λ w sole. P.counts_topics w.port sole };
+}
