@@ -1,12 +1,14 @@
 /* A load on a served broker: producers that keep so many SENDs under way each, and consumers that acknowledge; in one thread, over one epoll.
 
    Usage: load HOST:PORT [--connections N] [--outstanding N] [--bytes N] [--topics N] [--consumers N] [--type exclusive|failover|shared]
-               [--permits N] [--acks N] [--seconds S] [--warmup S] [--messages N] [--redis 1]
+               [--permits N] [--acks N] [--seconds S] [--warmup S] [--messages N] [--redis 1 | --rabbit 1]
 
    Producer i publishes on topic i modulo the topics, entries with a payload of so many bytes. Consumer j is of topic j modulo the topics: on one
    subscription, or, where the type is exclusive, on one of its own, from the first entry on; it acknowledges in frames of so many message ids, each of
    which is answered. What is counted comes in the seconds behind the warm-up, once all producers and consumers are there; then what is under way is
-   waited for. With --messages all is counted from the start, up to that many messages. With --redis 1 each message is an XADD to a stream of its topic's number, and there are no consumers.
+   waited for. With --messages all is counted from the start, up to that many messages. With --redis 1 each message is an XADD to a stream of its
+   topic's number; with --rabbit 1 each is a persistent one to a durable quorum queue of its topic's number, and its confirm is its receipt. There are
+   no consumers with these.
 
    Prints one line of JSON: counts, the times from a SEND to its receipt and from a SEND to its message at 50, 99 and 99.9 per cent, in
    microseconds, and which part of one processor the load took itself. */
@@ -22,6 +24,7 @@
 #include <time.h>
 #include <unistd.h>
 
+#include "rabbit.h"
 #include "wire.h"
 
 enum { PIECE = 1 << 18, MOST_OUT = 1 << 18, EVENTS = 256, EXCLUSIVE = 0, SHARED = 1, FAILOVER = 2, EARLIEST = 1, ID = 1, LAST_WAIT = 60 };
@@ -31,7 +34,7 @@ static struct {
     unsigned connections, outstanding, bytes, topics, consumers, type, permits, acks;
     double seconds, warmup;
     uint64_t messages;
-    int redis;
+    int redis, rabbit;
 } options = {.connections = 1, .outstanding = 1, .bytes = 100, .topics = 1, .permits = 1000, .acks = 1, .seconds = 5, .warmup = 0.5};
 
 enum phase { SETUP, WARMUP, MEASURED, LAST };
@@ -164,12 +167,25 @@ static void put_xadd(struct connection *it) {
     put(&it->out, "\r\n", 2);
 }
 
+static void put_to_queue(struct connection *it) {
+    char queue[16];
+    sprintf(queue, "topic-%u", it->topic);
+    put_publish(&it->out, queue, payload, options.bytes);
+}
+
+static void ask_for_queue(struct connection *it) {
+    char queue[16];
+    sprintf(queue, "topic-%u", it->topic);
+    put_declare(&it->out, queue);
+}
+
 /* Sends as many as may be under way, as far as there is room for what isn't written yet. */
 static void publish(struct connection *it, uint64_t now) {
     if (it->is_consumer || !it->is_ready || phase == SETUP || phase == LAST) return;
     memcpy(payload, &now, sizeof now); /* so that a consumer can tell how old the message is */
     while (it->sent - it->received < options.outstanding && in_use(&it->out) < MOST_OUT) {
         if (options.redis) put_xadd(it);
+        else if (options.rabbit) put_to_queue(it);
         else put_send(it, now);
         it->sent_at[it->sent++ % options.outstanding] = now;
         counted.sent++;
@@ -285,6 +301,48 @@ static void take_lines(struct connection *it, uint64_t now) {
     }
 }
 
+/* A confirm, or a refusal, is of one message or of all up to it that had none yet. Messages count from 1, and are answered in any order. */
+static void take_confirm(struct connection *it, const unsigned char *arguments, uint64_t *answers, uint64_t now) {
+    uint64_t last = (uint64_t)size_at(arguments) << 32 | size_at(arguments + 4);
+    int is_of_all = arguments[8] & 1;
+    if (last <= it->received || last > it->sent) fail("a confirm that isn't due");
+    for (uint64_t n = is_of_all ? it->received : last - 1; n < last; n++) {
+        uint64_t *sent_at = &it->sent_at[n % options.outstanding];
+        if (!*sent_at) continue;
+        note_time(&receipt_times, *sent_at, now);
+        *sent_at = 0;
+        ++*answers;
+    }
+    while (it->received < it->sent && !it->sent_at[it->received % options.outstanding]) it->received++;
+}
+
+static void take_method(struct connection *it, const unsigned char *method, uint64_t now) {
+    switch (size_at(method)) {
+    case START: put_method(&it->out, 0, START_OK, AS_GUEST); return;
+    case TUNE:
+        put_method(&it->out, 0, TUNE_OK, ONE_CHANNEL);
+        put_method(&it->out, 0, OPEN, ROOT);
+        return;
+    case OPEN_OK: put_method(&it->out, CHANNEL, CHANNEL_OPEN, NOTHING); return;
+    case CHANNEL_OPEN_OK: ask_for_queue(it); return;
+    case QUEUE_DECLARE_OK: put_method(&it->out, CHANNEL, CONFIRM_SELECT, NOTHING); return;
+    case CONFIRM_SELECT_OK: be_ready(it); return;
+    case CONFIRM: take_confirm(it, method + 4, &counted.receipts, now); return;
+    case REFUSAL: take_confirm(it, method + 4, &counted.errors, now); return;
+    case CONNECTION_CLOSE:
+    case CHANNEL_CLOSE: fail("refused: %.*s", method[6], method + 7);
+    default: fail("a method of class %u, number %u", method[0] << 8 | method[1], method[2] << 8 | method[3]);
+    }
+}
+
+static void take_rabbit_frames(struct connection *it, uint64_t now) {
+    for (size_t size; (size = rabbit_frame_at(&it->in)) > 0; it->in.start += size) {
+        const unsigned char *method = method_in(it->in.bytes + it->in.start, size);
+        if (!method) fail("a frame that can't be read");
+        take_method(it, method, now);
+    }
+}
+
 /* The loop */
 
 static void watch(struct connection *it, int with_room) {
@@ -312,6 +370,7 @@ static void receive(struct connection *it) {
     it->in.end += got;
     uint64_t now = nanoseconds();
     if (options.redis) take_lines(it, now);
+    else if (options.rabbit) take_rabbit_frames(it, now);
     else take_frames(it, now);
 }
 
@@ -372,6 +431,7 @@ static void open_connection(struct connection *it, unsigned number) {
     struct epoll_event event = {EPOLLIN, {.ptr = it}};
     if (epoll_ctl(epoll, EPOLL_CTL_ADD, it->socket, &event)) fail("epoll: %s", strerror(errno));
     if (options.redis) be_ready(it);
+    else if (options.rabbit) put(&it->out, GREETING);
     else greet(it);
 }
 
@@ -439,6 +499,7 @@ static void take_option(const char *name, const char *value) {
     else if (!strcmp(name, "--permits")) options.permits = whole(value, 1);
     else if (!strcmp(name, "--acks")) options.acks = whole(value, 1);
     else if (!strcmp(name, "--redis")) options.redis = whole(value, 0) != 0;
+    else if (!strcmp(name, "--rabbit")) options.rabbit = whole(value, 0) != 0;
     else if (!strcmp(name, "--messages")) options.messages = whole(value, 1);
     else if (!strcmp(name, "--seconds")) options.seconds = atof(value);
     else if (!strcmp(name, "--warmup")) options.warmup = atof(value);
@@ -452,7 +513,8 @@ static void take_options(int words, char **word) {
         if (n + 1 == words) fail("no value of %s", word[n]);
         take_option(word[n], word[n + 1]);
     }
-    if (options.redis && options.consumers) fail("no consumers with --redis");
+    if ((options.redis || options.rabbit) && options.consumers) fail("no consumers with --redis or --rabbit");
+    if (options.redis && options.rabbit) fail("--redis or --rabbit, not both");
 }
 
 int main(int words, char **word) {
