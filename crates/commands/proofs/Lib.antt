@@ -4,6 +4,7 @@ pub mod Each
 pub mod Spelled
 pub mod Told
 pub mod Occurrences
+pub mod Kept
 pub mod Readable
 pub mod Apart
 pub mod ByType

@@ -24,25 +24,25 @@ same_number field k h = grind (arith, nat_tests)
 pub other_number : (field : Field) (k : ℕ) → field.number ≢ k → nat_eq field.number k ≡ false
 other_number field k h = grind (arith, nat_tests)
 
-is_number : (field : Field) (k : ℕ) → nat_eq field.number k ≡ true → field.number ≡ k
+pub is_number : (field : Field) (k : ℕ) → nat_eq field.number k ≡ true → field.number ≡ k
 is_number field k h = grind (arith, nat_tests)
 
-isnt_number : (field : Field) (k : ℕ) → nat_eq field.number k ≡ false → field.number ≢ k
+pub isnt_number : (field : Field) (k : ℕ) → nat_eq field.number k ≡ false → field.number ≢ k
 isnt_number field k h = grind (arith, nat_tests)
 
 -- one field more: of another number
-occurrences-other : {A : Type 0} (kind : Value → Result A CommandFault) (k : ℕ) (field : Field) (fields : List Field) →
+pub occurrences-other : {A : Type 0} (kind : Value → Result A CommandFault) (k : ℕ) (field : Field) (fields : List Field) →
     nat_eq field.number k ≡ false → occurrences kind k (field ∷ fields) ≡ occurrences kind k fields
 unfolding occurrences
 occurrences-other kind k field fields e = rw e refl
 
 -- one field more: of this number
-occurrences-this : {A : Type 0} (kind : Value → Result A CommandFault) (k : ℕ) (field : Field) (fields : List Field) →
+pub occurrences-this : {A : Type 0} (kind : Value → Result A CommandFault) (k : ℕ) (field : Field) (fields : List Field) →
     nat_eq field.number k ≡ true → occurrences kind k (field ∷ fields) ≡ (kind field.value >>= λ first. occurrences kind k fields >>= λ others. Ok (first ∷ others))
 unfolding occurrences
 occurrences-this kind k field fields e = rw e refl
 
-occurrences-nothing : {A : Type 0} (kind : Value → Result A CommandFault) (k : ℕ) → occurrences kind k [] ≡ Ok []
+pub occurrences-nothing : {A : Type 0} (kind : Value → Result A CommandFault) (k : ℕ) → occurrences kind k [] ≡ Ok []
 unfolding occurrences
 occurrences-nothing kind k = refl
 
@@ -56,10 +56,10 @@ absent-occurrences kind k (field ∷ fields) h =
     occurrences-other kind k field fields (other_number field k (All-head (λ f. f.number ≢ k) field fields h))
     ∙ absent-occurrences kind k fields (All-tail (λ f. f.number ≢ k) field fields h)
 
-abbrev AreOk : {A : Type 0} → A → A → Type 0
+abbrev pub AreOk : {A : Type 0} → A → A → Type 0
 AreOk {A} xs ys = let left : Result A CommandFault = Ok xs in left ≡ Ok ys
 
-same_ok : {A : Type 0} (x y : A) → AreOk x y → x ≡ y
+pub same_ok : {A : Type 0} (x y : A) → AreOk x y → x ≡ y
 same_ok x y h = cc
 
 occurrences-absent : {A : Type 0} (kind : Value → Result A CommandFault) (k : ℕ) (fields : List Field) → occurrences kind k fields ≡ Ok [] → IsAbsent k fields

@@ -1,5 +1,5 @@
 -- A search over the fields of a message: each field of the number changes what was found.
-use Rattle.std.proofs.Common.{◌≡◌, ◌≢◌, ℕ, List, [], ◌∷◌, ◌++◌, Ok, Err, Result, Option, Some, None, unwrap_or, Bool, true, false, cond, ◌||◌, nat_eq, is_ok, is_some, length, ◌<◌, refl, ap, ◌∙◌, sym, arith, append_assoc, append-nil}
+use Rattle.std.proofs.Common.{◌≡◌, ◌≢◌, ℕ, List, [], ◌∷◌, ◌++◌, Ok, Err, Result, Option, Some, None, unwrap_or, Bool, true, false, cond, ◌||◌, nat_eq, is_ok, refl, ap, ◌∙◌, sym, arith, append_assoc, append-nil}
 use Rattle.std.specs.List.{fold, flat_map}
 use Rattle.std.specs.Result.{result_unwrap_or}
 use Rattle.std.proofs.lemmas.Bool.Decides.{nat_tests}
@@ -7,8 +7,7 @@ use Rattle.proto_fields.specs.declared.fault.FieldFault.{FieldFault}
 use Rattle.proto_fields.specs.declared.value.Field.{Field}
 use Rattle.proto_fields.specs.declared.value.Value.{Value}
 use Rattle.proto_fields.specs.declared.value.Value.TheVariants.{Varint, Fixed64, Bytes, Fixed32}
-use Rattle.proto_fields.specs.Fields.{field_at, fields_of, TakesField}
-use Rattle.proto_fields.proofs.Shorter.{field_at-shorter}
+use Rattle.proto_fields.specs.Fields.{field_at, fields_of}
 use Rattle.proto_fields.proofs.FieldList.{fields_of-none, fields_of-more, fields_of-fault}
 use Rattle.proto_fields.specs.Reading.{◌>>=◌ as ◌>=>◌}
 use Rattle.commands.specs.declared.fault.CommandFault.{CommandFault}
@@ -62,7 +61,7 @@ unfolding occurrences
 found_in-other kind number add found field (Ok fields) e = rw e refl
 found_in-other kind number add found field (Err fault) e = refl
 
-found_in-first : {A S : Type 0} (add : S → A → S) (found : S) (x : A) (r : Result (List A) CommandFault) →
+pub found_in-first : {A S : Type 0} (add : S → A → S) (found : S) (x : A) (r : Result (List A) CommandFault) →
     ((r >>= λ others. Ok (x ∷ others)) >>= λ xs. Ok (fold add found xs)) ≡ (r >>= λ xs. Ok (fold add (add found x) xs))
 found_in-first add found x (Ok others) = refl
 found_in-first add found x (Err fault) = refl
@@ -146,7 +145,7 @@ pub joined-fold : (parts : List (List ℕ)) → fold longer None parts ≡ joine
 joined-fold [] = refl
 joined-fold (part ∷ parts) = fold-longer part parts
 
-last-found : {A : Type 0} (r : Result (List A) CommandFault) → (r >>= λ xs. Ok (fold newest None xs)) ≡ (r >>= λ xs. Ok (last xs))
+pub last-found : {A : Type 0} (r : Result (List A) CommandFault) → (r >>= λ xs. Ok (fold newest None xs)) ≡ (r >>= λ xs. Ok (last xs))
 last-found (Ok xs) = ap (λ x. Ok x) (last-fold xs)
 last-found (Err e) = refl
 
@@ -282,14 +281,3 @@ content_of-err (Varint n) e h = cc
 content_of-err (Fixed64 n) e h = cc
 content_of-err (Bytes bytes) e h = cc
 content_of-err (Fixed32 n) e h = cc
-
--- the next field, if there is one
-pub read-some : {bytes rest : List ℕ} (found : Option Field) (after : List ℕ) → Read bytes rest → TakesField rest (Ok found) after → is_some found ≡ true →
-    Read bytes after × (length after < length rest)
-read-some {bytes} {rest} (Some field) after h takes some = (read-more (field, after) h takes, field_at-shorter rest (field, after) takes)
-read-some None after h takes some = cc
-
-pub read-none : {bytes rest : List ℕ} (found : Option Field) (after : List ℕ) → Read bytes rest → TakesField rest (Ok found) after → is_some found ≡ false →
-    message_fields bytes ≡ Ok (known_fields bytes)
-read-none {bytes} {rest} None after h takes none = read-all h takes.0
-read-none (Some field) after h takes none = cc

@@ -1,6 +1,7 @@
 pub mod Reading
 pub mod Content
 pub mod Message
+pub mod Kept
 pub mod Connection
 pub mod Producing
 pub mod MessageIds

@@ -9,6 +9,7 @@ mod consuming;
 mod content;
 mod fault;
 mod giving_back;
+mod held;
 mod key_shared;
 mod kinds;
 mod laws;

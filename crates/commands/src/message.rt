@@ -1,9 +1,10 @@
-ghost use Rattle.std.specs.Prelude.{◌≡◌, ◌++◌, [], IfOk, Ok, unwrap_or};
+ghost use Rattle.std.specs.Prelude.{◌≡◌, ◌++◌, [], ◌∷◌, IfOk, Ok, unwrap_or};
 ghost use Rattle.commands.specs.Reading.{Reads};
 ghost use Rattle.commands.specs.Message.{in_message, u64_field, bytes_field, message_field, has_field, occurrences, content_of};
 
 use crate::content::Content;
 use crate::fault::CommandFault;
+use crate::held::Held;
 use crate::kinds::{as_bool, as_i32, as_text, as_u32, content_of, varint_of};
 use crate::sequence::Sequence;
 use crate::text::Text;
@@ -11,44 +12,72 @@ use proto_fields::{ByteSlice, Fields};
 use std::alloc::{AllocError, Global};
 use std::marker::Model;
 
-/// A message whose bytes are fields and nothing else. Contracts see the list of its fields; it keeps their
-/// bytes alone, and each call goes over them again.
+/// The numbers below this are those that the field tables name.
+const NUMBERS: usize = 24;
+
+/// A message whose bytes are fields and nothing else. Contracts see the list of its fields. It keeps what the
+/// calls ask of the fields whose number is below `NUMBERS`; for others, and for an embedded message that
+/// occurs more than once, they go over the bytes again.
 #[derive(Drop)]
 pub struct Message<'a> {
     bytes: &'a [u8],
+    held: [Held<'a>; NUMBERS],
 }
 
 impl<'a> Model for Message<'a> {
-    ghost use Rattle.std.specs.Prelude.{◌≡◌, List, Ok};
+    ghost use Rattle.std.specs.Prelude.{List};
     ghost use Rattle.proto_fields.specs.declared.value.Field.{Field};
-    ghost use Rattle.commands.specs.Message.{message_fields, known_fields};
+    ghost use Rattle.commands.specs.Message.{known_fields};
+    ghost use Rattle.commands.specs.Kept.{IsRead};
 
     ghost Value = { List Field };
 
     ghost view = { λ m. known_fields m.bytes.now };
 
-    ghost invariant = { λ m. message_fields m.bytes.now ≡ Ok (known_fields m.bytes.now) };
+    ghost invariant = { λ m. IsRead m.bytes.now m.held };
 }
 
 impl<'a> Message<'a> {
-    ghost use Rattle.std.specs.Prelude.{◌≡◌, Ok};
+    ghost use Rattle.std.specs.Prelude.{◌≡◌, Ok, IfSome};
     ghost use Rattle.commands.specs.Reading.{Reads};
+    ghost use Rattle.commands.specs.Kept.{seen, held_of};
     ghost use Rattle.commands.specs.Message.{message_fields, u64_field, u32_field, bool_field, i32_field, i64_field, bytes_field, text_field, message_field, has_field, occurrences, content_of};
 
     /// The message of these bytes.
     pub fn read(bytes: &'a [u8]) -> Result<Message<'a>, CommandFault>
         ensures { result ≡ message_fields bytes.now }
     {
+        let mut held = [Held::Absent; NUMBERS];
         let mut input = Fields::new(bytes);
-        'fields: while input.next()?.is_some() {}
-        Ok(Message { bytes })
+        'fields: while let Some(field) = input.next()? {
+            let number = field.number as usize;
+            if number < NUMBERS {
+                held[number] = held[number].with(&field.value);
+            }
+        }
+        Ok(Message { bytes, held })
+    }
+
+    /// What is kept of the fields of this number, if it is one that the field tables name.
+    fn held(&self, number: u32) -> Option<Held<'a>>
+        ensures { IfSome result (λ held. seen held ≡ held_of number self.now) }
+    {
+        let number = number as usize;
+        if number < NUMBERS {
+            Some(self.held[number])
+        } else {
+            None
+        }
     }
 
     /// The number of a field.
     pub fn u64(&self, number: u32) -> Result<Option<u64>, CommandFault>
         ensures { result ≡ u64_field number self.now }
     {
-        last_varint(self.bytes, number)
+        match self.held(number) {
+            None => last_varint(self.bytes, number),
+            Some(held) => held.number(),
+        }
     }
 
     /// The number of 32 bits without a sign of a field.
@@ -95,12 +124,22 @@ impl<'a> Message<'a> {
         }
     }
 
+    /// The bytes of a field where they stand.
+    fn content(&self, number: u32) -> Result<Option<ByteSlice<'a>>, CommandFault>
+        ensures { result ≡ bytes_field number self.now }
+    {
+        match self.held(number) {
+            None => last_content(self.bytes, number),
+            Some(held) => held.content(),
+        }
+    }
+
     /// The text of a field.
     #[tactic(auto, unfolding(crate::specs::Message::text_field))]
     pub fn text(&self, alloc: Global, number: u32) -> Result<Option<Text>, CommandFault>
         ensures { Reads result (text_field number self.now) }
     {
-        match last_content(self.bytes, number)? {
+        match self.content(number)? {
             None => Ok(None),
             Some(bytes) => Ok(Some(as_text(alloc, bytes.as_slice())?)),
         }
@@ -110,7 +149,7 @@ impl<'a> Message<'a> {
     pub fn bytes(&self, alloc: Global, number: u32) -> Result<Option<Sequence<u8>>, CommandFault>
         ensures { Reads result (bytes_field number self.now) }
     {
-        match last_content(self.bytes, number)? {
+        match self.content(number)? {
             None => Ok(None),
             Some(bytes) => Ok(Some(Sequence::new(Vec::from_slice(alloc, bytes.as_slice())?))),
         }
@@ -120,21 +159,30 @@ impl<'a> Message<'a> {
     pub fn message(&self, alloc: Global, number: u32) -> Result<Option<Content<'a>>, CommandFault>
         ensures { Reads result (message_field number self.now) }
     {
-        joined_contents(alloc, self.bytes, number)
+        match self.held(number) {
+            Some(Held::Content(part)) => Ok(Some(Content::new(ByteSlice::new(part)))),
+            _ => joined_contents(alloc, self.bytes, number),
+        }
     }
 
     /// The bytes of each occurrence of an embedded message, in order.
     pub fn parts(&self, alloc: Global, number: u32) -> Result<Sequence<ByteSlice<'a>>, CommandFault>
         ensures { Reads result (occurrences content_of number self.now) }
     {
-        each_content(alloc, self.bytes, number)
+        match self.held(number) {
+            Some(Held::Content(part)) => only_part(alloc, part),
+            _ => each_content(alloc, self.bytes, number),
+        }
     }
 
     /// Whether the field is there, of whatever wire type.
     pub fn has(&self, number: u32) -> Result<bool, CommandFault>
         ensures { result ≡ Ok (has_field number self.now) }
     {
-        has_number(self.bytes, number)
+        match self.held(number) {
+            None => has_number(self.bytes, number),
+            Some(held) => Ok(held.is_there()),
+        }
     }
 }
 
@@ -195,6 +243,14 @@ fn joined<'a>(
         None => Ok(Content::new(part)),
         Some(content) => content.with(alloc, part.as_slice()),
     }
+}
+
+fn only_part<'a>(alloc: Global, part: &'a [u8]) -> Result<Sequence<ByteSlice<'a>>, CommandFault>
+    ensures { Reads result (Ok (part.now ∷ [])) }
+{
+    let mut parts = Vec::new(alloc);
+    parts.push(ByteSlice::new(part))?;
+    Ok(Sequence::new(parts))
 }
 
 fn each_content(

@@ -1,21 +1,44 @@
 use Rattle.std.proofs.Common.{sym}
 use Rattle.std.proofs.lemmas.Result.{err_from_is_err_and}
-use Rattle.commands.proofs.Walk.{read-some, read-none, read-fault}
+use Rattle.proto_fields.proofs.Shorter.{field_at-shorter}
+use Rattle.commands.proofs.Walk.{read-fault}
+use Rattle.commands.proofs.Kept.{keeping-this, keeping-other, keeping-all}
+use Rattle.commands.proofs.message.Message.read.Goals.{then-number-lt-NUMBERS, else-number-lt-NUMBERS}
 use Rattle.commands.proofs.message.Message.read.Goals as goal
 
-pub returns-in_err-next : goal.returns-in_err-next
-returns-in_err-next c =
+pub returns-in_err-field : goal.returns-in_err-field
+returns-in_err-field c =
     let p = err_from_is_err_and c.from_residual.result c.from_residual.ensures.1 in
-    rw (p.1, p.2) (sym (read-fault _ c.fields.invariant c.in_err-next.ensures.0 c.in_err-next.ensures.1))
+    rw (p.1, p.2) (sym (read-fault _ c.fields.invariant.read c.in_err-field.ensures.0 c.in_err-field.ensures.1))
+
+pub fields-smaller-after-number-lt-NUMBERS : goal.fields-smaller-after-number-lt-NUMBERS
+fields-smaller-after-number-lt-NUMBERS c = let found = rw c.in-Some.is at c.in_ok-field.ensures in field_at-shorter _ _ found
+
+pub fields-preserved-after-number-lt-NUMBERS : goal.fields-preserved-after-number-lt-NUMBERS
+fields-preserved-after-number-lt-NUMBERS c =
+    let found = rw c.in-Some.is at c.in_ok-field.ensures in
+    elim c.if-number-lt-NUMBERS.branch [
+      | then-number-lt-NUMBERS w ↦ rw w.held-is (keeping-this _ _ _ c.fields.invariant found w.if-number-lt-NUMBERS.true w.with.ensures)
+      | else-number-lt-NUMBERS w ↦ rw w.held-is (keeping-other _ _ c.fields.invariant found w.if-number-lt-NUMBERS.false)
+    ]
 
 pub fields-smaller : goal.fields-smaller
-fields-smaller c = (read-some _ _ c.fields.invariant c.in_ok-next.ensures (rw (← c.is_some.ensures) c.if-is_some.true)).1
+fields-smaller c = let found = rw c.in-Some.is at c.in_ok-field.ensures in field_at-shorter _ _ found
 
 pub fields-preserved : goal.fields-preserved
-fields-preserved c = (read-some _ _ c.fields.invariant c.in_ok-next.ensures (rw (← c.is_some.ensures) c.if-is_some.true)).0
+fields-preserved c =
+    let found = rw c.in-Some.is at c.in_ok-field.ensures in
+    elim c.if-number-lt-NUMBERS.branch [
+      | then-number-lt-NUMBERS w ↦ rw w.held-is (keeping-this _ _ _ c.fields.invariant found w.if-number-lt-NUMBERS.true w.with.ensures)
+      | else-number-lt-NUMBERS w ↦ rw w.held-is (keeping-other _ _ c.fields.invariant found w.if-number-lt-NUMBERS.false)
+    ]
 
 pub invariant_of-result : goal.invariant_of-result
-invariant_of-result c = read-none _ _ c.fields.invariant c.in_ok-next.ensures (rw (← c.is_some.ensures) c.if-is_some.false)
+invariant_of-result c =
+    let none = rw c.in_default.is at c.in_ok-field.ensures in keeping-all c.fields.invariant none.0
 
 pub returns : goal.returns
-returns c = sym (read-none _ _ c.fields.invariant c.in_ok-next.ensures (rw (← c.is_some.ensures) c.if-is_some.false))
+returns c =
+    let none = rw c.in_default.is at c.in_ok-field.ensures in
+    let read = keeping-all c.fields.invariant none.0 in
+    sym read.fields
