@@ -13,7 +13,7 @@ pub struct CursorStore {
     pub(crate) kept: KeptSubscriptions,
 }
 
-/// The batch of some records, and what is kept after them.
+/// The batch of some records, and what is kept after them. It shares with the store the cursors that no record names.
 #[derive(Drop)]
 pub struct PreparedRecords {
     pub(crate) batch: PreparedBatch,

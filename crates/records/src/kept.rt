@@ -16,17 +16,19 @@ use crate::kept_cursor::KeptCursor;
 use crate::name::{Name, is_subscription_name};
 use crate::name_set::{MOST_SUBSCRIPTIONS, Names, name_of};
 use crate::record::Record;
+use crate::shared_cursor::SharedCursor;
 use cursor::Cursor;
 use std::alloc::{AllocError, Global};
 use std::collections::BTreeMap;
 use std::collections::btree_map::Iter;
 use std::marker::Model;
 
-/// The acknowledged positions of each durable subscription of a topic, by its name.
+/// The acknowledged positions of each durable subscription of a topic, by its name. A clone shares its cursors: what is then
+/// applied to one of the two copies those alone that its records name, each once.
 #[derive(Drop)]
 pub struct KeptSubscriptions {
     alloc: Global,
-    cursors: BTreeMap<String, Cursor>,
+    cursors: BTreeMap<String, SharedCursor>,
 }
 
 impl Model for KeptSubscriptions {
@@ -74,11 +76,14 @@ impl KeptSubscriptions {
     pub fn get(&self, name: &str) -> Option<&Cursor>
         ensures { option_copied result ≡ map.get self.now name.now }
     {
-        self.cursors.get(name)
+        match self.cursors.get(name) {
+            Some(shared) => Some(shared.as_cursor()),
+            None => None,
+        }
     }
 
     /// The names and their acknowledged positions, in the order of the names' bytes.
-    pub fn iter(&self) -> Iter<'_, String, Cursor>
+    pub fn iter(&self) -> Iter<'_, String, SharedCursor>
         ensures rest { by_bytes result ≡ map.entries self.now }
         ensures runs { ShowsInOrder (deref_pair {K = Text Heap} {X = Positions}) }
     {
@@ -92,10 +97,10 @@ impl KeptSubscriptions {
         ensures named { IfOk result (λ copies. AllByRecursion (λ c. is_subscription_name c.name ≡ true) copies.items) }
     {
         let mut copies = Vec::new(self.alloc);
-        for (name, cursor) in &self.cursors {
+        for (name, shared) in &self.cursors {
             copies.push(KeptCursor {
                 name: Name::new(self.alloc, name.as_str())?,
-                acked: cursor.clone()?,
+                acked: shared.as_cursor().clone()?,
             })?;
         }
         Ok(copies)
@@ -198,7 +203,7 @@ impl KeptSubscriptions {
 // Puts a subscription there, with all positions below `start` acknowledged.
 fn make(
     alloc: Global,
-    cursors: &mut BTreeMap<String, Cursor>,
+    cursors: &mut BTreeMap<String, SharedCursor>,
     name: &str,
     start: u64,
 ) -> Result<(), AllocError>
@@ -207,38 +212,20 @@ fn make(
     ensures err { OnErr result (cursors.new.entries ≡ cursors.old.entries) }
 {
     let name = String::from_str(alloc, name)?;
-    cursors.insert(name, Cursor::starting_at(alloc, start))?;
+    cursors.insert(name, SharedCursor::starting_at(alloc, start)?)?;
     Ok(())
 }
 
 // Takes a subscription out, where it is there.
-fn remove(cursors: &mut BTreeMap<String, Cursor>, name: &str)
+fn remove(cursors: &mut BTreeMap<String, SharedCursor>, name: &str)
     ensures { map_of cursors.new.entries ≡ map.remove (map_of cursors.old.entries) name.now }
 {
     let _ = cursors.remove(name);
 }
 
-// Acknowledges what a record says.
-fn acknowledge(cursor: &mut Cursor, change: &Record) -> Result<(), AllocError>
-    requires { HasPositions change.now }
-    ensures ok { OnOk result (cursor.new ≡ acknowledged change.now cursor.old) }
-    ensures err { OnErr result (cursor.new ≡ cursor.old) }
-{
-    match change {
-        Record::Made { .. } => Ok(()),
-        Record::Removed { .. } => Ok(()),
-        Record::Acknowledged { position, .. } => cursor.ack(*position),
-        Record::AcknowledgedThrough { position, .. } => {
-            cursor.ack_through(*position);
-            Ok(())
-        }
-        Record::AcknowledgedRange { first, last, .. } => cursor.ack_range(*first, *last),
-    }
-}
-
-// Acknowledges it at a subscription, where that is there.
+// Acknowledges what a record says at its subscription, where that is there.
 fn acknowledge_at(
-    cursors: &mut BTreeMap<String, Cursor>,
+    cursors: &mut BTreeMap<String, SharedCursor>,
     name: &str,
     change: &Record,
 ) -> Result<(), AllocError>
@@ -247,7 +234,7 @@ fn acknowledge_at(
     ensures err { OnErr result (map_of cursors.new.entries ≡ map_of cursors.old.entries) }
 {
     match cursors.get_mut(name) {
-        Some(cursor) => acknowledge(cursor, change),
+        Some(shared) => shared.acknowledge(change),
         None => Ok(()),
     }
 }

@@ -9,6 +9,7 @@ mod name;
 mod name_set;
 mod read;
 mod record;
+mod shared_cursor;
 mod write;
 
 pub use kept::KeptSubscriptions;
@@ -16,4 +17,5 @@ pub use kept_cursor::KeptCursor;
 pub use name::{Name, is_subscription_name};
 pub use read::read_body;
 pub use record::Record;
+pub use shared_cursor::SharedCursor;
 pub use write::{fits, write_records};

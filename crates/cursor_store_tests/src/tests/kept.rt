@@ -2,6 +2,7 @@
 use super::{Change, Kind, record};
 use records::{KeptSubscriptions, Name, is_subscription_name, read_body};
 use std::alloc::{AllocError, Global};
+use std::marker::Send;
 use std::test::Fail;
 
 // Names, and whether they are those of subscriptions.
@@ -154,30 +155,39 @@ fn seen(kept: &KeptSubscriptions) -> Seen {
     (kept.len(), standing(kept, "t"))
 }
 
-// What is kept, behind a removal of `t`, and the clone that was made before it.
-fn beside_a_clone(kept: &mut KeptSubscriptions, alloc: Global) -> Result<(Seen, Seen), AllocError> {
+// What is kept behind a change, and the clone that was made before it.
+fn beside_a_clone(
+    kept: &mut KeptSubscriptions,
+    alloc: Global,
+    change: Change,
+) -> Result<(Seen, Seen), AllocError> {
     let clone = kept.clone()?;
-    let removed = apply(kept, alloc, (Kind::Removed, "t", 0, 0));
+    let applied = apply(kept, alloc, change);
     let both = (seen(kept), seen(&clone));
     drop(clone);
-    if !removed? {
+    if !applied? {
         return Ok(((9, None), (9, None)));
     }
     Ok(both)
 }
 
+// Threads may hand it on, though clones share cursors.
+fn is_sent<S: Send>(kept: S) -> S {
+    kept
+}
+
 // Copies are of each subscription, names are listed in order, and a clone stays as it was.
 #[test]
 fn a_clone_stays(rt: HostRuntime) -> Result<(), Fail> {
-    let mut kept = KeptSubscriptions::new(rt.alloc());
+    let mut kept = is_sent(KeptSubscriptions::new(rt.alloc()));
     let wrong = first_wrong(&mut kept, rt.alloc());
     let before = listed(&kept, rt.alloc(), b"st");
-    let both = beside_a_clone(&mut kept, rt.alloc());
+    let acknowledged = beside_a_clone(&mut kept, rt.alloc(), (Kind::One, "t", 10, 0));
+    let removed = beside_a_clone(&mut kept, rt.alloc(), (Kind::Removed, "t", 0, 0));
     drop(kept);
-    assert_eq!(rt;
-        (wrong?, before?, both?),
-        (None, (true, 2), ((1, None), (2, Some((8, 0)))))
-    );
+    assert_eq!(rt; (wrong?, before?), (None, (true, 2)));
+    assert_eq!(rt; acknowledged?, ((2, Some((8, 1))), (2, Some((8, 0)))));
+    assert_eq!(rt; removed?, ((1, None), (2, Some((8, 1)))));
     Ok(())
 }
 
