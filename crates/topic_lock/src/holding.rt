@@ -1,12 +1,11 @@
 // A topic's lock, as a port holds it.
 ghost use Rattle.std.specs.Prelude.{◌≡◌, ◌+◌, ◌<◌};
 ghost use Rattle.topic_core.specs.Steps.{Fits};
-ghost use Rattle.topic_lock.specs.Counting.{sends_of, receipts_collected};
+ghost use Rattle.topic_lock.specs.Counting.{sends_of};
 
-use crate::counted::{AcceptedTally, CountedTopic, HandedTally};
-use crate::tally::{AcceptedByPorts, HandedByPorts, Tallies};
+use crate::counted::{AcceptedTally, CountedTopic};
+use crate::tally::{AcceptedByPorts, Tallies};
 use bells::{Bells, Marks};
-use commands::Reply;
 use std::sync::ledger::Share;
 use std::sync::{MutexGuard, Wait};
 use topic_core::{Answer, TopicCommand};
@@ -66,22 +65,6 @@ impl<'t, K: Tallies> Hold<'t, K> {
             *is_first = true;
         }
         answer
-    }
-
-    /// The session's first due reply.
-    pub(crate) fn collect<R: Wait>(
-        &mut self,
-        rt: &R,
-        tally: &HandedTally<K>,
-        port: &mut Share<HandedByPorts<K>>,
-        who: u64,
-    ) -> Option<Reply>
-        requires { 0 < port.old.parts }
-        ensures counted { port.new.amount ≡ port.old.amount + receipts_collected result }
-        ensures parts { port.new.parts ≡ port.old.parts }
-    {
-        let Hold { topic, .. } = self;
-        topic.collect(rt, tally, port, who)
     }
 
     /// Lets the lock go, and wakes the topic's flusher where it is first owed something, the next reader that waits for room where

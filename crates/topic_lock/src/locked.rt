@@ -25,8 +25,7 @@ use std::sync::ledger::Share;
 use topic_core::{Answer, Outgoing, ReadError, TooManyPermits, TopicCommand, TopicStore};
 
 /// A port over the topics' locks, with shares of what all ports were told. It knows the topics that were there when it last looked.
-/// In a turn it keeps the lock of the topic that worked a command or gave a reply for those that follow, until it is asked for anything
-/// else.
+/// In a turn it keeps the lock of the topic that worked a command for those that follow, until it is asked for anything else.
 #[derive(Drop)]
 pub struct LockedPort<'p, 'a, T: TopicStore, S: Shelf + Drop, K: Tallies, R: Wait> {
     rt: &'p R,
@@ -327,16 +326,18 @@ impl<'p, 'a, T: TopicStore, S: Shelf + Drop, K: Tallies, R: Wait> Port
         ensures accepted { self.new.accepted.amount ≡ self.old.accepted.amount }
         ensures handed { self.new.handed.amount ≡ self.old.handed.amount + receipts_collected result }
     {
-        let mut hold = self.hold(topic, None);
+        self.let_go();
+        let shared = self.topic(topic);
         let LockedPort {
             rt,
             broker,
             handed,
             ..
         } = self;
-        let reply = hold.collect(*rt, &broker.totals.handed, handed, who);
-        self.keep(hold);
-        reply
+        shared
+            .topic
+            .lock(*rt)
+            .collect(*rt, &broker.totals.handed, handed, who)
     }
 
     fn leave(&mut self, topic: u64, who: u64) {
