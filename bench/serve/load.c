@@ -1,22 +1,25 @@
-/* A load on a served broker: producers that keep so many SENDs under way each, and consumers that acknowledge; in one thread, over one epoll.
+/* A load on a served broker: producers that keep so many SENDs under way each, and consumers that acknowledge; in so many threads, each with the
+   connections whose numbers fall to it and an epoll of its own.
 
    Usage: load HOST:PORT [--connections N] [--outstanding N] [--bytes N] [--topics N] [--consumers N] [--type exclusive|failover|shared]
-               [--permits N] [--acks N] [--seconds S] [--warmup S] [--messages N] [--redis 1 | --rabbit 1]
+               [--permits N] [--acks N] [--seconds S] [--warmup S] [--messages N] [--threads N] [--redis 1 | --rabbit 1]
 
    Producer i publishes on topic i modulo the topics, entries with a payload of so many bytes. Consumer j is of topic j modulo the topics: on one
    subscription, or, where the type is exclusive, on one of its own, from the first entry on; it acknowledges in frames of so many message ids, each of
    which is answered. What is counted comes in the seconds behind the warm-up, once all producers and consumers are there; then what is under way is
-   waited for. With --messages all is counted from the start, up to that many messages. With --redis 1 each message is an XADD to a stream of its
+   waited for. With --messages all is counted from the start, up to that many messages, in one thread. With --redis 1 each message is an XADD to a stream of its
    topic's number; with --rabbit 1 each is a persistent one to a durable quorum queue of its topic's number, and its confirm is its receipt. There are
    no consumers with these.
 
    Prints one line of JSON: counts, the times from a SEND to its receipt and from a SEND to its message at 50, 99 and 99.9 per cent, in
-   microseconds, and which part of one processor the load took itself. */
+   microseconds, and how many processors the load took itself. */
 #define _GNU_SOURCE
 #include <arpa/inet.h>
 #include <errno.h>
 #include <fcntl.h>
 #include <netinet/tcp.h>
+#include <pthread.h>
+#include <stdatomic.h>
 #include <stdarg.h>
 #include <sys/epoll.h>
 #include <sys/resource.h>
@@ -31,14 +34,14 @@ enum { PIECE = 1 << 18, MOST_OUT = 1 << 18, EVENTS = 256, EXCLUSIVE = 0, SHARED 
 
 static struct {
     const char *address;
-    unsigned connections, outstanding, bytes, topics, consumers, type, permits, acks;
+    unsigned connections, outstanding, bytes, topics, consumers, type, permits, acks, threads;
     double seconds, warmup;
     uint64_t messages;
     int redis, rabbit;
-} options = {.connections = 1, .outstanding = 1, .bytes = 100, .topics = 1, .permits = 1000, .acks = 1, .seconds = 5, .warmup = 0.5};
+} options = {.connections = 1, .outstanding = 1, .bytes = 100, .topics = 1, .permits = 1000, .acks = 1, .threads = 1, .seconds = 5, .warmup = 0.5};
 
 enum phase { SETUP, WARMUP, MEASURED, LAST };
-static enum phase phase = SETUP;
+static _Thread_local enum phase phase = SETUP;
 
 struct message_id {
     uint64_t ledger, entry;
@@ -56,15 +59,17 @@ struct connection {
 };
 
 static struct connection *all;
-static uint64_t *topic_receipts;
-static unsigned count, ready;
-static int epoll;
-static unsigned char *payload;
-static struct buffer fields; /* of the command that is being written */
+static unsigned count;
+static atomic_uint ready;
+static _Thread_local unsigned thread; /* this one's number: it has each connection whose number is that, modulo the threads */
+static _Thread_local uint64_t *topic_receipts;
+static _Thread_local int epoll;
+static _Thread_local unsigned char *payload;
+static _Thread_local struct buffer fields; /* of the command that is being written */
 
 /* Counts and times */
 
-static struct counts {
+static _Thread_local struct counts {
     uint64_t sent, receipts, messages, acknowledgements, errors;
 } counted;
 
@@ -73,7 +78,7 @@ enum { PLACES = 32 * 60 };
 struct histogram {
     uint64_t of[PLACES], all;
 };
-static struct histogram receipt_times, message_times;
+static _Thread_local struct histogram receipt_times, message_times;
 
 static uint64_t nanoseconds(void) {
     struct timespec it;
@@ -146,7 +151,7 @@ static void greet(struct connection *it) {
 }
 
 static void put_send(struct connection *it, uint64_t now) {
-    static struct buffer metadata;
+    static _Thread_local struct buffer metadata;
     metadata.start = metadata.end = 0;
     put_text(&metadata, 1, "load", 4);
     put_number(&metadata, 2, it->sent);
@@ -204,7 +209,7 @@ static void acknowledge(struct connection *it) {
     put_number(&fields, 1, ID);
     put_number(&fields, 2, 0);
     for (unsigned n = 0; n < it->id_count; n++) {
-        static struct buffer id;
+        static _Thread_local struct buffer id;
         id.start = id.end = 0;
         put_number(&id, 1, it->ids[n].ledger);
         put_number(&id, 2, it->ids[n].entry);
@@ -392,14 +397,14 @@ static void turn_until(uint64_t end) {
 }
 
 static int is_any_under_way(void) {
-    for (unsigned n = 0; n < count; n++)
+    for (unsigned n = thread; n < count; n += options.threads)
         if (all[n].sent != all[n].received) return 1;
     return 0;
 }
 
 static void begin(enum phase next) {
     phase = next;
-    for (unsigned n = 0; n < count; n++) {
+    for (unsigned n = thread; n < count; n += options.threads) {
         publish(&all[n], nanoseconds());
         flush(&all[n]);
     }
@@ -437,7 +442,7 @@ static void open_connection(struct connection *it, unsigned number) {
 
 static double processor_seconds(void) {
     struct rusage used;
-    getrusage(RUSAGE_SELF, &used);
+    getrusage(RUSAGE_THREAD, &used);
     return used.ru_utime.tv_sec + used.ru_stime.tv_sec + (used.ru_utime.tv_usec + used.ru_stime.tv_usec) / 1e6;
 }
 
@@ -445,7 +450,51 @@ static void print_times(const char *name, const struct histogram *it) {
     printf("\"%s\": [%.0f, %.0f, %.0f], ", name, time_below(it, 0.5), time_below(it, 0.99), time_below(it, 0.999));
 }
 
-static void run(void) {
+/* What all threads counted. */
+static struct {
+    pthread_mutex_t lock;
+    struct counts measured, whole;
+    struct histogram receipt_times, message_times;
+    uint64_t *topic_receipts;
+    double took, processors;
+} together = {.lock = PTHREAD_MUTEX_INITIALIZER};
+
+static void add_times(struct histogram *to, const struct histogram *it) {
+    for (unsigned place = 0; place < PLACES; place++) to->of[place] += it->of[place];
+    to->all += it->all;
+}
+
+static void add_counts(struct counts *to, const struct counts *it, const struct counts *without) {
+    to->sent += it->sent - without->sent;
+    to->receipts += it->receipts - without->receipts;
+    to->messages += it->messages - without->messages;
+    to->acknowledgements += it->acknowledgements - without->acknowledgements;
+    to->errors += it->errors - without->errors;
+}
+
+static void add(double took, double processors, const struct counts *before, const struct counts *behind) {
+    static const struct counts none;
+    pthread_mutex_lock(&together.lock);
+    add_counts(&together.measured, behind, before);
+    add_counts(&together.whole, &counted, &none);
+    add_times(&together.receipt_times, &receipt_times);
+    add_times(&together.message_times, &message_times);
+    for (unsigned n = 0; n < options.topics; n++) together.topic_receipts[n] += topic_receipts[n];
+    together.took += took / options.threads;
+    together.processors += processors;
+    pthread_mutex_unlock(&together.lock);
+}
+
+/* One thread's part. */
+static void *work(void *number) {
+    thread = (unsigned)(uintptr_t)number;
+    payload = malloc(options.bytes);
+    epoll = epoll_create1(0);
+    topic_receipts = calloc(options.topics, sizeof *topic_receipts);
+    if (!payload || !topic_receipts || epoll < 0) fail("no memory");
+    memset(payload, 'x', options.bytes);
+    for (unsigned n = thread; n < count; n += options.threads) open_connection(&all[n], n);
+    begin(SETUP);
     uint64_t began = nanoseconds();
     struct counts before = counted;
     double used = processor_seconds();
@@ -459,18 +508,31 @@ static void run(void) {
     }
     phase = MEASURED;
     turn_until(began + options.seconds * 1e9);
-    double took = (nanoseconds() - began) / 1e9, part = (processor_seconds() - used) / took;
-    struct counts now = counted;
+    double took = (nanoseconds() - began) / 1e9, processors = (processor_seconds() - used) / took;
+    struct counts behind = counted;
     phase = LAST;
     for (uint64_t end = nanoseconds() + LAST_WAIT * 1000000000ull; is_any_under_way() && nanoseconds() < end;) turn();
-    printf("{\"seconds\": %.3f, \"receipts\": %llu, \"messages\": %llu, \"acknowledgements\": %llu, ", took, (unsigned long long)(now.receipts - before.receipts),
-           (unsigned long long)(now.messages - before.messages), (unsigned long long)(now.acknowledgements - before.acknowledgements));
-    print_times("receipt_times", &receipt_times);
-    print_times("message_times", &message_times);
+    add(took, processors, &before, &behind);
+    return NULL;
+}
+
+static void run(void) {
+    pthread_t threads[options.threads];
+    for (unsigned n = 0; n < options.threads; n++)
+        if (pthread_create(&threads[n], NULL, work, (void *)(uintptr_t)n)) fail("no thread");
+    for (unsigned n = 0; n < options.threads; n++) pthread_join(threads[n], NULL);
+}
+
+static void print_all(void) {
+    const struct counts *it = &together.measured, *whole = &together.whole;
+    printf("{\"seconds\": %.3f, \"receipts\": %llu, \"messages\": %llu, \"acknowledgements\": %llu, ", together.took, (unsigned long long)it->receipts,
+           (unsigned long long)it->messages, (unsigned long long)it->acknowledgements);
+    print_times("receipt_times", &together.receipt_times);
+    print_times("message_times", &together.message_times);
     fputs("\"topic_receipts\": [", stdout);
-    for (unsigned n = 0; n < options.topics; n++) printf("%s%llu", n ? ", " : "", (unsigned long long)topic_receipts[n]);
-    printf("], \"errors\": %llu, \"unanswered\": %llu, \"all_receipts\": %llu, \"processor\": %.2f}\n", (unsigned long long)counted.errors,
-           (unsigned long long)(counted.sent - counted.receipts - counted.errors), (unsigned long long)counted.receipts, part);
+    for (unsigned n = 0; n < options.topics; n++) printf("%s%llu", n ? ", " : "", (unsigned long long)together.topic_receipts[n]);
+    printf("], \"errors\": %llu, \"unanswered\": %llu, \"all_receipts\": %llu, \"processor\": %.2f}\n", (unsigned long long)whole->errors,
+           (unsigned long long)(whole->sent - whole->receipts - whole->errors), (unsigned long long)whole->receipts, together.processors);
 }
 
 /* Options */
@@ -501,6 +563,7 @@ static void take_option(const char *name, const char *value) {
     else if (!strcmp(name, "--redis")) options.redis = whole(value, 0) != 0;
     else if (!strcmp(name, "--rabbit")) options.rabbit = whole(value, 0) != 0;
     else if (!strcmp(name, "--messages")) options.messages = whole(value, 1);
+    else if (!strcmp(name, "--threads")) options.threads = whole(value, 1);
     else if (!strcmp(name, "--seconds")) options.seconds = atof(value);
     else if (!strcmp(name, "--warmup")) options.warmup = atof(value);
     else fail("no such option: %s", name);
@@ -515,19 +578,16 @@ static void take_options(int words, char **word) {
     }
     if ((options.redis || options.rabbit) && options.consumers) fail("no consumers with --redis or --rabbit");
     if (options.redis && options.rabbit) fail("--redis or --rabbit, not both");
+    if (options.messages || options.threads > options.connections + options.consumers) options.threads = 1;
 }
 
 int main(int words, char **word) {
     take_options(words, word);
     count = options.connections + options.consumers;
     all = calloc(count, sizeof *all);
-    payload = malloc(options.bytes);
-    epoll = epoll_create1(0);
-    topic_receipts = calloc(options.topics, sizeof *topic_receipts);
-    if (!all || !payload || !topic_receipts || epoll < 0) fail("no memory");
-    memset(payload, 'x', options.bytes);
-    for (unsigned n = 0; n < count; n++) open_connection(&all[n], n);
-    begin(SETUP);
+    together.topic_receipts = calloc(options.topics, sizeof *together.topic_receipts);
+    if (!all || !together.topic_receipts) fail("no memory");
     run();
+    print_all();
     return 0;
 }

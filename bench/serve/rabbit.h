@@ -36,7 +36,7 @@ static inline void put_frame(struct buffer *out, unsigned kind, unsigned channel
 }
 
 static inline void put_method(struct buffer *out, unsigned channel, unsigned method, const void *arguments, size_t size) {
-    static struct buffer content;
+    static _Thread_local struct buffer content;
     content.start = content.end = 0;
     put_size(&content, method);
     put(&content, arguments, size);
@@ -50,7 +50,7 @@ static inline void put_name(struct buffer *out, const char *name) {
 }
 
 static inline void put_declare(struct buffer *out, const char *queue) {
-    static struct buffer arguments;
+    static _Thread_local struct buffer arguments;
     arguments.start = arguments.end = 0;
     put(&arguments, BYTES("\0\0"));
     put_name(&arguments, queue);
@@ -60,7 +60,7 @@ static inline void put_declare(struct buffer *out, const char *queue) {
 
 /* A persistent message to a queue, by the exchange that has no name. */
 static inline void put_publish(struct buffer *out, const char *queue, const unsigned char *payload, size_t size) {
-    static struct buffer content;
+    static _Thread_local struct buffer content;
     content.start = content.end = 0;
     put(&content, BYTES("\0\0\0"));
     put_name(&content, queue);

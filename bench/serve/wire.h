@@ -68,7 +68,7 @@ static inline void put_text(struct buffer *out, unsigned field, const void *byte
 
 /* A frame with the command of this type, whose fields are given, up to the entry, of which the size is given. */
 static inline void put_command(struct buffer *out, unsigned type, struct buffer *fields, size_t entry) {
-    static struct buffer command;
+    static _Thread_local struct buffer command;
     command.start = command.end = 0;
     put_number(&command, 1, type);
     put_text(&command, type, fields->bytes, fields->end);
