@@ -7,25 +7,7 @@ use folder::Folder;
 use std::alloc::{AllocError, Global};
 use std::fs::File;
 use std::rt::Files;
-use std::sync::OnceLock;
-use topic_core::FileStores;
-use topic_lock::{Place, Spare, Tallies, TopicParts};
-
-/// How many topics there are at most.
-const TOPICS: u8 = 64;
-
-/// The places of all topics.
-pub(crate) fn places<S: Shelf + Drop, K: Tallies>(
-    alloc: Global,
-) -> Result<Vec<Place<FileStores, S, K>>, AllocError>
-    ensures { IfOk result (λ places. length places.items ≡ 64) }
-{
-    let mut places = Vec::new(alloc);
-    for _ in 0..TOPICS {
-        places.push(OnceLock::new())?;
-    }
-    Ok(places)
-}
+use topic_lock::{Spare, Tallies, TopicParts};
 
 /// What is kept for topics that aren't there yet, each with a device of its own over the folder.
 pub(crate) fn spares<'r, K: Tallies, R: AllocGlobal + Files<File = File>>(

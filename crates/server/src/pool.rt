@@ -1,4 +1,6 @@
 // The places of connections that are free.
+ghost use Rattle.std.specs.Prelude.{◌≡◌, ◌<◌, ◌++◌, [], ◌∷◌, vec_len, vec_capacity, IfSome, IfNone};
+
 use std::alloc::{AllocError, Global};
 use topic_lock::{PortShares, Tallies};
 
@@ -34,14 +36,21 @@ impl<K: Tallies> Pool<K> {
         Ok(Pool { free })
     }
 
-    /// A place that is free, which is then taken.
-    pub fn take(&mut self) -> Option<Free<K>> {
+    /// A place that is free, which is then taken. There is room for it to come back.
+    pub fn take(&mut self) -> Option<Free<K>>
+        ensures some { IfSome result (λ free. self.old.free.items ≡ self.new.free.items ++ free ∷ []) }
+        ensures none { IfNone result (self.old.free.items ≡ []) }
+        ensures room { IfSome result (λ free. vec_len self.new.free < vec_capacity self.new.free) }
+    {
         self.free.pop()
     }
 
-    /// A place is free again.
-    pub fn give(&mut self, free: Free<K>) {
-        // It has room: the place was taken from here.
-        let _ = self.free.push(free);
+    /// A place is free again, where there is room for it: as one that was taken from here finds.
+    pub fn give(&mut self, free: Free<K>)
+        ensures back { vec_len self.old.free < vec_capacity self.old.free → self.new.free.items ≡ self.old.free.items ++ free ∷ [] }
+    {
+        if self.free.len() < self.free.capacity() {
+            self.free.push_reserved(free);
+        }
     }
 }

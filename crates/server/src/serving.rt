@@ -3,7 +3,7 @@ ghost use Rattle.std.specs.Prelude.{◌≡◌, length};
 ghost use Rattle.topic_lock.specs.Ledgers.{IsOf};
 
 use crate::fault::ServeFault;
-use crate::parts::{places, spares};
+use crate::parts::spares;
 use crate::pool::Pool;
 use crate::threads::{Hall, serve_connections};
 use commands::ReplyText;
@@ -19,7 +19,9 @@ use std::sync::atomic::AtomicBool;
 use std::sync::{Mutex, Wait};
 use std::thread::Threads;
 use topic_core::FileStores;
-use topic_lock::{Blanks, Flusher, Ledgers, PortShares, SharedBroker, Spare, Tallies, Totals};
+use topic_lock::{
+    Blanks, Flusher, Ledgers, PortShares, SharedBroker, Spare, Tallies, Totals, empty_places,
+};
 
 /// The ports of 256 connections, two for each.
 const PORTS: u32 = 512;
@@ -89,7 +91,7 @@ where
 {
     let url = service_url(alloc, address)?;
     let pool = Mutex::new(Pool::new(alloc, ports)?);
-    let places = places::<S, K>(alloc)?;
+    let places = empty_places::<FileStores, S, K>(alloc)?;
     let places = places.as_slice();
     let broker = SharedBroker::open(rt, alloc, url, shelf, places, spares, totals)?;
     let hall = Hall {

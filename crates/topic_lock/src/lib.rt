@@ -35,7 +35,7 @@ pub use fault::FlushFault;
 pub use ledgers::{Blanks, Ledgers, Totals};
 pub use locked::LockedPort;
 pub use parts::{PortShares, TopicParts};
-pub use places::{Known, LockedTopic, Place, SharedTopic};
+pub use places::{Known, LockedTopic, Place, SharedTopic, empty_places};
 pub use resting::RestingPort;
 pub use stores::CountedStores;
 pub use tally::{AcceptedByPorts, AcceptedByTopics, HandedByPorts, HandedByTopics, Tallies, Tally};

@@ -1,10 +1,11 @@
 // A topic that is there, as threads share it.
-ghost use Rattle.std.specs.Prelude.{◌≡◌};
+ghost use Rattle.std.specs.Prelude.{◌≡◌, IfOk, length};
 
 use crate::counted::CountedTopic;
 use crate::stores::CountedStores;
 use crate::tally::Tallies;
 use disk::Shelf;
+use std::alloc::{AllocError, Global};
 use std::sync::{Mutex, OnceLock, OnceToken};
 use topic_core::TopicStore;
 
@@ -20,6 +21,22 @@ pub struct SharedTopic<T: TopicStore, S: Shelf + Drop, K: Tallies> {
 
 /// The place of a topic's number, which is filled once: when the topic is opened or made.
 pub type Place<T, S, K> = OnceLock<SharedTopic<T, S, K>>;
+
+/// How many topics there are at most. Our own rule.
+const TOPICS: u8 = 64;
+
+/// The places of all topics, none of which is there yet.
+pub fn empty_places<T: TopicStore, S: Shelf + Drop, K: Tallies>(
+    alloc: Global,
+) -> Result<Vec<Place<T, S, K>>, AllocError>
+    ensures { IfOk result (λ places. length places.items ≡ 64) }
+{
+    let mut places = Vec::new(alloc);
+    for _ in 0..TOPICS {
+        places.push(OnceLock::new())?;
+    }
+    Ok(places)
+}
 
 /// A place that is known to be filled.
 #[derive(Drop)]

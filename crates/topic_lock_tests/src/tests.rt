@@ -12,13 +12,11 @@ use gated_log::Refusal;
 use names::TopicName;
 use session::{Found, Port};
 use std::alloc::{AllocError, Global};
+use std::sync::Wait;
 use std::sync::atomic::{AtomicBool, Ordering};
-use std::sync::{OnceLock, Wait};
 use std::thread;
 use topic_core::{Answer, FileStores, PlainEntry, Send, SentEntry, TopicCommand};
-use topic_lock::{
-    FlushFault, Flusher, Place, SharedBroker, SharedTopic, Spare, Tallies, TopicParts, Totals,
-};
+use topic_lock::{FlushFault, Flusher, Place, SharedBroker, Spare, Tallies, TopicParts, Totals};
 
 // How long a thread waits for another one, in turns.
 const TURNS: u32 = 100_000;
@@ -36,17 +34,6 @@ fn catalog_shelf(alloc: Global) -> Result<MemShelf, Refusal> {
     let mut shelf = MemShelf::new(alloc);
     drop(Catalog::create(alloc, &mut shelf, entries)?);
     Ok(shelf)
-}
-
-// The places of all topics.
-fn places<K: Tallies>(alloc: Global) -> Result<Vec<Place<FileStores, MemShelf, K>>, AllocError>
-    ensures { IfOk result (λ places. length places.items ≡ 64) }
-{
-    let mut places = Vec::new(alloc);
-    for _ in 0..64u32 {
-        places.push(OnceLock::new())?;
-    }
-    Ok(places)
 }
 
 // What is kept for topics that aren't there yet.
@@ -140,13 +127,19 @@ fn send(alloc: Global, sequence_id: u64) -> Result<TopicCommand, AllocError> {
     }))
 }
 
-// A flush of the topic, as its flusher makes it. Where it commits nothing since memory was refused or the device failed, so it says.
-fn flush<'a, K: Tallies, R: Wait>(
+// A flush of the first topic, once it is there, as its flusher makes it. Where it commits nothing since memory was refused or the device
+// failed, so it says.
+fn flush_first<'a, K: Tallies, R: Wait>(
     rt: &R,
     broker: &SharedBroker<'a, FileStores, MemShelf, K>,
-    shared: &SharedTopic<FileStores, MemShelf, K>,
     flusher: Flusher<K>,
 ) -> Result<Flusher<K>, Refusal> {
+    let Some(place) = broker.places.first() else {
+        return Ok(flusher);
+    };
+    let Some(shared) = place.get() else {
+        return Ok(flusher);
+    };
     match shared.flush(rt, &broker.totals.durable, &broker.bells, flusher) {
         Ok((flusher, Ok(_))) => Ok(flusher),
         Ok((_, Err(FlushFault::NoMemory))) => Err(Refusal::NoMemory),

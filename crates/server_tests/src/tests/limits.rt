@@ -13,12 +13,12 @@ use std::io::{Read, Write};
 use std::marker::Brand;
 use std::net::{Net, SocketAddr, TcpListener, TcpStream};
 use std::sync::atomic::AtomicBool;
-use std::sync::{Mutex, OnceLock, Wait};
+use std::sync::{Mutex, Wait};
 use std::test::Fail;
 use std::thread::Threads;
 use std::{io, thread};
 use topic_core::FileStores;
-use topic_lock::{Blanks, Ledgers, Place, SharedBroker, Spare, Tallies, TopicParts};
+use topic_lock::{Blanks, Ledgers, SharedBroker, Spare, Tallies, TopicParts, empty_places};
 
 // So many connections the client makes in all.
 const CONNECTIONS: u64 = 100;
@@ -63,17 +63,6 @@ fn catalog_shelf(alloc: Global) -> Result<MemShelf, Refusal> {
     let mut shelf = MemShelf::new(alloc);
     drop(Catalog::create(alloc, &mut shelf, entries)?);
     Ok(shelf)
-}
-
-// The places of all topics.
-fn places<K: Tallies>(alloc: Global) -> Result<Vec<Place<FileStores, MemShelf, K>>, AllocError>
-    ensures { IfOk result (λ places. length places.items ≡ 64) }
-{
-    let mut places = Vec::new(alloc);
-    for _ in 0..64u32 {
-        places.push(OnceLock::new())?;
-    }
-    Ok(places)
 }
 
 // What is kept for topics that aren't there yet.
@@ -176,7 +165,7 @@ where
     let url = ReplyText::new(String::from_str(alloc, "pulsar://test")?);
     let (shelf, spares) = (catalog_shelf(alloc)?, spares(alloc, topics)?);
     let pool = Mutex::new(Pool::new(alloc, ports)?);
-    let places = places::<K>(alloc)?;
+    let places = empty_places::<FileStores, MemShelf, K>(alloc)?;
     let places = places.as_slice();
     let hall = Hall {
         broker: SharedBroker::open(rt, alloc, url, shelf, places, spares, totals)?,

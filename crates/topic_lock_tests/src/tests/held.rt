@@ -2,7 +2,7 @@
 ghost use Rattle.std.specs.Prelude.{◌≡◌};
 ghost use Rattle.topic_lock.specs.Ledgers.{IsOf};
 
-use super::{new_broker, places, publishes, send, waits_for};
+use super::{new_broker, publishes, send, waits_for};
 use disk_mem::MemShelf;
 use gated_log::Refusal;
 use session::Port;
@@ -16,7 +16,7 @@ use std::thread::Threads;
 use topic_core::{Answer, FileStores};
 use topic_lock::{
     Blanks, DurableTally, FlushFault, Flusher, Ledgers, RestingPort, Seat, SharedBroker,
-    SharedTopic, Tallies,
+    SharedTopic, Tallies, empty_places,
 };
 
 // A port over topics in memory, at rest.
@@ -124,7 +124,7 @@ fn run<K: Tallies + Send + Sync, R: Threads + Wait + Sync>(
         mut flushers,
         mut ports,
     } = Ledgers::<K>::open(alloc, blanks, 2)?;
-    let places = places(alloc)?;
+    let places = empty_places(alloc)?;
     let broker = new_broker(rt, alloc, places.as_slice(), totals, topics)?;
     let (Some(one), Some(other), Some(flusher)) = (ports.pop(), ports.pop(), flushers.pop()) else {
         unreachable!();

@@ -4,7 +4,7 @@ mod waiting_port;
 
 ghost use Rattle.topic_lock.specs.Ledgers.{IsOf};
 
-use super::{TURNS, flush, new_broker, places, publishes, send};
+use super::{TURNS, flush_first, new_broker, publishes, send};
 use commands::Reply;
 use disk_mem::MemShelf;
 use gated_log::Refusal;
@@ -17,7 +17,9 @@ use std::test::Fail;
 use std::thread;
 use std::thread::Threads;
 use topic_core::{Answer, FileStores};
-use topic_lock::{Blanks, Flusher, Ledgers, RestingPort, Seat, SharedBroker, Tallies};
+use topic_lock::{
+    Blanks, Flusher, Ledgers, RestingPort, Seat, SharedBroker, Tallies, empty_places,
+};
 
 // How many entries each session sends.
 const SENDS: u64 = 50;
@@ -117,7 +119,7 @@ fn run<K: Tallies + Send + Sync, R: Threads + Wait + Sync>(
         mut flushers,
         mut ports,
     } = Ledgers::<K>::open(alloc, blanks, 2)?;
-    let places = places(alloc)?;
+    let places = empty_places(alloc)?;
     let broker = new_broker(rt, alloc, places.as_slice(), totals, topics)?;
     let (Some(one), Some(other), Some(flusher)) = (ports.pop(), ports.pop(), flushers.pop()) else {
         unreachable!();
@@ -148,13 +150,7 @@ fn flush_while<'a, K: Tallies, R: Wait>(
             break;
         }
         thread::yield_now();
-        let Some(place) = broker.places.first() else {
-            continue;
-        };
-        let Some(shared) = place.get() else {
-            continue;
-        };
-        idle = flush(rt, broker, shared, idle)?;
+        idle = flush_first(rt, broker, idle)?;
     }
     Ok(())
 }

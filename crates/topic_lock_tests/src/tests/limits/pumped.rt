@@ -2,7 +2,7 @@
 ghost use Rattle.std.specs.Prelude.{◌≡◌};
 ghost use Rattle.topic_lock.specs.Ledgers.{IsOf};
 
-use super::super::{TURNS, flush, new_broker, places, waits_for};
+use super::super::{TURNS, flush_first, new_broker, waits_for};
 use super::waiting_port::WaitingPort;
 use disk_mem::MemShelf;
 use gated_log::Refusal;
@@ -15,7 +15,9 @@ use std::test::Fail;
 use std::thread;
 use std::thread::Threads;
 use topic_core::FileStores;
-use topic_lock::{Blanks, Flusher, Ledgers, RestingPort, Seat, SharedBroker, Tallies, Turns};
+use topic_lock::{
+    Blanks, Flusher, Ledgers, RestingPort, Seat, SharedBroker, Tallies, Turns, empty_places,
+};
 
 const CONNECT: &[u8] = b"\0\0\0\x0d\0\0\0\x09\x08\x02\x12\x05\x0a\x01c\x20\x05";
 
@@ -145,13 +147,7 @@ fn flush_while<'a, K: Tallies, R: Wait>(
             break;
         }
         thread::yield_now();
-        let Some(place) = broker.places.first() else {
-            continue;
-        };
-        let Some(shared) = place.get() else {
-            continue;
-        };
-        idle = flush(rt, broker, shared, idle)?;
+        idle = flush_first(rt, broker, idle)?;
     }
     Ok(())
 }
@@ -194,7 +190,7 @@ fn run<K: Tallies + Send + Sync, R: Threads + Wait + Sync>(
         mut flushers,
         mut ports,
     } = Ledgers::<K>::open(alloc, blanks, 2)?;
-    let places = places(alloc)?;
+    let places = empty_places(alloc)?;
     let broker = new_broker(rt, alloc, places.as_slice(), totals, topics)?;
     let (Some(one), Some(other), Some(flusher)) = (ports.pop(), ports.pop(), flushers.pop()) else {
         unreachable!();
