@@ -1,7 +1,7 @@
 // What the threads of connections and the flushers sleep on.
 use crate::marks::Marks;
 use std::alloc::{AllocError, Global};
-use std::sync::Wait;
+use std::sync::{Mutex, Wait};
 use std::thread::Parker;
 use std::time::Duration;
 
@@ -21,11 +21,15 @@ struct Pair {
     writer: Parker,
 }
 
-/// What threads sleep on: those of connections by the places of these, and flushers by the numbers of their topics.
+/// What threads sleep on: those of connections by the places of these, flushers by the numbers of their topics, and the ringer, who
+/// wakes writers for the flushers.
 #[derive(Drop)]
 pub struct Bells {
     pairs: Vec<Pair>,
     flushers: Vec<Parker>,
+    ringer: Parker,
+    /// Whom the ringer is to wake.
+    asked: Mutex<Marks>,
 }
 
 impl Bells {
@@ -33,6 +37,8 @@ impl Bells {
         Ok(Bells {
             pairs: pairs(alloc)?,
             flushers: flushers(alloc)?,
+            ringer: Parker::new(),
+            asked: Mutex::new(Marks::new()),
         })
     }
 
@@ -94,6 +100,55 @@ impl Bells {
             }
         }
     }
+
+    /// Wakes the first of the writers of these places, and has the ringer wake the others: to wake many takes as long as a write.
+    pub fn ring_by_another<R: Wait>(&self, rt: &R, marks: &Marks) {
+        let Some(first) = first_of(marks) else {
+            return;
+        };
+        self.ring_writer(first);
+        if self.ask(rt, marks, first) {
+            self.ringer.unpark();
+        }
+    }
+
+    /// Asks the ringer to wake the writers behind a place, and answers whether there is any.
+    fn ask<R: Wait>(&self, rt: &R, marks: &Marks, first: u8) -> bool {
+        let mut asked = self.asked.lock(rt);
+        let mut any = false;
+        for place in first..=u8::MAX {
+            if place != first && marks.has(place) {
+                asked.add(place);
+                any = true;
+            }
+        }
+        any
+    }
+
+    /// The ringer's turn: sleeps until it is asked or woken, and wakes whom it is asked to.
+    pub fn ring_asked<R: Wait>(&self, rt: &R) {
+        self.ringer.park(rt);
+        let asked = self.asked.lock(rt).take();
+        self.ring_all(&asked);
+    }
+
+    /// Wakes the ringer, who may have to end.
+    pub fn wake_ringer(&self) {
+        self.ringer.unpark();
+    }
+}
+
+/// The first place that is marked.
+fn first_of(marks: &Marks) -> Option<u8> {
+    if marks.is_empty() {
+        return None;
+    }
+    for place in 0..=u8::MAX {
+        if marks.has(place) {
+            return Some(place);
+        }
+    }
+    None
 }
 
 fn pairs(alloc: Global) -> Result<Vec<Pair>, AllocError> {

@@ -1,4 +1,5 @@
-//! The broker as a program. A replay reads a whole script before it works the first line, and writes a line for each
+//! The broker as a program: it makes, serves and inspects a node's folder, of which `folder` and `server` say what holds, and it
+//! replays scripts over a device in memory. A replay reads a whole script before it works the first line, and writes a line for each
 //! line of the script, in order and by a run of the broker: all of them where it ends well, otherwise a front of them. A
 //! bad script is answered by the number of its first bad line, and nothing is written.
 #![tactic(auto)]

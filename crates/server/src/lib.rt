@@ -1,5 +1,5 @@
-//! A broker's server: it opens a node's folder, and serves what connects, with a reader's and a writer's thread for each connection
-//! and a flusher's for each topic. What a client is told is what the ports over the topics' locks answer, in the order of the
+//! A broker's server: it opens a node's folder, and serves what connects, with a reader's and a writer's thread for each connection,
+//! a flusher's for each topic, and one that wakes writers for the flushers. What a client is told is what the ports over the topics' locks answer, in the order of the
 //! loops; the counts of all ports and topics are cut before any thread starts. At most 256 connections are served at a time.
 #![tactic(auto)]
 

@@ -52,11 +52,13 @@ where
         for topic in 0..TOPICS {
             is_well = is_well && scope.spawn(move || flush(rt, hall, topic)).is_ok();
         }
+        is_well = is_well && scope.spawn(move || ring(rt, hall)).is_ok();
         if is_well {
             serve_arrivals(rt, alloc, listener, hall, connections);
         }
         hall.stop.store(true, Ordering::SeqCst);
         ring_flushers(&hall.broker.bells);
+        hall.broker.bells.wake_ringer();
         if is_well {
             Ok(())
         } else {
@@ -77,6 +79,16 @@ fn flush<'a, T: TopicStore, S: Shelf + Drop, K: Tallies, R: Wait + Log>(
     };
     let gate = FlusherGate::new(rt, &hall.broker.bells, &hall.stop);
     let _ = flush_loop(rt, topic, &gate, &hall.broker, flusher);
+}
+
+// The ringer's thread: it wakes writers for the flushers.
+fn ring<'a, T: TopicStore, S: Shelf + Drop, K: Tallies, R: Wait>(rt: &R, hall: &Hall<'a, T, S, K>) {
+    for _ in rt.forever() {
+        if hall.stop.load(Ordering::SeqCst) {
+            return;
+        }
+        hall.broker.bells.ring_asked(rt);
+    }
 }
 
 // Wakes all flushers.

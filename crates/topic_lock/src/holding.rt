@@ -92,16 +92,16 @@ impl<'t, K: Tallies> Hold<'t, K> {
         if is_first {
             bells.ring_flusher(number);
         }
-        ring(bells, reader, &hungry);
+        ring_reader(bells, reader);
+        bells.ring_all(&hungry);
     }
 }
 
-/// Wakes a reader that waits for room, and writers.
-pub(crate) fn ring(bells: &Bells, reader: Option<u8>, writers: &Marks) {
+/// Wakes a reader that waits for room.
+pub(crate) fn ring_reader(bells: &Bells, reader: Option<u8>) {
     if let Some(place) = reader {
         bells.ring_reader(place);
     }
-    bells.ring_all(writers);
 }
 
 /// Whether a command may give positions back, which other consumers may then get.

@@ -3,7 +3,7 @@ ghost use Rattle.std.specs.Prelude.{◌≡◌};
 
 use crate::durable::DurableTally;
 use crate::fault::FlushFault;
-use crate::holding::ring;
+use crate::holding::ring_reader;
 use crate::places::SharedTopic;
 use crate::tally::Tallies;
 use crate::written::{Flusher, Written};
@@ -14,8 +14,8 @@ use topic_core::{Batch, TopicStore, WriteError};
 
 impl<T: TopicStore, S: Shelf + Drop, K: Tallies> SharedTopic<T, S, K> {
     /// Flushes the topic in three parts, each under one lock, and hands the flusher back, with how many entries were committed: none
-    /// where nothing waited. Then it wakes the writers whom the flush owed a reply or whose consumers were given nothing, and the
-    /// next reader that waits for room. Where memory was refused all waits as before. A write that the topic didn't await is
+    /// where nothing waited. Then it has those writers woken whom the flush owed a reply or whose consumers were given nothing, and
+    /// wakes the next reader that waits for room. Where memory was refused all waits as before. A write that the topic didn't await is
     /// handed back: somebody else opened the topic again.
     pub fn flush<R: Wait>(
         &self,
@@ -28,7 +28,7 @@ impl<T: TopicStore, S: Shelf + Drop, K: Tallies> SharedTopic<T, S, K> {
         let batch = match taken {
             Ok(Some(batch)) => batch,
             Ok(None) => {
-                bells.ring_all(&owed);
+                bells.ring_by_another(rt, &owed);
                 return Ok((flusher, Ok(0)));
             }
             Err(_) => return Ok((flusher, Err(FlushFault::NoMemory))),
@@ -42,8 +42,9 @@ impl<T: TopicStore, S: Shelf + Drop, K: Tallies> SharedTopic<T, S, K> {
         let hungry = topic.waiting.take_hungry();
         let reader = topic.next_reader();
         drop(topic);
-        bells.ring_all(&owed);
-        ring(bells, reader, &hungry);
+        bells.ring_by_another(rt, &owed);
+        bells.ring_by_another(rt, &hungry);
+        ring_reader(bells, reader);
         ended
     }
 
