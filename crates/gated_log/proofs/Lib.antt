@@ -5,7 +5,8 @@ mod Gates
 mod Heads
 mod Made
 mod Places
-mod Torn
 mod Steps
 mod Further
 mod Folding
+mod Overwriting
+mod Building

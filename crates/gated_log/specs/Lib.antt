@@ -11,3 +11,5 @@ pub mod Local
 pub mod Reading
 pub mod Folds
 pub mod OneFault
+pub mod Torn
+pub mod Wholes

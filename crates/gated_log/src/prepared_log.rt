@@ -1,0 +1,77 @@
+// A whole log is built in memory before it is written.
+ghost use Rattle.std.specs.Prelude.{◌≤◌, vec_len};
+
+use crate::prepared::{CLOSED, OPEN};
+use crate::{MAX_BODY, PrepareError};
+use std::alloc::{AllocError, Global};
+
+// How many bytes a header has behind its gate.
+pub(crate) const HEADER_BEHIND_GATE: usize = 15;
+
+/// A whole log that is being built: its batches so far, behind open gates, and before them room for the header.
+#[derive(Drop)]
+pub struct LogBuilder {
+    pub(crate) alloc: Global,
+    pub(crate) count: u64,
+    pub(crate) bytes: Vec<u8>,
+    ghost roomy: { 15 ≤ vec_len bytes },
+    ghost few: { count ≤ vec_len bytes },
+}
+
+/// A whole log that stands in memory, ready to be written over a file: its batches, a closed gate behind them, and before
+/// them room for the header.
+#[derive(Drop)]
+pub struct PreparedLog {
+    pub(crate) alloc: Global,
+    pub(crate) count: u64,
+    pub(crate) bytes: Vec<u8>,
+    ghost roomy: { 16 ≤ vec_len bytes },
+    ghost few: { count ≤ vec_len bytes },
+}
+
+impl LogBuilder {
+    ghost use Rattle.std.specs.Prelude.{◌≡◌, ◌<◌, ◌↔◌, ◌++◌, [], ◌∷◌, length, IfOk, IsErrOf};
+    ghost use Rattle.gated_log.specs.Batches.{Bodies};
+    ghost use Rattle.gated_log.specs.Wholes.{Builds, IsLogOf};
+
+    /// No batch yet.
+    pub fn new(alloc: Global) -> Result<LogBuilder, AllocError>
+        ensures { IfOk result (λ builder. Builds builder []) }
+    {
+        let mut bytes = Vec::with_capacity(alloc, HEADER_BEHIND_GATE + 1)?;
+        bytes.extend_from_slice(&[0; HEADER_BEHIND_GATE])?;
+        Ok(LogBuilder {
+            alloc,
+            count: 0,
+            bytes,
+        })
+    }
+
+    /// With the batch of a body more.
+    pub fn with_body(mut self, body: &[u8]) -> Result<LogBuilder, PrepareError>
+        ensures grown { (bodies : Bodies) → Builds self bodies → IfOk result (λ builder. Builds builder (bodies ++ body.now ∷ [])) }
+        ensures too_large { IsErrOf result PrepareError.TooLarge ↔ (33554432 < length body.now) }
+    {
+        if body.len() > MAX_BODY {
+            return Err(PrepareError::TooLarge);
+        }
+        self.bytes.push(OPEN)?;
+        self.bytes
+            .extend_from_slice(&(body.len() as u32).to_le_bytes())?;
+        self.bytes.extend_from_slice(body)?;
+        self.count += 1;
+        Ok(self)
+    }
+
+    /// The whole log.
+    pub fn finish(mut self) -> Result<PreparedLog, AllocError>
+        ensures { (bodies : Bodies) → Builds self bodies → IfOk result (λ log. IsLogOf log bodies) }
+    {
+        self.bytes.push(CLOSED)?;
+        Ok(PreparedLog {
+            alloc: self.alloc,
+            count: self.count,
+            bytes: self.bytes,
+        })
+    }
+}
