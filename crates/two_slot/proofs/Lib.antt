@@ -1,2 +1,4 @@
 mod Appending
+mod Closed
 mod Opening
+mod Replacing

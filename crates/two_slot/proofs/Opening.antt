@@ -11,7 +11,7 @@ use Rattle.disk.specs.Disk.{Disk, Image, Synced, Leaves}
 use Rattle.gated_log.specs.declared.refusal.Refusal.{Refusal}
 use Rattle.gated_log.specs.declared.refusal.Refusal.TheVariants.{Device, NoMemory}
 use Rattle.gated_log.specs.Batches.{Bodies, IsLog}
-use Rattle.gated_log.specs.Folds.{Link, Form, IsFault}
+use Rattle.gated_log.specs.Folds.{Form}
 use Rattle.gated_log.specs.Head.{IsHead, HasHead, head_file}
 use Rattle.gated_log.specs.Headers.{IsOpen}
 use Rattle.disk.specs.Contents.{Settled}

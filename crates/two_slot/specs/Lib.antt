@@ -8,3 +8,4 @@ pub mod Local
 pub mod One
 pub mod Fresh
 pub mod Standing
+pub mod Closing

@@ -6,10 +6,10 @@ use Rattle.disk.specs.declared.file_id.CursorSlot.{CursorSlot}
 use Rattle.disk.specs.declared.file_id.CursorSlot.TheVariants.{Zero, One}
 use Rattle.disk.specs.declared.file_id.FileId.TheVariants.{Slot}
 use Rattle.disk.specs.Disk.{Image}
-use Rattle.gated_log.specs.Batches.{Bodies, mark, header, batches, opened, IsLog}
+use Rattle.gated_log.specs.Batches.{Bodies, header, batches, opened, IsLog}
 use Rattle.gated_log.specs.Headers.{HasOpenHeader, IsHeaderDamaged, IsOtherVersion, IsOpen, number_in}
 use Rattle.gated_log.specs.declared.refusal.Refusal.{Refusal}
-use Rattle.gated_log.specs.Folds.{Link, Form, grown, IsFault}
+use Rattle.gated_log.specs.Folds.{Link, Form, grown}
 use Rattle.gated_log.specs.One.{version_open, version_not_damaged}
 use Rattle.gated_log.specs.OneFault.{log_one}
 use Rattle.gated_log.specs.OneFault.{fault_one as file_fault_one, log_no_fault}
@@ -20,9 +20,9 @@ use Rattle.two_slot.specs.declared.slot_header.HeaderFault.TheVariants.{Damage a
 use Rattle.two_slot.specs.declared.choice.Choice.{Choice}
 use Rattle.two_slot.specs.declared.choice.Choice.TheVariants.{Refuse, Read, ReadZero}
 use Rattle.two_slot.specs.Slots.{other_of, Yields, Counts, Stands}
-use Rattle.two_slot.specs.SlotHeaders.{HasLastGeneration, IsFaulty, IsSlotHeader}
+use Rattle.two_slot.specs.SlotHeaders.{IsFaulty, IsSlotHeader}
 use Rattle.two_slot.specs.Choices.{choice}
-use Rattle.two_slot.specs.Faults.{IsOf, IsFaultBy, IsSlotsFault}
+use Rattle.two_slot.specs.Faults.{IsFaultBy, IsSlotsFault}
 
 -- the generation in an open header
 pub open_generation : (n : ℕ) (file : List ℕ) → IsOpen n file → number_in file ≡ n

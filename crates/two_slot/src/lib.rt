@@ -1,6 +1,7 @@
 //! Two files hold one list of bodies, and one of them counts: the one whose header is open and has the greater generation.
-//! The other may hold anything behind its header. An append is whole or not at all, at whatever moment a crash comes. An
-//! opening finds one thing in the two files: the bodies of the one that counts, or the first fault.
+//! An append adds a body, and a replace puts other bodies in the place of all, by way of the file that doesn't count: each is
+//! whole or not at all, at whatever moment a crash comes. An opening finds one thing in the two files: the bodies of the one
+//! that counts, or the first fault.
 #![tactic(auto)]
 
 mod append;
@@ -9,6 +10,7 @@ mod create;
 mod heads;
 mod law;
 mod open;
+mod replace;
 mod slot_header;
 mod spare;
 mod two_slot;

@@ -2,6 +2,7 @@
 mod answers;
 mod headers;
 mod openings;
+mod replaces;
 mod stops;
 mod taken;
 

@@ -1,15 +1,11 @@
-use Rattle.std.proofs.Common.{◌≡◌, ◌⊎◌, inl, inr, [], refl, sym, ◌∙◌, ap, subst}
+use Rattle.std.proofs.Common.{inl, inr, [], refl, sym, ◌∙◌, subst}
 use Rattle.std.proofs.lemmas.Result.{err_from_is_err_and}
-use Rattle.disk.specs.declared.file_id.CursorSlot.TheVariants.{Zero}
 use Rattle.disk.specs.declared.file_id.FileId.{FileId}
-use Rattle.disk.specs.Disk.{Image}
 use Rattle.gated_log.specs.declared.head.LogHead.{LogHead}
 use Rattle.gated_log.specs.declared.refusal.Refusal.{Refusal}
 use Rattle.gated_log.specs.Folds.{behind, IsFault}
 use Rattle.gated_log.specs.Head.{HasHead}
-use Rattle.two_slot.specs.declared.choice.Choice.{Choice}
 use Rattle.two_slot.specs.declared.choice.Choice.TheVariants.{Refuse, Read, ReadZero}
-use Rattle.two_slot.specs.Choices.{choice}
 use Rattle.two_slot.specs.Faults.{IsSlotsFault}
 use Rattle.two_slot.proofs.Opening.{says_of, fault_of, Told, told_of, head_there, read_settled}
 use Rattle.two_slot.proofs.open.open_from.Goals as goal
