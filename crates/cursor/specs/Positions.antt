@@ -1,5 +1,5 @@
 -- Finite sets of positions, as the acknowledged positions of a subscription.
-use Rattle.std.specs.Prelude.{◌≡◌, ℕ, ◌-◌, ◌<◌, ◌≤◌, true, false, not, ◌&&◌, ◌||◌, nat_eq, nat_lt, zero, suc}
+use Rattle.std.specs.Prelude.{◌≡◌, ℕ, ◌+◌, ◌-◌, ◌^◌, ◌<◌, ◌≤◌, Option, None, Some, true, false, not, ◌&&◌, ◌||◌, nat_eq, nat_lt, zero, suc}
 use Rattle.std.specs.Ordering.{nat_cmp}
 use Rattle.std.specs.Cmp.{nat_cmp_total, unsigned_tied}
 use Rattle.std.specs.Coded.{Coded, coded_ℕ}
@@ -35,6 +35,20 @@ pub record IsFirstOpen (s : Positions) (from n : ℕ) : Type 0 where
   pub from_here : from ≤ n
   pub missing : Lacks s n
   pub least : (i : ℕ) → from ≤ i → i < n → Has s i
+
+-- from `first` to `last` lie the first positions of s from `from` on that neighbour each other
+pub record IsRun (s : Positions) (from first last : ℕ) : Type 0 where
+  pub from_here : from ≤ first
+  pub rises : first ≤ last
+  pub fits : last < 2 ^ 62
+  pub before : (i : ℕ) → from ≤ i → i < first → Lacks s i
+  pub inside : (i : ℕ) → first ≤ i → i ≤ last → Has s i
+  pub shut : Lacks s (last + 1)
+
+-- the first run of neighbouring positions from `from` on, by its first and its last position
+abbrev pub IsNextRun : Positions → ℕ → Option (ℕ × ℕ) → Type 0
+IsNextRun s from None = (i : ℕ) → from ≤ i → Lacks s i
+IsNextRun s from (Some run) = IsRun s from run.0 run.1
 
 -- how many runs of neighbouring positions lie in s after its first gap: a run begins where the position before it is missing
 abbrev pub run_count : Positions → ℕ

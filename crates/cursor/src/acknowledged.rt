@@ -1,11 +1,14 @@
 ghost use Rattle.std.specs.Prelude.{◌≡◌, ℕ, ◌+◌, ◌^◌, ◌<◌, ◌≤◌, OnOk, OnErr};
 ghost use Rattle.std.specs.FinSet as set;
-ghost use Rattle.cursor.specs.Positions.{below, between, IsFirstOpen, run_count};
+ghost use Rattle.cursor.specs.Positions.{below, between, IsFirstOpen, IsNextRun, run_count};
 
 use crate::ranges::{add_one, add_range, covers, drop_below, join, range_behind};
 use std::alloc::{AllocError, Global};
 use std::collections::BTreeMap;
 use std::marker::Model;
+
+// Where positions end.
+const END: u64 = 1 << 62;
 
 /// The acknowledged positions of a subscription, each below 2^62. The memory that it takes goes by
 /// the number of ranges after the mark-delete position, and not by that of the positions.
@@ -136,6 +139,18 @@ impl Cursor {
         match range_behind(&self.after, open) {
             Some((end, start)) if start <= open => end,
             _ => open,
+        }
+    }
+    /// The first run of acknowledged positions from `from` on, by its first position and its last.
+    pub fn next_run(&self, from: u64) -> Option<(u64, u64)>
+        ensures { IsNextRun self.now from result }
+    {
+        if from < self.mark_delete {
+            return Some((from, self.mark_delete - 1));
+        }
+        match range_behind(&self.after, from.min(END)) {
+            Some((end, start)) => Some((start.max(from), end - 1)),
+            None => None,
         }
     }
 }

@@ -7,3 +7,5 @@ pub mod Spelled
 pub mod Applied
 pub mod Meaning
 pub mod Present
+pub mod Snapshots
+pub mod Within

@@ -8,7 +8,7 @@ ghost use Rattle.std.specs.FinMap as map;
 ghost use Rattle.cursor.specs.Positions.{Positions, below};
 ghost use Rattle.records.specs.declared.kept_cursor.KeptCursor.{KeptCursor as Copied};
 ghost use Rattle.records.specs.Names.{is_subscription_name};
-ghost use Rattle.records.specs.Maps.{by_bytes, map_of};
+ghost use Rattle.records.specs.Maps.{by_bytes, map_of, IsSound};
 ghost use Rattle.records.specs.Present.{AreNamesOf, texts};
 ghost use Rattle.records.specs.Records.{IsFormed, AreFormed, HasPositions, after, after_all, acknowledged, changed, name_of};
 
@@ -85,6 +85,7 @@ impl KeptSubscriptions {
     /// The names and their acknowledged positions, in the order of the names' bytes.
     pub fn iter(&self) -> Iter<'_, String, SharedCursor>
         ensures rest { by_bytes result ≡ map.entries self.now }
+        ensures sound { IsSound self.now }
         ensures runs { ShowsInOrder (deref_pair {K = Text Heap} {X = Positions}) }
     {
         self.cursors.iter()

@@ -18,4 +18,4 @@ pub use name::{Name, is_subscription_name};
 pub use read::read_body;
 pub use record::Record;
 pub use shared_cursor::SharedCursor;
-pub use write::{fits, write_records};
+pub use write::{RECORDS, add_made, add_range, fits, write_records};

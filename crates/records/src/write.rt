@@ -8,8 +8,8 @@ use crate::name::Name;
 use crate::record::Record;
 use std::alloc::{AllocError, Global};
 
-// The kind of a body of records.
-pub(crate) const RECORDS: u8 = 0;
+/// The kind of a body of records, its first byte.
+pub const RECORDS: u8 = 0;
 
 // How many bytes a record has.
 fn size_of(change: &Record) -> usize
@@ -43,11 +43,10 @@ pub fn fits(records: &[Record], most: usize) -> bool
 }
 
 // Adds the beginning of a record: its kind, and its name.
-fn add_head(body: &mut Vec<u8>, kind: u8, name: &Name) -> Result<(), AllocError>
+fn add_head(body: &mut Vec<u8>, kind: u8, name: &str) -> Result<(), AllocError>
     requires { is_subscription_name name.now ≡ true }
     ensures { OnOk result (body.new.items ≡ body.old.items ++ kind ∷ named name.now) }
 {
-    let name = name.as_str();
     body.push(kind)?;
     body.push(name.len() as u8)?;
     body.extend_from_slice(name.as_bytes())?;
@@ -61,28 +60,42 @@ fn add_position(body: &mut Vec<u8>, position: u64) -> Result<(), AllocError>
     Ok(())
 }
 
+/// Adds the record of a subscription that is made. After a refusal a part of it may stand there.
+pub fn add_made(body: &mut Vec<u8>, name: &str, start: u64) -> Result<(), AllocError>
+    requires { is_subscription_name name.now ≡ true }
+    ensures { OnOk result (body.new.items ≡ body.old.items ++ spelling (Record.Made name.now start)) }
+{
+    add_head(body, 1, name)?;
+    add_position(body, start)
+}
+
+/// Adds the record of an acknowledged range. After a refusal a part of it may stand there.
+pub fn add_range(body: &mut Vec<u8>, name: &str, first: u64, last: u64) -> Result<(), AllocError>
+    requires { is_subscription_name name.now ≡ true }
+    ensures { OnOk result (body.new.items ≡ body.old.items ++ spelling (Record.AcknowledgedRange name.now first last)) }
+{
+    add_head(body, 5, name)?;
+    add_position(body, first)?;
+    add_position(body, last)
+}
+
 fn add_record(body: &mut Vec<u8>, change: &Record) -> Result<(), AllocError>
     requires { is_subscription_name (name_of change.now) ≡ true }
     ensures { OnOk result (body.new.items ≡ body.old.items ++ spelling change.now) }
 {
     match change {
-        Record::Made { name, start } => {
-            add_head(body, 1, name)?;
-            add_position(body, *start)
-        }
-        Record::Removed { name } => add_head(body, 2, name),
+        Record::Made { name, start } => { add_made(body, name.as_str(), *start) }
+        Record::Removed { name } => add_head(body, 2, name.as_str()),
         Record::Acknowledged { name, position } => {
-            add_head(body, 3, name)?;
+            add_head(body, 3, name.as_str())?;
             add_position(body, *position)
         }
         Record::AcknowledgedThrough { name, position } => {
-            add_head(body, 4, name)?;
+            add_head(body, 4, name.as_str())?;
             add_position(body, *position)
         }
         Record::AcknowledgedRange { name, first, last } => {
-            add_head(body, 5, name)?;
-            add_position(body, *first)?;
-            add_position(body, *last)
+            add_range(body, name.as_str(), *first, *last)
         }
     }
 }
