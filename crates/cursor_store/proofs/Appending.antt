@@ -14,8 +14,7 @@ use Rattle.records.specs.Records.{AreFormed, after_all}
 use Rattle.records.specs.Bytes.{body_of, IsBody, Means}
 use Rattle.records.specs.Meaning.{means_more}
 use Rattle.cursor_store.specs.declared.cursor_store.CursorStore.{CursorStore}
-use Rattle.cursor_store.specs.declared.cursor_store.PreparedRecords.{PreparedRecords}
-use Rattle.cursor_store.specs.Cursors.{Holds, StandsFor, IsFor, written, topic_of}
+use Rattle.cursor_store.specs.Cursors.{Holds, StandsFor, written, topic_of}
 use Rattle.cursor_store.specs.Laws.{InBodies, settled_in}
 
 -- the body of records of their form
@@ -25,13 +24,13 @@ its_body entries kept records formed = record { records = records; body_is = ref
 more : (entries : ℕ) (bodies : Bodies) (kept : Kept) (records : List Record) → Means entries map.empty bodies kept → AreFormed entries kept records → Means entries map.empty (bodies ++ body_of records ∷ []) (after_all records kept)
 more entries bodies kept records means formed = means_more entries map.empty bodies kept (body_of records) (after_all records kept) means (its_body entries kept records formed)
 
-pub added : (old new : CursorStore) (prepared : PreparedRecords) (entries : ℕ) (d0 d1 : Disk) (kept : Kept) (records : List Record) (bodies : Bodies) → new.kept ≡ prepared.kept → IsFor old prepared records → AreFormed entries kept records
+pub added : (old new : CursorStore) (entries : ℕ) (d0 d1 : Disk) (kept : Kept) (records : List Record) (bodies : Bodies) → new.kept ≡ after_all records old.kept → AreFormed entries kept records
     → InBodies old entries d0 kept bodies → Settled (SlotsHold new.slots) d1 (bodies ++ body_of records ∷ []) → Steady (Holds new entries) (written new) d1 (after_all records kept)
-added old new prepared entries d0 d1 kept records bodies swapped is_for formed is grown =
+added old new entries d0 d1 kept records bodies swapped formed is grown =
     settled_in new entries d1 (after_all records kept) (bodies ++ body_of records ∷ []) (record {
       slots = grown;
       means = more entries bodies kept records is.means formed;
-      same = swapped ∙ is_for.kept ∙ ap (λ (k : Kept). after_all records k) is.same;
+      same = swapped ∙ ap (λ (k : Kept). after_all records k) is.same;
     })
 
 -- the bodies of a crash image, as subscriptions

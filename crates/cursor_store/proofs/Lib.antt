@@ -1,2 +1,4 @@
 mod Appending
+mod Replacing
+mod Snapshots
 mod Taking

@@ -1,17 +1,18 @@
 -- What a store of subscriptions remembers of its slots.
-use Rattle.std.specs.Prelude.{◌≡◌, ℕ, Bool, List}
+use Rattle.std.specs.Prelude.{◌≡◌, ℕ, ◌+◌, ◌^◌, Bool, true, false, ◌&&◌, nat_le, nat_lt, min, List, length}
 use Rattle.std.specs.FinMap as map
 use Rattle.disk.specs.Disk.{Image}
 use Rattle.gated_log.specs.Batches.{Bodies}
 use Rattle.gated_log.specs.Logs.{IsBatchOf}
 use Rattle.two_slot.specs.Slots.{Stands}
-use Rattle.two_slot.specs.TwoSlots.{Holds as SlotsHold, content as slots_content, topic_of as slots_topic, failed as slots_failed}
+use Rattle.two_slot.specs.TwoSlots.{Holds as SlotsHold, content as slots_content, topic_of as slots_topic, failed as slots_failed, generation_of}
 use Rattle.records.specs.declared.record.Record.{Record}
 use Rattle.records.specs.Maps.{Kept}
 use Rattle.records.specs.Records.{after_all}
 use Rattle.records.specs.Bytes.{body_of, Means}
 use Rattle.cursor_store.specs.declared.cursor_store.CursorStore.{CursorStore}
 use Rattle.cursor_store.specs.declared.cursor_store.PreparedRecords.{PreparedRecords}
+use Rattle.cursor_store.specs.Snapshots.{IsSnapshotIf}
 
 -- the topic whose subscriptions it has
 abbrev pub topic_of : CursorStore → ℕ
@@ -42,7 +43,22 @@ pub record Holds (store : CursorStore) (entries : ℕ) (image : Image) (kept : K
   pub means : Means entries map.empty bodies kept
   pub same : store.kept ≡ kept
 
--- the batch of these records, and what they make of what is kept
+-- how many records were appended since the slots were opened or replaced, but no more than 4,096
+abbrev pub counted : CursorStore → ℕ
+counted store = store.appended
+
+-- an append first replaces the slot that counts: 4,096 were appended, and there is a generation for a replace
+abbrev pub is_due : CursorStore → Bool
+is_due store = nat_le 4096 store.appended && nat_lt (generation_of store.slots + 2) (2 ^ 64)
+
+-- the batch of these records, how many they are, and what they make of what is kept; and what goes first, where that is due
 pub record IsFor (store : CursorStore) (prepared : PreparedRecords) (records : List Record) : Type 0 where
   pub batch : IsBatchOf prepared.batch (body_of records)
+  pub count : prepared.count ≡ length records
   pub kept : prepared.kept ≡ after_all records store.kept
+  pub snapshot : IsSnapshotIf (is_due store) store.kept prepared.snapshot
+
+-- the count goes on, from the start where a replace went first
+abbrev pub counted_on : Bool → ℕ → ℕ → ℕ
+counted_on true was more = min 4096 more
+counted_on false was more = min 4096 (was + more)

@@ -1,3 +1,5 @@
 pub mod Cursors
 pub mod Folded
 pub mod Laws
+pub mod Snapshots
+pub mod Replaced

@@ -51,6 +51,7 @@ impl CursorStore {
             alloc,
             slots,
             kept: fold.kept,
+            appended: 0,
         })
     }
 }

@@ -1,6 +1,7 @@
 // A store of subscriptions in two slots.
 ghost use Rattle.std.specs.Prelude.{◌≡◌};
 
+use crate::snapshot::snapshot_if;
 use crate::{CursorStore, PreparedRecords, SubStore};
 use disk::{DeviceError, Shelf};
 use gated_log::{BatchList, MAX_BODY, PrepareError, PreparedBatch, Refusal};
@@ -40,6 +41,7 @@ impl SubStore for CursorStore {
             alloc,
             slots,
             kept: KeptSubscriptions::new(alloc),
+            appended: 0,
         })
     }
 
@@ -78,7 +80,13 @@ impl SubStore for CursorStore {
         let mut builder = self.slots.builder(body.len())?;
         builder.extend_from_slice(&body)?;
         let batch = PreparedBatch::new(builder)?;
-        Ok(PreparedRecords { batch, kept })
+        let snapshot = snapshot_if(self.is_due(), self.alloc, &self.kept)?;
+        Ok(PreparedRecords {
+            batch,
+            count: records.len() as u64,
+            kept,
+            snapshot,
+        })
     }
 
     fn append_prepared<S: Shelf>(
@@ -86,10 +94,7 @@ impl SubStore for CursorStore {
         shelf: &mut S,
         prepared: PreparedRecords,
     ) -> Result<(), DeviceError> {
-        let PreparedRecords { batch, kept } = prepared;
-        self.slots.append_prepared(shelf, batch)?;
-        self.kept = kept;
-        Ok(())
+        self.append_records(shelf, prepared)
     }
 
     ghost holds_works = { λ store entries image kept holds. holds.slots.works };

@@ -108,7 +108,8 @@ pub trait SubStore: Drop {
     fn fits(&self, records: &[Record], entries: u64) -> bool
         ensures { IsTrue result ↔ AreFormed entries (content self.now) records.now };
 
-    /// Builds what an append of these records writes, and what the store keeps after it. Reaches no device.
+    /// Builds what an append of these records writes, and what the store keeps after it; and what is kept before it, where that
+    /// is first written anew. Reaches no device.
     fn prepare(&mut self, records: &[Record]) -> Result<Self::Prepared, PrepareError>
         requires some { 0 < length records.now }
         requires formed { AreFormed (2 ^ 62) (content self.old) records.now }
@@ -120,8 +121,8 @@ pub trait SubStore: Drop {
         ensures failed { failed self.new ≡ failed self.old }
         ensures too_large { IsErrOf result PrepareError.TooLarge ↔ (33554432 < length (body_of records.now)) };
 
-    /// Writes what was prepared. Device calls alone, four of them. After an error the store is failed: each later append
-    /// answers it without a device call.
+    /// Writes what was prepared. Device calls alone: four, and six before them where what is kept is first written anew. After
+    /// an error the store is failed: each later append answers it without a device call.
     fn append_prepared<S: Shelf>(
         &mut self,
         shelf: &mut S,

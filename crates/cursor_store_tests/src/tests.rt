@@ -5,6 +5,7 @@ mod bytes;
 mod damage;
 mod kept;
 mod plain;
+mod replaces;
 mod stops;
 
 use cursor_store::{CursorStore, SubStore};

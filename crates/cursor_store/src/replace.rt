@@ -1,0 +1,58 @@
+// A snapshot goes before the records of an append, where one is due.
+ghost use Rattle.std.specs.Prelude.{◌≡◌, ◌+◌, ℕ, Bool, true, false, Option, OnOk, IsErr};
+ghost use Rattle.disk.specs.Disk.{Kept as Counted, Failed};
+ghost use Rattle.disk.specs.Contents.{Steady, Appends};
+ghost use Rattle.records.specs.Maps.{Kept};
+ghost use Rattle.two_slot.specs.Slots.{SlotsOf};
+ghost use Rattle.cursor_store.specs.Cursors.{Holds, StandsFor, content, written, topic_of, failed, counted, is_due};
+ghost use Rattle.cursor_store.specs.Snapshots.{IsSnapshotIf};
+ghost use Rattle.cursor_store.specs.Replaced.{HasReplaced};
+
+use crate::CursorStore;
+use disk::{DeviceError, Shelf};
+use gated_log::PreparedLog;
+
+// Our own rule: how many records an append finds in the slot that counts, behind its snapshot, where it replaces it first.
+pub(crate) const REPLACE_AFTER: u64 = 4_096;
+
+impl CursorStore {
+    // Whether an append first replaces the slot that counts.
+    pub(crate) fn is_due(&self) -> bool
+        ensures { result ≡ is_due self.now }
+    {
+        if self.appended < REPLACE_AFTER {
+            return false;
+        }
+        self.slots.can_replace()
+    }
+
+    // Puts a snapshot in the place of all records, where there is one: six device calls, or none.
+    pub(crate) fn replace_first<S: Shelf>(
+        &mut self,
+        shelf: &mut S,
+        snapshot: Option<PreparedLog>,
+    ) -> Result<(), DeviceError>
+        // What is kept is kept at each moment of the call, and after a failure.
+        ensures replaces { (entries : ℕ) (kept : Kept) → IsSnapshotIf (is_due self.old) (content self.old) snapshot → Steady (Holds self.old entries) (written self.old) (S.disk shelf.old) kept →
+            Appends result (Steady (Holds self.new entries) (written self.new)) (λ c. content self.new) (SlotsOf (topic_of self.old)) (StandsFor (topic_of self.old) entries) (S.disk shelf.old) (S.disk shelf.new) kept kept }
+        ensures replaced { IsSnapshotIf (is_due self.old) (content self.old) snapshot → OnOk result (HasReplaced (is_due self.old) self.old self.new) }
+        ensures content { content self.new ≡ content self.old }
+        ensures topic { topic_of self.new ≡ topic_of self.old }
+        ensures works { OnOk result (failed self.new ≡ failed self.old) }
+        ensures failed { IsErr result → failed self.new ≡ true }
+        ensures stays_failed { failed self.old ≡ true → (failed self.new ≡ true) × (shelf.new ≡ shelf.old) }
+        ensures cause { failed self.old ≡ false → IsErr result → Failed (S.disk shelf.old) (S.disk shelf.new) }
+        ensures kept { Counted (S.disk shelf.old) (S.disk shelf.new) }
+    {
+        let Some(snapshot) = snapshot else {
+            return Ok(());
+        };
+        let can = self.slots.can_replace();
+        if !can {
+            return Ok(());
+        }
+        self.slots.replace(shelf, snapshot)?;
+        self.appended = 0;
+        Ok(())
+    }
+}
