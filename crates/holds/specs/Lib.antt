@@ -1,3 +1,4 @@
 pub mod Backlog
 pub mod Deliveries
 pub mod Laws
+pub mod Listing

@@ -1,15 +1,17 @@
-ghost use Rattle.std.specs.Prelude.{◌≡◌, ℕ, ◌<◌, ◌≤◌, ◌&&◌, not, cond, nat_lt, ◌==◌, Some, None, OnOk, OnErr, map as each};
+ghost use Rattle.std.specs.Prelude.{◌≡◌, ℕ, ◌+◌, ◌<◌, ◌≤◌, ◌&&◌, not, cond, nat_lt, ◌==◌, Some, None, OnOk, OnErr, IsSome, is_none, length, map as each};
 ghost use Rattle.std.specs.Option.{option_map};
 ghost use Rattle.std.specs.Ordering.{nat_cmp};
 ghost use Rattle.std.specs.BTreeMap as tree;
 ghost use Rattle.std.specs.FinMap as map;
-ghost use Rattle.holds.specs.Deliveries.{holder, times, sent_to, released, given_back, put_back};
+ghost use Rattle.holds.specs.Deliveries.{holder, holder_in, times, sent_to, released, given_back, put_back};
 ghost use Rattle.holds.specs.Laws.{IsRestored};
+ghost use Rattle.holds.specs.Listing.{IsListing};
 
 use crate::consumer::ConsumerKey;
 use crate::delivery::Delivery;
+use crate::places::{self, Place};
 use std::alloc::{AllocError, Global};
-use std::collections::BTreeMap;
+use std::collections::{BTreeMap, BTreeSet};
 use std::marker::Model;
 
 /// The positions that were sent and aren't acknowledged, with the last delivery of each. An
@@ -17,6 +19,10 @@ use std::marker::Model;
 #[derive(Drop)]
 pub struct Holds {
     deliveries: BTreeMap<u64, Delivery>,
+    // Which positions each consumer holds.
+    places: BTreeSet<Place>,
+    // Whether `places` is exact. A delivery that was restored with its holder isn't listed, since that could take memory.
+    is_whole: bool,
 }
 
 impl Model for Holds {
@@ -27,7 +33,12 @@ impl Model for Holds {
 
     ghost coded = { deliveries_code };
 
+    ghost use Rattle.std.specs.Prelude.{◌≡◌, true};
+    ghost use Rattle.holds.specs.Listing.{IsListing};
+
     ghost view = { λ h. map.from_entries h.deliveries.entries };
+
+    ghost invariant = { λ h. h.is_whole ≡ true → IsListing h.deliveries h.places };
 }
 
 impl Holds {
@@ -37,6 +48,8 @@ impl Holds {
     {
         Self {
             deliveries: BTreeMap::new(alloc),
+            places: BTreeSet::new(alloc),
+            is_whole: true,
         }
     }
 
@@ -44,10 +57,7 @@ impl Holds {
     pub fn holder(&self, position: u64) -> Option<ConsumerKey>
         ensures { result ≡ holder self.now position }
     {
-        match self.deliveries.get(&position) {
-            Some(delivery) => delivery.holder,
-            None => None,
-        }
+        holder(&self.deliveries, position)
     }
 
     /// How often the position was sent.
@@ -80,7 +90,13 @@ impl Holds {
             holder: Some(consumer),
             times,
         };
-        self.deliveries.insert(position, delivery)?;
+        hold(
+            &mut self.deliveries,
+            &mut self.places,
+            position,
+            consumer,
+            delivery,
+        )?;
         Ok(())
     }
 
@@ -89,39 +105,104 @@ impl Holds {
     pub fn restore(&mut self, position: u64, former: Option<Delivery>)
         ensures { IsRestored self.old position former self.new }
     {
-        restore(&mut self.deliveries, position, former);
+        self.is_whole = self.is_whole & is_free(former);
+        restore(&mut self.deliveries, &mut self.places, position, former);
     }
 
     /// Nobody holds the position any more; its count stays.
     pub fn release(&mut self, position: u64)
         ensures { (q : ℕ) → map.get self.new q ≡ cond (q == position) (option_map released (map.get self.old q)) (map.get self.old q) }
     {
-        release(&mut self.deliveries, position);
+        release(&mut self.deliveries, &mut self.places, position);
     }
 
     /// All that the consumer holds is given back; the counts stay.
     pub fn give_back(&mut self, consumer: ConsumerKey)
         ensures { (q : ℕ) → map.get self.new q ≡ option_map (given_back consumer) (map.get self.old q) }
     {
-        give_back(&mut self.deliveries, consumer);
+        let is_whole = self.is_whole;
+        if is_whole {
+            give_back(&mut self.deliveries, &mut self.places, consumer);
+            return;
+        }
+        give_back_each(&mut self.deliveries, consumer);
     }
 
     /// The position is acknowledged: nobody holds it, and its count goes.
     pub fn forget(&mut self, position: u64)
         ensures { self.new ≡ map.remove self.old position }
     {
-        let _ = self.deliveries.remove(&position);
+        forget(&mut self.deliveries, &mut self.places, position);
     }
 
     /// The positions below `end` are acknowledged.
     pub fn forget_below(&mut self, end: u64)
         ensures { self.new ≡ map.retain_keys self.old (λ p. not (nat_lt p end)) }
     {
-        forget_below(&mut self.deliveries, end);
+        forget_below(&mut self.deliveries, &mut self.places, end);
     }
 }
 
-fn restore(deliveries: &mut BTreeMap<u64, Delivery>, position: u64, former: Option<Delivery>)
+// Who holds the position.
+fn holder(deliveries: &BTreeMap<u64, Delivery>, position: u64) -> Option<ConsumerKey>
+    ensures { result ≡ holder_in (tree.get nat_cmp deliveries.now position) }
+{
+    match deliveries.get(&position) {
+        Some(delivery) => delivery.holder,
+        None => None,
+    }
+}
+
+// Whether nobody holds the delivery, if there is one.
+fn is_free(delivery: Option<Delivery>) -> bool
+    ensures { result ≡ is_none (holder_in delivery) }
+{
+    match delivery {
+        Some(delivery) => delivery.holder.is_none(),
+        None => true,
+    }
+}
+
+// The position has this delivery, which the consumer holds. A refusal changes no delivery.
+fn hold(
+    deliveries: &mut BTreeMap<u64, Delivery>,
+    places: &mut BTreeSet<Place>,
+    position: u64,
+    consumer: ConsumerKey,
+    delivery: Delivery,
+) -> Result<(), AllocError>
+    requires { delivery.holder ≡ Some consumer }
+    ensures ok { OnOk result ((q : ℕ) → tree.get nat_cmp deliveries.new q ≡ cond (q == position) (Some delivery) (tree.get nat_cmp deliveries.old q)) }
+    ensures err { OnErr result (deliveries.new.entries ≡ deliveries.old.entries) }
+    ensures listing { IsListing deliveries.old places.old → IsListing deliveries.new places.new }
+{
+    let former = holder(deliveries, position);
+    places::relist(places, former, consumer, position)?;
+    match deliveries.insert(position, delivery) {
+        Ok(_) => Ok(()),
+        Err(_) => {
+            places::unlist(places, Some(consumer), position);
+            Err(AllocError)
+        }
+    }
+}
+
+fn restore(
+    deliveries: &mut BTreeMap<u64, Delivery>,
+    places: &mut BTreeSet<Place>,
+    position: u64,
+    former: Option<Delivery>,
+)
+    ensures kept { (q : ℕ) → tree.get nat_cmp deliveries.new q ≡ cond (q == position) (put_back former (tree.get nat_cmp deliveries.old q)) (tree.get nat_cmp deliveries.old q) }
+    ensures listing { holder_in former ≡ None → IsListing deliveries.old places.old → IsListing deliveries.new places.new }
+{
+    let holder = holder(deliveries, position);
+    places::unlist(places, holder, position);
+    put_back(deliveries, position, former);
+}
+
+// The position has its former delivery again, or none, if it was sent.
+fn put_back(deliveries: &mut BTreeMap<u64, Delivery>, position: u64, former: Option<Delivery>)
     ensures { (q : ℕ) → tree.get nat_cmp deliveries.new q ≡ cond (q == position) (put_back former (tree.get nat_cmp deliveries.old q)) (tree.get nat_cmp deliveries.old q) }
 {
     match former {
@@ -141,7 +222,17 @@ fn overwrite(deliveries: &mut BTreeMap<u64, Delivery>, position: u64, delivery: 
     }
 }
 
-fn release(deliveries: &mut BTreeMap<u64, Delivery>, position: u64)
+fn release(deliveries: &mut BTreeMap<u64, Delivery>, places: &mut BTreeSet<Place>, position: u64)
+    ensures kept { (q : ℕ) → tree.get nat_cmp deliveries.new q ≡ cond (q == position) (option_map released (tree.get nat_cmp deliveries.old q)) (tree.get nat_cmp deliveries.old q) }
+    ensures listing { IsListing deliveries.old places.old → IsListing deliveries.new places.new }
+{
+    let holder = holder(deliveries, position);
+    places::unlist(places, holder, position);
+    free_at(deliveries, position);
+}
+
+// Nobody holds the position any more.
+fn free_at(deliveries: &mut BTreeMap<u64, Delivery>, position: u64)
     ensures { (q : ℕ) → tree.get nat_cmp deliveries.new q ≡ cond (q == position) (option_map released (tree.get nat_cmp deliveries.old q)) (tree.get nat_cmp deliveries.old q) }
 {
     if let Some(kept) = deliveries.get_mut(&position) {
@@ -149,7 +240,23 @@ fn release(deliveries: &mut BTreeMap<u64, Delivery>, position: u64)
     }
 }
 
-fn give_back(deliveries: &mut BTreeMap<u64, Delivery>, consumer: ConsumerKey)
+// Gives back what is listed with the consumer, and looks at nothing else.
+fn give_back(
+    deliveries: &mut BTreeMap<u64, Delivery>,
+    places: &mut BTreeSet<Place>,
+    consumer: ConsumerKey,
+)
+    ensures freed { IsListing deliveries.old places.old → (q : ℕ) → tree.get nat_cmp deliveries.new q ≡ option_map (given_back consumer) (tree.get nat_cmp deliveries.old q) }
+    ensures listing { IsListing deliveries.old places.old → IsListing deliveries.new places.new }
+{
+    while let Some(position) = places::first(places, consumer) {
+        free_at(deliveries, position);
+        places::take(places, consumer, position);
+    }
+}
+
+// Gives back what the consumer holds, and looks at each delivery.
+fn give_back_each(deliveries: &mut BTreeMap<u64, Delivery>, consumer: ConsumerKey)
     ensures { deliveries.new.entries ≡ each (λ e. (e.0, given_back consumer e.1)) deliveries.old.entries }
 {
     deliveries.retain(|_, delivery| {
@@ -169,13 +276,25 @@ fn free(delivery: &mut Delivery, consumer: ConsumerKey)
     }
 }
 
-fn forget_below(deliveries: &mut BTreeMap<u64, Delivery>, end: u64)
-    ensures { (q : ℕ) → tree.get nat_cmp deliveries.new q ≡ cond (nat_lt q end) None (tree.get nat_cmp deliveries.old q) }
+fn forget(deliveries: &mut BTreeMap<u64, Delivery>, places: &mut BTreeSet<Place>, position: u64)
+    ensures kept { (q : ℕ) → tree.get nat_cmp deliveries.new q ≡ cond (q == position) None (tree.get nat_cmp deliveries.old q) }
+    ensures shorter { IsSome (tree.get nat_cmp deliveries.old position) → length deliveries.new.entries + 1 ≡ length deliveries.old.entries }
+    ensures listing { IsListing deliveries.old places.old → IsListing deliveries.new places.new }
+{
+    let holder = holder(deliveries, position);
+    places::unlist(places, holder, position);
+    let _ = deliveries.remove(&position);
+}
+
+fn forget_below(deliveries: &mut BTreeMap<u64, Delivery>, places: &mut BTreeSet<Place>, end: u64)
+    ensures kept { (q : ℕ) → tree.get nat_cmp deliveries.new q ≡ cond (nat_lt q end) None (tree.get nat_cmp deliveries.old q) }
+    ensures listing { IsListing deliveries.old places.old → IsListing deliveries.new places.new }
 {
     while let Some((first, _)) = deliveries.first_key_value() {
-        if *first >= end {
+        let position = *first;
+        if position >= end {
             break;
         }
-        let _ = deliveries.pop_first();
+        forget(deliveries, places, position);
     }
 }

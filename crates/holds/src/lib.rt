@@ -10,6 +10,7 @@ mod delivery;
 mod dispatcher;
 mod holds_map;
 mod laws;
+mod places;
 
 pub use consumer::{Consumer, ConsumerKey, Refusal, SlotRange, SlotRanges};
 pub use delivery::Delivery;

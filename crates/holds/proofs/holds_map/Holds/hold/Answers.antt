@@ -1,7 +1,6 @@
 use Rattle.std.proofs.Common.{◌+◌, ◌-◌, ◌^◌, min, Option}
 use Rattle.holds.specs.declared.consumer.ConsumerKey.{ConsumerKey}
 use Rattle.holds.specs.declared.delivery.Delivery.{Delivery}
-use Rattle.holds.proofs.Kept.{tied_cond}
 use Rattle.std.proofs.Common.{rules, ◌≡◌, ℕ, ◌∙◌, ap, Some}
 use Rattle.std.specs.FinMap as map
 use Rattle.holds.specs.Deliveries.{times_in, sent_to}
@@ -14,5 +13,5 @@ sent_is consumer d before after was is = let put : ℕ → Delivery = λ n. reco
 pub returns-clause-ok : goal.returns-clause-ok
 returns-clause-ok c =
     let counted = sent_is c.args.consumer (map.get c.args.self.now c.args.position) c.sent_before.result c.saturating_add-times.result c.sent_before.ensures (search rules) in
-    kept_insert c.self.inside.deliveries.entries c.insert.new.self.entries c.args.position _ (λ q. c.in_ok-insert.ensures.updates.0 q ∙ tied_cond c.args.position q _ _)
+    kept_insert c.self.inside.deliveries.entries c.hold.new.deliveries.entries c.args.position _ c.in_ok-hold.ensures.ok
     ∙ (λ i. map.insert (c.self.view_is i) c.args.position (counted i))

@@ -5,4 +5,4 @@ use Rattle.holds.proofs.Kept.{get_kept}
 use Rattle.holds.proofs.holds_map.Holds.release.Goals as goal
 
 pub returns : goal.returns
-returns c q = rw (← c.self.view_is) (get_kept _ q ∙ c.release.ensures q ∙ ap (λ r. cond (nat_eq q c.args.position) (option_map released r) r) (sym (get_kept _ q)))
+returns c q = rw (← c.self.view_is) (get_kept _ q ∙ c.release.ensures.kept q ∙ ap (λ r. cond (nat_eq q c.args.position) (option_map released r) r) (sym (get_kept _ q)))
