@@ -5,6 +5,9 @@ pub mod Each
 pub mod Sound
 pub mod Seats
 pub mod Passed
+pub mod Standing
+pub mod Leaving
+pub mod GivenBack
 pub mod Kept
 pub mod Limits
 pub mod Found

@@ -1,10 +1,10 @@
 -- Hints that stay hints as a topic's subscriptions change.
-use Rattle.std.proofs.Common.{◌≡◌, ℕ, zero, suc, ◌+◌, ◌<◌, ◌≤◌, Bool, true, false, not, nat_eq, nat_lt, cond, ◌||◌, List, [], ◌∷◌, ◌++◌, length, filter, ◌∙◌, ap, sym, subst, refl, arith, Option, Some, None, length-append}
+use Rattle.std.proofs.Common.{◌≡◌, ℕ, zero, suc, ◌+◌, ◌<◌, ◌≤◌, Bool, true, false, not, nat_eq, nat_lt, cond, ◌||◌, List, [], ◌∷◌, ◌++◌, length, get_or, set, filter, ◌∙◌, ap, sym, subst, refl, arith, Option, Some, None, length-append}
 use Rattle.std.proofs.lemmas.Bool.{true≢false}
 use Rattle.std.proofs.lemmas.Bool.Decides.{nat_tests}
-use Rattle.std.proofs.lemmas.List.{get_or_append_left}
+use Rattle.std.proofs.lemmas.List.{get_or_append_left, set-get_or}
 use Rattle.std.specs.Prelude.{IsTrue, IsSomeAnd, IfSome, IfNone, slice_index}
-use Rattle.std.specs.List.{find}
+use Rattle.std.specs.List.{AllByRecursion, find, remove}
 use Rattle.std.specs.Option.{unwrap_or}
 use Rattle.std.specs.FinMap as map
 use Rattle.cursor.specs.Positions.{Positions, Lacks}
@@ -17,11 +17,11 @@ use Rattle.holds.proofs.Kept.{get_inserted}
 use Rattle.subscriptions.specs.declared.consumer.Mode.{Mode}
 use Rattle.subscriptions.specs.declared.consumer.Mode.TheVariants.{Exclusive, Failover, Shared, KeyShared}
 use Rattle.subscriptions.specs.declared.hint.Hint.{Hint}
-use Rattle.subscriptions.specs.Hints.{IsPassed, IsPassedOn, IsHint, AreHints, hinted, is_hint_of}
+use Rattle.subscriptions.specs.Hints.{IsPassed, IsHint, AreHintsOn, AreHintsOf, AreHints, hinted, is_hint_of}
 use Rattle.records.specs.declared.record.Record.{Record}
 use Rattle.subscriptions.specs.State.{Subscription, Subscriptions}
-use Rattle.subscriptions.specs.Steps.{first_changed, is_consumer, is_on, granted, granted_on, granted_to, acknowledged, acked_on, acknowledged_through, acked_through_on, sent, sent_on, sent_one, slotted, AdmitsBy, IsLeastIn, is_key_shared}
-use Rattle.subscriptions.proofs.Sound.{any_changed, all_kept, all_pushed}
+use Rattle.subscriptions.specs.Steps.{first_changed, is_on, granted, granted_on, acknowledged, acked_on, acknowledged_through, acked_through_on, sent, sent_on, slotted, attached_to, AdmitsBy, IsLeastIn, is_key_shared}
+use Rattle.subscriptions.proofs.Sound.{all_kept, all_pushed}
 use Rattle.subscriptions.proofs.Settled.{is_in, has_joined, get_forgotten, has_through, get_forgotten_below}
 
 -- ---- hints as a list
@@ -42,26 +42,23 @@ hinted_is key (hint ∷ hints) = elim (is_hint_of key hint) as (λ b. cond b hin
 same_keys : (a b : ConsumerKey) → same_key a b ≡ true → (a.session ≡ b.session) × (a.id ≡ b.id)
 same_keys a b h = grind (arith, nat_tests)
 
-key_is : (a b : ConsumerKey) → same_key a b ≡ true → a ≡ b
+pub key_is : (a b : ConsumerKey) → same_key a b ≡ true → a ≡ b
 key_is a b h = let same = same_keys a b h in λ i. record { session = same.0 i; id = same.1 i }
 
 nothing_passed : (o : Option Seat) (acked : Positions) (d : Deliveries) (slots : List ℕ) → IsPassed o acked d slots 0
 nothing_passed None acked d slots = tt
 nothing_passed (Some seat) acked d slots = λ i low _ _ _. absurd (omega (arith, low))
 
-passed_here : (t : Subscriptions) (key : ConsumerKey) (s : Subscription) (hint : Hint) → find (is_on key) t.subs ≡ Some s → hint.key ≡ key → IsHint t hint
-    → IsPassed (attached key s.seats) s.acked s.deliveries t.slots hint.below
-passed_here t key s hint is same ok =
-    subst (λ (o : Option Subscription). IsPassedOn o key t.slots hint.below) is
-    (subst (λ (k : ConsumerKey). IsPassedOn (find (is_on k) t.subs) k t.slots hint.below) same ok.passed)
+passed_here : (slots : List ℕ) (key : ConsumerKey) (s : Subscription) (hint : Hint) → hint.key ≡ key → IsHint slots s hint → IsPassed (attached key s.seats) s.acked s.deliveries slots hint.below
+passed_here slots key s hint same ok = subst (λ (k : ConsumerKey). IsPassed (attached k s.seats) s.acked s.deliveries slots hint.below) same ok.passed
 
-pub passed_from : (t : Subscriptions) (key : ConsumerKey) (s : Subscription) → find (is_on key) t.subs ≡ Some s → (hints : List Hint) → AreHints t hints
-    → IsPassed (attached key s.seats) s.acked s.deliveries t.slots (hinted key hints)
-passed_from t key s is [] all = nothing_passed (attached key s.seats) s.acked s.deliveries t.slots
-passed_from t key s is (hint ∷ hints) all =
-    elim (is_hint_of key hint) as (λ b. is_hint_of key hint ≡ b → IsPassed (attached key s.seats) s.acked s.deliveries t.slots (cond b hint.below (hinted key hints))) [
-      | true ↦ λ same. passed_here t key s hint is (key_is hint.key key same) all.0
-      | false ↦ λ _. passed_from t key s is hints all.1
+pub passed_from : (slots : List ℕ) (key : ConsumerKey) (s : Subscription) (hints : List Hint) → AreHintsOn slots s hints
+    → IsPassed (attached key s.seats) s.acked s.deliveries slots (hinted key hints)
+passed_from slots key s [] all = nothing_passed (attached key s.seats) s.acked s.deliveries slots
+passed_from slots key s (hint ∷ hints) all =
+    elim (is_hint_of key hint) as (λ b. is_hint_of key hint ≡ b → IsPassed (attached key s.seats) s.acked s.deliveries slots (cond b hint.below (hinted key hints))) [
+      | true ↦ λ same. passed_here slots key s hint (key_is hint.key key same) all.0
+      | false ↦ λ _. passed_from slots key s hints all.1
     ] refl
 
 -- ---- what a search passes over
@@ -108,35 +105,34 @@ is_mode Failover h = absurd (true≢false (sym h))
 is_mode Shared h = absurd (true≢false (sym h))
 is_mode KeyShared h = refl
 
-hint_by : (t : Subscriptions) (key : ConsumerKey) (s : Subscription) (committed : ℕ) (r : Option ℕ) → find (is_on key) t.subs ≡ Some s → committed ≤ length t.slots
-    → IfSome r (AdmitsBy KeyShared key s t.slots (IsOpenAt committed s.acked s.deliveries)) → IfNone r ((i : ℕ) → AdmitsBy KeyShared key s t.slots (IsOpenAt committed s.acked s.deliveries) i → ⊥)
-    → IsHint t (record { key = key; below = unwrap_or r committed })
-hint_by t key s committed (Some i) is fits some none = record {
-  known = omega (arith, fits, committed_least (attached key s.seats) s.acked s.deliveries t.slots committed i some);
-  passed = subst (λ (o : Option Subscription). IsPassedOn o key t.slots i) (sym is) (passed_least (attached key s.seats) s.acked s.deliveries t.slots committed i some);
+hint_by : (slots : List ℕ) (key : ConsumerKey) (s : Subscription) (committed : ℕ) (r : Option ℕ) → committed ≤ length slots
+    → IfSome r (AdmitsBy KeyShared key s slots (IsOpenAt committed s.acked s.deliveries)) → IfNone r ((i : ℕ) → AdmitsBy KeyShared key s slots (IsOpenAt committed s.acked s.deliveries) i → ⊥)
+    → IsHint slots s (record { key = key; below = unwrap_or r committed })
+hint_by slots key s committed (Some i) fits some none = record {
+  known = omega (arith, fits, committed_least (attached key s.seats) s.acked s.deliveries slots committed i some);
+  passed = passed_least (attached key s.seats) s.acked s.deliveries slots committed i some;
 }
-hint_by t key s committed None is fits some none = record {
+hint_by slots key s committed None fits some none = record {
   known = fits;
-  passed = subst (λ (o : Option Subscription). IsPassedOn o key t.slots committed) (sym is) (passed_none (attached key s.seats) s.acked s.deliveries t.slots committed none);
+  passed = passed_none (attached key s.seats) s.acked s.deliveries slots committed none;
 }
 
 -- what a mode by slots answers is a hint
-pub hint_picked : (t : Subscriptions) (key : ConsumerKey) (s : Subscription) (slots : List ℕ) (committed : ℕ) (r : Option ℕ) → find (is_on key) t.subs ≡ Some s → slots ≡ t.slots → committed ≤ length t.slots → is_key_shared s.mode ≡ true
+pub hint_picked : (known : List ℕ) (key : ConsumerKey) (s : Subscription) (slots : List ℕ) (committed : ℕ) (r : Option ℕ) → slots ≡ known → committed ≤ length known → is_key_shared s.mode ≡ true
     → IfSome r (AdmitsBy s.mode key s slots (IsOpenAt committed s.acked s.deliveries)) → IfNone r ((i : ℕ) → AdmitsBy s.mode key s slots (IsOpenAt committed s.acked s.deliveries) i → ⊥)
-    → IsHint t (record { key = key; below = unwrap_or r committed })
-hint_picked t key s slots committed r is same fits by_slots some none =
+    → IsHint known s (record { key = key; below = unwrap_or r committed })
+hint_picked known key s slots committed r same fits by_slots some none =
     let mode = is_mode s.mode by_slots in
-    hint_by t key s committed r is fits
-    (subst (λ (m : Mode). IfSome r (AdmitsBy m key s t.slots (IsOpenAt committed s.acked s.deliveries))) mode
+    hint_by known key s committed r fits
+    (subst (λ (m : Mode). IfSome r (AdmitsBy m key s known (IsOpenAt committed s.acked s.deliveries))) mode
     (subst (λ (slots : List ℕ). IfSome r (AdmitsBy s.mode key s slots (IsOpenAt committed s.acked s.deliveries))) same some))
-    (subst (λ (m : Mode). IfNone r ((i : ℕ) → AdmitsBy m key s t.slots (IsOpenAt committed s.acked s.deliveries) i → ⊥)) mode
+    (subst (λ (m : Mode). IfNone r ((i : ℕ) → AdmitsBy m key s known (IsOpenAt committed s.acked s.deliveries) i → ⊥)) mode
     (subst (λ (slots : List ℕ). IfNone r ((i : ℕ) → AdmitsBy s.mode key s slots (IsOpenAt committed s.acked s.deliveries) i → ⊥)) same none))
 
 -- ---- the hints stay where each consumer's open positions stay or are fewer
 
 -- a change of a subscription that frees no position
 record FreesNone (f : Subscription → Subscription) : Type 0 where
-  pub on : (key : ConsumerKey) (s : Subscription) → is_on key (f s) ≡ is_on key s
   pub seats : (s : Subscription) → (f s).seats ≡ s.seats
   pub opens : (s : Subscription) (i : ℕ) → Lacks (f s).acked i → holder (f s).deliveries i ≡ None → Lacks s.acked i × (holder s.deliveries i ≡ None)
 
@@ -145,40 +141,37 @@ stays_passed : (o : Option Seat) (acked acked' : Positions) (d d' : Deliveries) 
 stays_passed None acked acked' d d' slots n opens passed = tt
 stays_passed (Some seat) acked acked' d d' slots n opens passed = λ i low lacks free here. let was = opens i lacks free in passed i low was.0 was.1 here
 
-passed_on : (f : Subscription → Subscription) → FreesNone f → (key : ConsumerKey) (slots : List ℕ) (n : ℕ) (s : Subscription) → IsPassedOn (Some s) key slots n → IsPassedOn (Some (f s)) key slots n
-passed_on f frees key slots n s passed =
-    subst (λ (seats : List Seat). IsPassed (attached key seats) (f s).acked (f s).deliveries slots n) (sym (frees.seats s))
-    (stays_passed (attached key s.seats) s.acked (f s).acked s.deliveries (f s).deliveries slots n (frees.opens s) passed)
+hint_kept : (f : Subscription → Subscription) → FreesNone f → (slots : List ℕ) (s : Subscription) (hint : Hint) → IsHint slots s hint → IsHint slots (f s) hint
+hint_kept f frees slots s hint ok = record {
+  known = ok.known;
+  passed = subst (λ (seats : List Seat). IsPassed (attached hint.key seats) (f s).acked (f s).deliveries slots hint.below) (sym (frees.seats s))
+      (stays_passed (attached hint.key s.seats) s.acked (f s).acked s.deliveries (f s).deliveries slots hint.below (frees.opens s) ok.passed);
+}
 
-passed_first : (f : Subscription → Subscription) → FreesNone f → (key : ConsumerKey) (slots : List ℕ) (n : ℕ) (b : Bool) (s : Subscription) (o : Option Subscription)
-    → IsPassedOn (cond b (Some s) o) key slots n → IsPassedOn (cond b (Some (f s)) o) key slots n
-passed_first f frees key slots n true s o passed = passed_on f frees key slots n s passed
-passed_first f frees key slots n false s o passed = passed
+all_hints : (P Q : Hint → Type 0) → ((hint : Hint) → P hint → Q hint) → (hints : List Hint) → AllByRecursion P hints → AllByRecursion Q hints
+all_hints P Q to [] all = tt
+all_hints P Q to (hint ∷ hints) all = (to hint all.0, all_hints P Q to hints all.1)
 
-passed_rest : (key : ConsumerKey) (slots : List ℕ) (n : ℕ) (b : Bool) (s : Subscription) (o o' : Option Subscription) → (IsPassedOn o key slots n → IsPassedOn o' key slots n)
-    → IsPassedOn (cond b (Some s) o) key slots n → IsPassedOn (cond b (Some s) o') key slots n
-passed_rest key slots n true s o o' to passed = passed
-passed_rest key slots n false s o o' to passed = to passed
+-- one subscription changes
+hints_changed : (slots : List ℕ) (test : Subscription → Bool) (f : Subscription → Subscription) → FreesNone f → (subs : List Subscription) (hints : List (List Hint))
+    → AreHintsOf slots subs hints → AreHintsOf slots (first_changed test f subs) hints
+hints_changed slots test f frees [] hints all = all
+hints_changed slots test f frees (s ∷ subs) [] all = absurd all
+hints_changed slots test f frees (s ∷ subs) (h ∷ hints) all = elim (test s) as (λ b. AreHintsOf slots (cond b (f s ∷ subs) (s ∷ first_changed test f subs)) (h ∷ hints)) [
+  | true ↦ (all_hints (IsHint slots s) (IsHint slots (f s)) (λ hint ok. hint_kept f frees slots s hint ok) h all.0, all.1)
+  | false ↦ (all.0, hints_changed slots test f frees subs hints all.1)
+]
 
-passed_changed : (test : Subscription → Bool) (f : Subscription → Subscription) → FreesNone f → (key : ConsumerKey) (slots : List ℕ) (n : ℕ) (subs : List Subscription)
-    → IsPassedOn (find (is_on key) subs) key slots n → IsPassedOn (find (is_on key) (first_changed test f subs)) key slots n
-passed_changed test f frees key slots n [] passed = tt
-passed_changed test f frees key slots n (s ∷ subs) passed =
-    elim (test s) as (λ b. IsPassedOn (find (is_on key) (cond b (f s ∷ subs) (s ∷ first_changed test f subs))) key slots n) [
-      | true ↦ subst (λ (b : Bool). IsPassedOn (cond b (Some (f s)) (find (is_on key) subs)) key slots n) (sym (frees.on key s)) (passed_first f frees key slots n (is_on key s) s (find (is_on key) subs) passed)
-      | false ↦ passed_rest key slots n (is_on key s) s (find (is_on key) subs) (find (is_on key) (first_changed test f subs)) (passed_changed test f frees key slots n subs) passed
-    ]
+-- ---- the hints of each subscription
 
-all_hints : (t t' : Subscriptions) → ((hint : Hint) → IsHint t hint → IsHint t' hint) → (hints : List Hint) → AreHints t hints → AreHints t' hints
-all_hints t t' to [] all = tt
-all_hints t t' to (hint ∷ hints) all = (to hint all.0, all_hints t t' to hints all.1)
+hints_length : (slots : List ℕ) (subs : List Subscription) (hints : List (List Hint)) → AreHintsOf slots subs hints → length hints ≡ length subs
+hints_length slots [] [] all = refl
+hints_length slots [] (h ∷ hints) all = absurd all
+hints_length slots (s ∷ subs) [] all = absurd all
+hints_length slots (s ∷ subs) (h ∷ hints) all = omega (arith, hints_length slots subs hints all.1)
 
--- one subscription changes, and perhaps the changes do
-hints_changed : (t : Subscriptions) (test : Subscription → Bool) (f : Subscription → Subscription) (changes : List Record) → FreesNone f → (hints : List Hint)
-    → AreHints t hints → AreHints (record { subs = first_changed test f t.subs; changes = changes; slots = t.slots }) hints
-hints_changed t test f changes frees hints all =
-    all_hints t (record { subs = first_changed test f t.subs; changes = changes; slots = t.slots })
-    (λ hint ok. record { known = ok.known; passed = passed_changed test f frees hint.key t.slots hint.below t.subs ok.passed }) hints all
+pub are_hints : (t : Subscriptions) (hints : List (List Hint)) → AreHintsOf t.slots t.subs hints → AreHints t hints
+are_hints t hints all = record { places = hints_length t.slots t.subs hints all; each_one = all }
 
 -- ---- further slots
 
@@ -187,28 +180,35 @@ passed_longer None acked d slots more n known passed = tt
 passed_longer (Some seat) acked d slots more n known passed = λ i low lacks free here.
     passed i low lacks free (subst (λ slot. IsTrue (in_ranges seat.ranges slot)) (get_or_append_left slots more 0 i (omega (arith, low, known))) here)
 
-passed_on_longer : (o : Option Subscription) (key : ConsumerKey) (slots more : List ℕ) (n : ℕ) → n ≤ length slots → IsPassedOn o key slots n → IsPassedOn o key (slots ++ more) n
-passed_on_longer None key slots more n known passed = tt
-passed_on_longer (Some s) key slots more n known passed = passed_longer (attached key s.seats) s.acked s.deliveries slots more n known passed
+hint_longer : (slots more : List ℕ) (s : Subscription) (hint : Hint) → IsHint slots s hint → IsHint (slots ++ more) s hint
+hint_longer slots more s hint ok = record {
+  known = rw length-append (omega (arith, ok.known));
+  passed = passed_longer (attached hint.key s.seats) s.acked s.deliveries slots more hint.below ok.known ok.passed;
+}
 
-pub hints_slotted : (t : Subscriptions) (more : List ℕ) (hints : List Hint) → AreHints t hints → AreHints (slotted t more) hints
-hints_slotted t more hints all =
-    all_hints t (slotted t more) (λ hint ok. record {
-      known = rw length-append (omega (arith, ok.known));
-      passed = passed_on_longer (find (is_on hint.key) t.subs) hint.key t.slots more hint.below ok.known ok.passed;
-    }) hints all
+hints_longer : (slots more : List ℕ) (subs : List Subscription) (hints : List (List Hint)) → AreHintsOf slots subs hints → AreHintsOf (slots ++ more) subs hints
+hints_longer slots more [] [] all = tt
+hints_longer slots more [] (h ∷ hints) all = absurd all
+hints_longer slots more (s ∷ subs) [] all = absurd all
+hints_longer slots more (s ∷ subs) (h ∷ hints) all = (
+  all_hints (IsHint slots s) (IsHint (slots ++ more) s) (λ hint ok. hint_longer slots more s hint ok) h all.0,
+  hints_longer slots more subs hints all.1,
+)
+
+pub hints_slotted : (t : Subscriptions) (more : List ℕ) (hints : List (List Hint)) → AreHints t hints → AreHints (slotted t more) hints
+hints_slotted t more hints all = are_hints (slotted t more) hints (hints_longer t.slots more t.subs hints all.each_one)
 
 -- ---- the calls that free no position
 
 grants : (key : ConsumerKey) (permits : ℕ) → FreesNone (granted_on key permits)
 grants key permits = record {
-  on = λ k s. any_changed (is_consumer key) (granted_to permits) (is_consumer k) (λ _. refl) s.consumers;
   seats = λ _. refl;
   opens = λ s i lacks free. (lacks, free);
 }
 
-pub hints_granted : (t : Subscriptions) (key : ConsumerKey) (permits : ℕ) (hints : List Hint) → AreHints t hints → AreHints (granted t key permits) hints
-hints_granted t key permits hints all = hints_changed t (is_on key) (granted_on key permits) t.changes (grants key permits) hints all
+pub hints_granted : (t : Subscriptions) (key : ConsumerKey) (permits : ℕ) (hints : List (List Hint)) → AreHints t hints → AreHints (granted t key permits) hints
+hints_granted t key permits hints all =
+    are_hints (granted t key permits) hints (hints_changed t.slots (is_on key) (granted_on key permits) (grants key permits) t.subs hints all.each_one)
 
 or_first : (a b : Bool) → (a || b) ≡ false → a ≡ false
 or_first true b h = h
@@ -223,25 +223,25 @@ was_free b x y other is free = sym (ap (λ c. holder_in (cond c None x)) other) 
 
 acks : (ps : List ℕ) → FreesNone (acked_on ps)
 acks ps = record {
-  on = λ _ _. refl;
   seats = λ _. refl;
   opens = λ s i lacks free. let none = sym (has_joined s.acked ps i) ∙ lacks in
       (or_first _ _ none, was_free (is_in i ps) (map.get s.deliveries i) _ (or_second _ _ none) (get_forgotten s.deliveries ps i) free);
 }
 
-pub hints_acknowledged : (t : Subscriptions) (key : ConsumerKey) (ps : List ℕ) (hints : List Hint) → AreHints t hints → AreHints (acknowledged t key ps) hints
-hints_acknowledged t key ps hints all = hints_changed t (is_on key) (acked_on ps) (acknowledged t key ps).changes (acks ps) hints all
+pub hints_acknowledged : (t : Subscriptions) (key : ConsumerKey) (ps : List ℕ) (hints : List (List Hint)) → AreHints t hints → AreHints (acknowledged t key ps) hints
+hints_acknowledged t key ps hints all =
+    are_hints (acknowledged t key ps) hints (hints_changed t.slots (is_on key) (acked_on ps) (acks ps) t.subs hints all.each_one)
 
 acks_through : (p : ℕ) → FreesNone (acked_through_on p)
 acks_through p = record {
-  on = λ _ _. refl;
   seats = λ _. refl;
   opens = λ s i lacks free. let none = sym (has_through s.acked (p + 1) i) ∙ lacks in
       (or_first _ _ none, was_free (nat_lt i (p + 1)) (map.get s.deliveries i) _ (or_second _ _ none) (get_forgotten_below s.deliveries (p + 1) i) free);
 }
 
-pub hints_through : (t : Subscriptions) (key : ConsumerKey) (p : ℕ) (hints : List Hint) → AreHints t hints → AreHints (acknowledged_through t key p) hints
-hints_through t key p hints all = hints_changed t (is_on key) (acked_through_on p) (acknowledged_through t key p).changes (acks_through p) hints all
+pub hints_through : (t : Subscriptions) (key : ConsumerKey) (p : ℕ) (hints : List (List Hint)) → AreHints t hints → AreHints (acknowledged_through t key p) hints
+hints_through t key p hints all =
+    are_hints (acknowledged_through t key p) hints (hints_changed t.slots (is_on key) (acked_through_on p) (acks_through p) t.subs hints all.each_one)
 
 free_before : (b : Bool) (key : ConsumerKey) (before x y : Option Delivery) → y ≡ cond b (Some (sent_to key before)) x → holder_in y ≡ None → holder_in x ≡ None
 free_before true key before x y is free = let taken : Some key ≡ None = sym (ap (λ o. holder_in o) is) ∙ free in absurd (cc)
@@ -249,21 +249,131 @@ free_before false key before x y is free = sym (ap (λ o. holder_in o) is) ∙ f
 
 sends : (key : ConsumerKey) (p : ℕ) → FreesNone (sent_on key p)
 sends key p = record {
-  on = λ k s. any_changed (is_consumer key) (λ c. sent_one c) (is_consumer k) (λ _. refl) s.consumers;
   seats = λ _. refl;
   opens = λ s i lacks free. (lacks, free_before (nat_eq i p) key (map.get s.deliveries p) (map.get s.deliveries i) _ (get_inserted s.deliveries p (sent_to key (map.get s.deliveries p)) i) free);
 }
 
-pub hints_sent : (t : Subscriptions) (key : ConsumerKey) (p : ℕ) (hints : List Hint) → AreHints t hints → AreHints (sent t key p) hints
-hints_sent t key p hints all = hints_changed t (is_on key) (sent_on key p) t.changes (sends key p) hints all
+pub hints_sent : (t : Subscriptions) (key : ConsumerKey) (p : ℕ) (hints : List (List Hint)) → AreHints t hints → AreHints (sent t key p) hints
+hints_sent t key p hints all =
+    are_hints (sent t key p) hints (hints_changed t.slots (is_on key) (sent_on key p) (sends key p) t.subs hints all.each_one)
 
 -- ---- a hint is noted
 
-pushed_or_not : (t : Subscriptions) (b : Bool) (hints : List Hint) (hint : Hint) → AreHints t hints → IsHint t hint → AreHints t (cond b (hints ++ hint ∷ []) hints)
-pushed_or_not t true hints hint all is = all_pushed (IsHint t) hints hint all is
-pushed_or_not t false hints hint all is = all
+pushed_or_not : (slots : List ℕ) (s : Subscription) (b : Bool) (hints : List Hint) (hint : Hint) → AreHintsOn slots s hints → IsHint slots s hint → AreHintsOn slots s (cond b (hints ++ hint ∷ []) hints)
+pushed_or_not slots s true hints hint all is = all_pushed (IsHint slots s) hints hint all is
+pushed_or_not slots s false hints hint all is = all
 
-pub noted : (t : Subscriptions) (key : ConsumerKey) (hints others new : List Hint) (hint : Hint) (b : Bool) → others ≡ filter (λ h. not (is_hint_of key h)) hints → new ≡ cond b (others ++ hint ∷ []) others
-    → AreHints t hints → IsHint t hint → AreHints t new
-noted t key hints others new hint b kept pushed all is =
-    subst (AreHints t) (sym pushed) (pushed_or_not t b others hint (subst (AreHints t) (sym kept) (all_kept (IsHint t) (λ h. not (is_hint_of key h)) hints all)) is)
+pub noted : (slots : List ℕ) (s : Subscription) (key : ConsumerKey) (hints others new : List Hint) (hint : Hint) (b : Bool) → others ≡ filter (λ h. not (is_hint_of key h)) hints → new ≡ cond b (others ++ hint ∷ []) others
+    → AreHintsOn slots s hints → IsHint slots s hint → AreHintsOn slots s new
+noted slots s key hints others new hint b kept pushed all is =
+    subst (AreHintsOn slots s) (sym pushed)
+    (pushed_or_not slots s b others hint (subst (AreHintsOn slots s) (sym kept) (all_kept (IsHint slots s) (λ h. not (is_hint_of key h)) hints all)) is)
+
+-- ---- a consumer is attached behind the others
+
+apart_keys : (a b : ConsumerKey) → same_key a b ≡ false → same_key b a ≡ false
+apart_keys a b h = grind (arith, nat_tests)
+
+found_before : (key : ConsumerKey) (seats : List Seat) (seat : Seat) → same_key seat.key key ≡ false → attached key (seats ++ seat ∷ []) ≡ attached key seats
+found_before key [] seat other = ap (λ b. cond b (Some seat) None) other
+found_before key (x ∷ seats) seat other = ap (λ o. cond (same_key x.key key) (Some x) o) (found_before key seats seat other)
+
+hint_beside : (slots : List ℕ) (mode : Mode) (seat : Seat) (s : Subscription) (hint : Hint) → is_hint_of seat.key hint ≡ false → IsHint slots s hint → IsHint slots (attached_to mode seat s) hint
+hint_beside slots mode seat s hint other ok = record {
+  known = ok.known;
+  passed = subst (λ (o : Option Seat). IsPassed o s.acked s.deliveries slots hint.below) (sym (found_before hint.key s.seats seat (apart_keys hint.key seat.key other))) ok.passed;
+}
+
+-- the others keep their hints
+hints_beside : (slots : List ℕ) (mode : Mode) (seat : Seat) (s : Subscription) (hints : List Hint) → AreHintsOn slots s hints
+    → AreHintsOn slots (attached_to mode seat s) (filter (λ h. not (is_hint_of seat.key h)) hints)
+hints_beside slots mode seat s [] all = tt
+hints_beside slots mode seat s (hint ∷ hints) all =
+    elim (is_hint_of seat.key hint) as (λ b. is_hint_of seat.key hint ≡ b → AreHintsOn slots (attached_to mode seat s) (cond (not b) (hint ∷ filter (λ h. not (is_hint_of seat.key h)) hints) (filter (λ h. not (is_hint_of seat.key h)) hints))) [
+      | true ↦ λ _. hints_beside slots mode seat s hints all.1
+      | false ↦ λ other. (hint_beside slots mode seat s hint other all.0, hints_beside slots mode seat s hints all.1)
+    ] refl
+
+-- ---- the hints of the subscription at a place
+
+pub hints_at : (slots : List ℕ) (subs : List Subscription) (hints : List (List Hint)) (i : ℕ) (s : Subscription) (h : List Hint) → AreHintsOf slots subs hints → i < length subs
+    → s ≡ get_or subs i s → h ≡ get_or hints i h → AreHintsOn slots s h
+hints_at slots [] [] i s h all low is its = absurd (omega (arith, low))
+hints_at slots [] (y ∷ hints) i s h all low is its = absurd all
+hints_at slots (x ∷ subs) [] i s h all low is its = absurd all
+hints_at slots (x ∷ subs) (y ∷ hints) zero s h all low is its =
+    subst (λ (a : Subscription). AreHintsOn slots a h) (sym is) (subst (AreHintsOn slots x) (sym its) all.0)
+hints_at slots (x ∷ subs) (y ∷ hints) (suc i) s h all low is its = hints_at slots subs hints i s h all.1 (omega (arith, low)) is its
+
+pub hints_set : (slots : List ℕ) (subs : List Subscription) (hints : List (List Hint)) (i : ℕ) (s : Subscription) (h : List Hint) → AreHintsOf slots subs hints → AreHintsOn slots s h
+    → AreHintsOf slots (set subs i s) (set hints i h)
+hints_set slots [] [] zero s h all is = tt
+hints_set slots [] [] (suc i) s h all is = tt
+hints_set slots [] (y ∷ hints) i s h all is = absurd all
+hints_set slots (x ∷ subs) [] i s h all is = absurd all
+hints_set slots (x ∷ subs) (y ∷ hints) zero s h all is = (is, all.1)
+hints_set slots (x ∷ subs) (y ∷ hints) (suc i) s h all is = (all.0, hints_set slots subs hints i s h all.1 is)
+
+hints_pushed : (slots : List ℕ) (subs : List Subscription) (hints : List (List Hint)) (s : Subscription) → AreHintsOf slots subs hints → AreHintsOf slots (subs ++ s ∷ []) (hints ++ [] ∷ [])
+hints_pushed slots [] [] s all = (tt, tt)
+hints_pushed slots [] (h ∷ hints) s all = absurd all
+hints_pushed slots (x ∷ subs) [] s all = absurd all
+hints_pushed slots (x ∷ subs) (h ∷ hints) s all = (all.0, hints_pushed slots subs hints s all.1)
+
+hints_removed : (slots : List ℕ) (subs : List Subscription) (hints : List (List Hint)) (i : ℕ) → AreHintsOf slots subs hints → AreHintsOf slots (remove subs i) (remove hints i)
+hints_removed slots [] [] zero all = tt
+hints_removed slots [] [] (suc i) all = tt
+hints_removed slots [] (h ∷ hints) i all = absurd all
+hints_removed slots (x ∷ subs) [] i all = absurd all
+hints_removed slots (x ∷ subs) (h ∷ hints) zero all = all.1
+hints_removed slots (x ∷ subs) (h ∷ hints) (suc i) all = (all.0, hints_removed slots subs hints i all.1)
+
+-- so many subscriptions without hints
+hints_none : (slots : List ℕ) (subs : List Subscription) (hints : List (List Hint)) → length hints ≡ length subs → AllByRecursion (λ h. h ≡ []) hints → AreHintsOf slots subs hints
+hints_none slots [] [] same empty = tt
+hints_none slots [] (h ∷ hints) same empty = absurd (omega (arith, same))
+hints_none slots (s ∷ subs) [] same empty = absurd (omega (arith, same))
+hints_none slots (s ∷ subs) (h ∷ hints) same empty = (subst (AreHintsOn slots s) (sym empty.0) tt, hints_none slots subs hints (omega (arith, same)) empty.1)
+
+-- ---- what the calls do to them
+
+-- a consumer is attached
+pub hints_joined : (t : Subscriptions) (hints : List (List Hint)) (mode : Mode) (seat : Seat) (i : ℕ) (s s' : Subscription) (h h' : List Hint) → AreHints t hints → i < length t.subs
+    → s ≡ get_or t.subs i s → h ≡ get_or hints i h → s' ≡ attached_to mode seat s → h' ≡ filter (λ x. not (is_hint_of seat.key x)) h
+    → AreHints (record t { subs = set t.subs i s' }) (set hints i h')
+hints_joined t hints mode seat i s s' h h' are low is its new kept =
+    are_hints (record t { subs = set t.subs i s' }) (set hints i h')
+    (hints_set t.slots t.subs hints i s' h' are.each_one
+    (subst (λ (x : Subscription). AreHintsOn t.slots x h') (sym new)
+    (subst (AreHintsOn t.slots (attached_to mode seat s)) (sym kept) (hints_beside t.slots mode seat s h (hints_at t.slots t.subs hints i s h are.each_one low is its)))))
+
+-- positions are given back
+pub hints_cleared : (t : Subscriptions) (hints : List (List Hint)) (i : ℕ) (s' : Subscription) (h' : List Hint) → AreHints t hints → h' ≡ []
+    → AreHints (record t { subs = set t.subs i s' }) (set hints i h')
+hints_cleared t hints i s' h' are none =
+    are_hints (record t { subs = set t.subs i s' }) (set hints i h')
+    (hints_set t.slots t.subs hints i s' h' are.each_one (subst (AreHintsOn t.slots s') (sym none) tt))
+
+pub hints_noted : (t : Subscriptions) (hints : List (List Hint)) (i : ℕ) (s : Subscription) (h h' : List Hint) → AreHints t hints → i < length t.subs → s ≡ get_or t.subs i s → h ≡ get_or hints i h
+    → (AreHintsOn t.slots s h → AreHintsOn t.slots s h') → AreHints t (set hints i h')
+hints_noted t hints i s h h' are low is its to =
+    are_hints t (set hints i h')
+    (subst (λ (xs : List Subscription). AreHintsOf t.slots xs (set hints i h')) (ap (set t.subs i) is ∙ set-get_or t.subs i s)
+    (hints_set t.slots t.subs hints i s h' are.each_one (to (hints_at t.slots t.subs hints i s h are.each_one low is its))))
+
+-- a subscription is made
+pub hints_made : (t : Subscriptions) (hints : List (List Hint)) (s : Subscription) (h : List Hint) (changes : List Record) → AreHints t hints → h ≡ []
+    → AreHints (record { subs = t.subs ++ s ∷ []; changes = changes; slots = t.slots }) (hints ++ h ∷ [])
+hints_made t hints s h changes are none =
+    subst (λ (x : List Hint). AreHints (record { subs = t.subs ++ s ∷ []; changes = changes; slots = t.slots }) (hints ++ x ∷ [])) (sym none)
+    (are_hints (record { subs = t.subs ++ s ∷ []; changes = changes; slots = t.slots }) (hints ++ [] ∷ []) (hints_pushed t.slots t.subs hints s are.each_one))
+
+-- a subscription goes
+pub hints_gone : (t : Subscriptions) (hints : List (List Hint)) (i : ℕ) (changes : List Record) → AreHints t hints
+    → AreHints (record { subs = remove t.subs i; changes = changes; slots = t.slots }) (remove hints i)
+hints_gone t hints i changes are =
+    are_hints (record { subs = remove t.subs i; changes = changes; slots = t.slots }) (remove hints i) (hints_removed t.slots t.subs hints i are.each_one)
+
+-- none is known so far
+pub hints_opened : (t : Subscriptions) (hints : List (List Hint)) → length hints ≡ length t.subs → AllByRecursion (λ h. h ≡ []) hints → AreHints t hints
+hints_opened t hints same empty = are_hints t hints (hints_none t.slots t.subs hints same empty)

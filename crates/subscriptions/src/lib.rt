@@ -6,6 +6,7 @@
 
 mod backlog;
 mod consumer;
+mod directory;
 mod dispatch;
 mod hint;
 mod hints;

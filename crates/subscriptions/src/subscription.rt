@@ -14,7 +14,7 @@ ghost use Rattle.subscriptions.specs.Statuses.{IsStatus};
 use crate::backlog::Backlog;
 use crate::consumer::{Consumer, Mode, Refusal, TooManyPermits};
 use crate::dispatch::Dispatch;
-use crate::progress::Progress;
+use crate::progress::{Progress, lowered};
 use crate::status::SubscriptionStatus;
 use cursor::Cursor;
 use holds::{Consumer as Seat, ConsumerKey, SlotRange};
@@ -181,9 +181,9 @@ impl Subscription {
     }
 
     /// The position that the consumer may get, its permits aside. On Key_Shared the search begins at `from`, below which
-    /// nothing is left for it.
+    /// nothing is left for it. What is acknowledged or held in front is passed over once, and not by later calls.
     pub(crate) fn pick(
-        &self,
+        &mut self,
         key: ConsumerKey,
         slots: &[u16],
         committed: u64,
@@ -191,11 +191,13 @@ impl Subscription {
     ) -> Option<u64>
         requires fits { committed ≤ 2 ^ 62 }
         requires known { committed ≤ length slots.now }
-        requires there { is_on key self.now ≡ true }
-        requires passed { IsPassed (attached key self.now.seats) self.now.acked self.now.deliveries slots.now from }
-        ensures some { IfSome result (AdmitsBy self.now.mode key self.now slots.now (IsOpenAt committed self.now.acked self.now.deliveries)) }
-        ensures none { IfNone result ((i : ℕ) → AdmitsBy self.now.mode key self.now slots.now (IsOpenAt committed self.now.acked self.now.deliveries) i → ⊥) }
+        requires there { is_on key self.old ≡ true }
+        requires passed { IsPassed (attached key self.old.seats) self.old.acked self.old.deliveries slots.now from }
+        ensures same { self.new ≡ self.old }
+        ensures some { IfSome result (AdmitsBy self.old.mode key self.old slots.now (IsOpenAt committed self.old.acked self.old.deliveries)) }
+        ensures none { IfNone result ((i : ℕ) → AdmitsBy self.old.mode key self.old slots.now (IsOpenAt committed self.old.acked self.old.deliveries) i → ⊥) }
     {
+        self.progress.settle(committed);
         let backlog = Backlog {
             progress: &self.progress,
             slots,
@@ -232,6 +234,14 @@ impl Subscription {
         Ok(before)
     }
 
+    /// Whether a consumer of the session is attached. Where none is, the session's end changes nothing.
+    pub(crate) fn has_session(&self, who: u64) -> bool
+        ensures value { result ≡ list_any (λ c. nat_eq c.key.session who) self.now.consumers }
+        ensures none { result ≡ false → left_on who self.now ≡ self.now }
+    {
+        has_session(self.consumers.as_slice(), who)
+    }
+
     /// The session's consumers go, and what they hold is free.
     pub(crate) fn leave(&mut self, who: u64)
         ensures { self.new ≡ left_on who self.old }
@@ -257,6 +267,14 @@ impl Subscription {
     {
         let mode = self.dispatch.mode();
         give_back_asked(&mut self.progress, key, mode, asked);
+    }
+
+    /// A place below which no position is asked back: the positions that are named are, where the mode
+    /// serves many, and else all.
+    pub(crate) fn asked_from(&self, asked: Option<&[u64]>) -> u64
+        ensures { (i : ℕ) → i < result → is_asked_back self.now.mode (option_copied asked.entry) i ≡ false }
+    {
+        asked_from(self.dispatch.mode(), asked)
     }
 
     /// Whether the mode serves many consumers.
@@ -337,6 +355,13 @@ fn is_attached(consumers: &[Consumer], key: ConsumerKey) -> bool
     consumers
         .iter()
         .any(|c| c.key.session == key.session && c.key.id == key.id)
+}
+
+/// Whether one of the consumers is of the session.
+fn has_session(consumers: &[Consumer], who: u64) -> bool
+    ensures { result ≡ list_any (λ c. nat_eq c.key.session who) consumers.now }
+{
+    consumers.iter().any(|c| c.key.session == who)
 }
 
 /// Where a consumer stands.
@@ -423,6 +448,19 @@ fn give_back_asked(progress: &mut Progress, key: ConsumerKey, mode: Mode, asked:
         return;
     }
     progress.give_back_among(key, positions);
+}
+
+/// A place below which no position is asked back.
+fn asked_from(mode: Mode, asked: Option<&[u64]>) -> u64
+    ensures { (i : ℕ) → i < result → is_asked_back mode (option_copied asked.entry) i ≡ false }
+{
+    let Some(positions) = asked else {
+        return 0;
+    };
+    if !serves_many(mode) {
+        return 0;
+    }
+    lowered(u64::MAX, positions)
 }
 
 /// Drops the consumers of the session.

@@ -1,15 +1,18 @@
-ghost use Rattle.std.specs.Prelude.{◌≡◌, ◌+◌, ◌^◌, ◌<◌, ◌≤◌, ◌++◌, ◌∷◌, [], ℕ, All, IfOk, IfNone, IfSome, OnOk, OnErr, Some, None, true, false, drop, length, nat_le, position, map as each};
-ghost use Rattle.std.specs.List.{IsDistinct, find, list_any};
+ghost use Rattle.std.specs.Prelude.{◌≡◌, ◌+◌, ◌^◌, ◌<◌, ◌≤◌, ◌++◌, ◌∷◌, [], ℕ, List, All, IfOk, IfNone, IfSome, OnOk, OnErr, Some, None, true, false, drop, length, nat_le, position, map as each};
+ghost use Rattle.std.specs.List.{AllByRecursion, IsDistinct, find};
 ghost use Rattle.std.specs.Str.{bytes_eq};
 ghost use Rattle.records.specs.declared.kept_cursor.KeptCursor.{KeptCursor};
 ghost use Rattle.records.specs.declared.record.Record.TheVariants.{Acknowledged as acknowledged_change};
 ghost use Rattle.subscriptions.specs.Steps.{none_yet, opened_one, opened_all, first_changed, is_on, is_named, has_consumer, first_standing, making_refusals, subscribe_refusals, attach_refusals, refuses_ranges, attached_to, attached, attached_at, start_of, made, granted, granted_on, is_past_on, grants_too_many, acknowledged, acked_on, acknowledged_through, acked_through_on, is_shared, unsubscribe_refusals, unsubscribed, Admits, AdmitsAt, AdmitsOn, sent, sent_on, sent_before, times_at, left, left_on, detached, detached_on, redelivered, redelivered_on, shares, is_among_many, settled, slotted};
 ghost use Rattle.std.specs.Option.{option_copied};
+ghost use Rattle.subscriptions.specs.Hints.{AreHintsOf, AreHintsOn};
 ghost use Rattle.subscriptions.specs.Statuses.{AreStatuses};
+ghost use Rattle.holds.specs.declared.consumer.ConsumerKey.{ConsumerKey as Key};
 
 use crate::consumer::{Mode, Refusal, TooManyPermits};
+use crate::directory::Directory;
 use crate::hint::Hint;
-use crate::hints::{hinted, note};
+use crate::hints::Hints;
 use crate::initial_position::InitialPosition;
 use crate::status::SubscriptionStatus;
 use crate::statuses::{sort_by_name, statuses_of};
@@ -26,14 +29,16 @@ const MOST_SUBSCRIPTIONS: usize = 64;
 /// How many changes wait for a flush. Our own rule.
 const MOST_CHANGES: usize = 65_536;
 
-/// The subscriptions of one topic, with the changes of them that aren't durable yet.
+/// The subscriptions of one topic, each with the hints of its consumers at the same place, a directory
+/// that finds a consumer's subscription however many there are, and the changes that aren't durable yet.
 #[derive(Drop)]
 pub struct Subscriptions {
     alloc: Global,
     subs: Vec<Subscription>,
     changes: Vec<Record>,
     slots: Vec<u16>,
-    hints: Vec<Hint>,
+    hints: Vec<Hints>,
+    directory: Directory,
 }
 
 impl Model for Subscriptions {
@@ -48,10 +53,11 @@ impl Model for Subscriptions {
     ghost coded = { Prim.hlevel (codes, positions_code, deliveries_code) };
 
     ghost use Rattle.subscriptions.specs.Hints.{AreHints};
+    ghost use Rattle.subscriptions.specs.Directory.{ArePlaces};
 
     ghost view = { λ t. record { subs = t.subs.items; changes = t.changes.items; slots = t.slots.items } };
 
-    ghost invariant = { λ t. HasLimits (record { subs = t.subs.items; changes = t.changes.items; slots = t.slots.items }) × AreHints (record { subs = t.subs.items; changes = t.changes.items; slots = t.slots.items }) t.hints.items };
+    ghost invariant = { λ t. HasLimits (record { subs = t.subs.items; changes = t.changes.items; slots = t.slots.items }) × AreHints (record { subs = t.subs.items; changes = t.changes.items; slots = t.slots.items }) t.hints.items × ArePlaces t.subs.items t.directory };
 }
 
 impl Subscriptions {
@@ -65,6 +71,7 @@ impl Subscriptions {
             changes: Vec::new(alloc),
             slots: Vec::new(alloc),
             hints: Vec::new(alloc),
+            directory: Directory::new(alloc),
         }
     }
 
@@ -78,12 +85,14 @@ impl Subscriptions {
         requires distinct { IsDistinct bytes_eq (each (λ (c : KeptCursor). c.name) kept.items) }
         ensures { IfOk result (λ t. t ≡ slotted (opened_all (each (λ (c : KeptCursor). (c.name, c.acked)) kept.items)) slots.items) }
     {
+        let hints = without_hints(alloc, kept.len())?;
         Ok(Subscriptions {
             alloc,
             subs: open_all(alloc, kept)?,
             changes: Vec::new(alloc),
             slots,
-            hints: Vec::new(alloc),
+            hints,
+            directory: Directory::new(alloc),
         })
     }
 
@@ -91,7 +100,7 @@ impl Subscriptions {
     pub fn has_consumer(&self, key: ConsumerKey) -> bool
         ensures { result ≡ has_consumer self.now key }
     {
-        self.subs.iter().any(|s| s.is_on(key))
+        self.directory.of(key).is_some()
     }
 
     /// The changes that aren't durable yet, the earliest first.
@@ -161,21 +170,36 @@ impl Subscriptions {
     {
         let Some(place) = place_named(self.subs.as_slice(), name) else {
             let start = start_of(initial, committed);
+            let key = seat.key;
             let sub = new_subscription(self.alloc, name, mode, seat, start)?;
             let change = Record::Made {
                 name: Name::new(self.alloc, name)?,
                 start,
             };
+            self.changes.reserve(1)?;
             self.subs.reserve(1)?;
-            self.changes.push(change)?;
+            self.hints.reserve(1)?;
+            self.directory.add(key, self.subs.len())?;
+            self.changes.push(change).unwrap();
             self.subs.push(sub).unwrap();
-            self.hints.clear();
+            self.hints.push(Hints::new(self.alloc)).unwrap();
             return Ok(());
         };
+        let key = seat.key;
+        let former = self.directory.of(key);
+        self.directory.add(key, place)?;
         let sub = &mut self.subs[place];
-        sub.attach(self.alloc, mode, seat)?;
-        self.hints.clear();
-        Ok(())
+        match sub.attach(self.alloc, mode, seat) {
+            Ok(()) => {
+                let hints = &mut self.hints[place];
+                hints.forget(key);
+                Ok(())
+            }
+            Err(refused) => {
+                self.directory.set(key, former);
+                Err(refused)
+            }
+        }
     }
 
     /// FLOW: the consumer has so many permits more, unless it would have more than 2^62 in all. An
@@ -184,7 +208,7 @@ impl Subscriptions {
         ensures ok { OnOk result ((grants_too_many self.old key permits ≡ false) × (self.new ≡ granted self.old key permits)) }
         ensures err { OnErr result ((grants_too_many self.old key permits ≡ true) × (self.new ≡ self.old)) }
     {
-        let Some(place) = place_of(self.subs.as_slice(), key) else {
+        let Some(place) = self.directory.of(key) else {
             return Ok(());
         };
         let sub = &mut self.subs[place];
@@ -200,7 +224,7 @@ impl Subscriptions {
         ensures ok { OnOk result (self.new ≡ acknowledged self.old key positions.now) }
         ensures err { OnErr result (self.new ≡ self.old) }
     {
-        let Some(place) = place_of(self.subs.as_slice(), key) else {
+        let Some(place) = self.directory.of(key) else {
             return Ok(());
         };
         let sub = &mut self.subs[place];
@@ -219,7 +243,7 @@ impl Subscriptions {
         ensures ok { OnOk result (self.new ≡ acknowledged_through self.old key position) }
         ensures err { OnErr result (self.new ≡ self.old) }
     {
-        let Some(place) = place_of(self.subs.as_slice(), key) else {
+        let Some(place) = self.directory.of(key) else {
             return Ok(());
         };
         let sub = &mut self.subs[place];
@@ -236,7 +260,7 @@ impl Subscriptions {
     pub fn unsubscribe_refusal(&self, key: ConsumerKey) -> Option<Refusal>
         ensures { result ≡ first_standing (unsubscribe_refusals self.now key) }
     {
-        if is_shared(self.subs.as_slice(), key) {
+        if is_shared(self.subs.as_slice(), self.directory.of(key)) {
             return Some(Refusal::ConsumerBusy);
         }
         if !self.has_room(1) {
@@ -252,14 +276,17 @@ impl Subscriptions {
         ensures ok { OnOk result (self.new ≡ unsubscribed self.old key) }
         ensures err { OnErr result (self.new ≡ self.old) }
     {
-        let Some(place) = place_of(self.subs.as_slice(), key) else {
+        let Some(place) = self.directory.of(key) else {
             return Ok(());
         };
         let sub = &self.subs[place];
         let name = Name::new(self.alloc, sub.name())?;
         self.changes.push(Record::Removed { name })?;
         let _ = self.subs.remove(place);
-        self.hints.clear();
+        let _ = self.hints.remove(place);
+        self.directory.move_up(place);
+        let next = place_of(self.subs.as_slice(), key);
+        self.directory.set(key, next);
         Ok(())
     }
 
@@ -272,18 +299,20 @@ impl Subscriptions {
         ensures some { IfSome result (Admits self.old key committed) }
         ensures none { IfNone result ((i : ℕ) → Admits self.old key committed i → ⊥) }
     {
-        let Some(place) = place_of(self.subs.as_slice(), key) else {
+        let Some(place) = self.directory.of(key) else {
             return None;
         };
-        let sub = &self.subs[place];
+        let sub = &mut self.subs[place];
         if !sub.has_permit(key) {
             return None;
         }
-        let from = hinted(self.hints.as_slice(), key);
+        let hints = &self.hints[place];
+        let from = hints.beginning(key);
         let picked = sub.pick(key, self.slots.as_slice(), committed, from);
         if sub.is_key_shared() {
             let below = picked.unwrap_or(committed);
-            note(&mut self.hints, Hint { key, below });
+            let hints = &mut self.hints[place];
+            hints.note(Hint { key, below });
         }
         picked
     }
@@ -302,7 +331,7 @@ impl Subscriptions {
         ensures before { IfOk result (λ before. before ≡ sent_before self.old key position) }
         ensures err { OnErr result (self.new ≡ self.old) }
     {
-        let Some(place) = place_of(self.subs.as_slice(), key) else {
+        let Some(place) = self.directory.of(key) else {
             unreachable!()
         };
         let sub = &mut self.subs[place];
@@ -314,8 +343,8 @@ impl Subscriptions {
     pub fn leave(&mut self, who: u64)
         ensures { self.new ≡ left self.old who }
     {
-        leave_all(&mut self.subs, who);
-        self.hints.clear();
+        leave_all(&mut self.subs, &mut self.hints, who);
+        self.directory.leave(who);
     }
 
     /// CLOSE_CONSUMER: the consumer goes, and what it holds is free. An unknown consumer changes
@@ -323,12 +352,15 @@ impl Subscriptions {
     pub fn detach(&mut self, key: ConsumerKey)
         ensures { self.new ≡ detached self.old key }
     {
-        let Some(place) = place_of(self.subs.as_slice(), key) else {
+        let Some(place) = self.directory.of(key) else {
             return;
         };
         let sub = &mut self.subs[place];
         sub.detach(key);
-        self.hints.clear();
+        let hints = &mut self.hints[place];
+        hints.clear();
+        let next = place_of(self.subs.as_slice(), key);
+        self.directory.set(key, next);
     }
 
     /// REDELIVER: the consumer gives back what it holds: the positions that are asked for, where
@@ -337,19 +369,21 @@ impl Subscriptions {
     pub fn redeliver(&mut self, key: ConsumerKey, asked: Option<&[u64]>)
         ensures { self.new ≡ redelivered self.old key (option_copied asked.entry) }
     {
-        let Some(place) = place_of(self.subs.as_slice(), key) else {
+        let Some(place) = self.directory.of(key) else {
             return;
         };
         let sub = &mut self.subs[place];
+        let from = sub.asked_from(asked);
         sub.redeliver(key, asked);
-        self.hints.clear();
+        let hints = &mut self.hints[place];
+        hints.lower(from);
     }
 
     /// Whether the consumer is attached to a subscription of which the mode serves many.
     pub fn shares(&self, key: ConsumerKey) -> bool
         ensures { result ≡ shares self.now key }
     {
-        is_among_many(self.subs.as_slice(), key)
+        is_among_many(self.subs.as_slice(), self.directory.of(key))
     }
 
     /// The slot of a further entry. A refusal changes nothing.
@@ -411,6 +445,18 @@ fn open_all(alloc: Global, kept: Vec<KeptCursor>) -> Result<Vec<Subscription>, A
     Ok(subs)
 }
 
+/// So many subscriptions without hints.
+fn without_hints(alloc: Global, count: usize) -> Result<Vec<Hints>, AllocError>
+    ensures same { IfOk result (λ hints. length hints.items ≡ count) }
+    ensures empty { IfOk result (λ hints. AllByRecursion (λ h. h ≡ []) hints.items) }
+{
+    let mut hints = Vec::with_capacity(alloc, count)?;
+    for _ in 0..count {
+        hints.push(Hints::new(alloc))?;
+    }
+    Ok(hints)
+}
+
 /// Where the subscription of this name stands.
 fn place_named(subs: &[Subscription], name: &str) -> Option<usize>
     ensures place { result ≡ position (is_named name.now) subs.now }
@@ -419,30 +465,31 @@ fn place_named(subs: &[Subscription], name: &str) -> Option<usize>
     subs.iter().position(|s| s.name() == name)
 }
 
-/// Where the subscription of this consumer stands.
+/// Where the subscription of this consumer stands, by a search of all.
 fn place_of(subs: &[Subscription], key: ConsumerKey) -> Option<usize>
-    ensures place { result ≡ position (is_on key) subs.now }
-    ensures within { IfSome result (λ place. place < length subs.now) }
+    ensures { result ≡ position (is_on key) subs.now }
 {
     subs.iter().position(|s| s.is_on(key))
 }
 
-/// Whether the consumer's subscription has another consumer.
-fn is_shared(subs: &[Subscription], key: ConsumerKey) -> bool
-    ensures { result ≡ is_shared (find (is_on key) subs.now) }
+/// Whether the subscription at this place has more than one consumer.
+fn is_shared(subs: &[Subscription], place: Option<usize>) -> bool
+    requires { IfSome place (λ place. place < length subs.now) }
+    ensures { (key : Key) → place ≡ position (is_on key) subs.now → result ≡ is_shared (find (is_on key) subs.now) }
 {
-    let Some(place) = place_of(subs, key) else {
+    let Some(place) = place else {
         return false;
     };
     let sub = &subs[place];
     sub.is_shared()
 }
 
-/// Whether the mode of the consumer's subscription serves many.
-fn is_among_many(subs: &[Subscription], key: ConsumerKey) -> bool
-    ensures { result ≡ is_among_many (find (is_on key) subs.now) }
+/// Whether the mode of the subscription at this place serves many.
+fn is_among_many(subs: &[Subscription], place: Option<usize>) -> bool
+    requires { IfSome place (λ place. place < length subs.now) }
+    ensures { (key : Key) → place ≡ position (is_on key) subs.now → result ≡ is_among_many (find (is_on key) subs.now) }
 {
-    let Some(place) = place_of(subs, key) else {
+    let Some(place) = place else {
         return false;
     };
     let sub = &subs[place];
@@ -464,13 +511,28 @@ fn acknowledgements(alloc: Global, name: &str, positions: &[u64]) -> Result<Vec<
 }
 
 /// The session leaves each subscription.
-fn leave_all(subs: &mut Vec<Subscription>, who: u64)
-    ensures { subs.new.items ≡ each (λ s. left_on who s) subs.old.items }
+fn leave_all(subs: &mut Vec<Subscription>, hints: &mut Vec<Hints>, who: u64)
+    requires { length hints.old.items ≡ length subs.old.items }
+    ensures left { subs.new.items ≡ each (λ s. left_on who s) subs.old.items }
+    ensures hints { (slots : List ℕ) → AreHintsOf slots subs.old.items hints.old.items → AreHintsOf slots subs.new.items hints.new.items }
 {
     for i in 0..subs.len() {
         let sub = &mut subs[i];
-        sub.leave(who);
+        let noted = &mut hints[i];
+        leave_one(sub, noted, who);
     }
+}
+
+/// The session leaves a subscription. Where no consumer of it is attached, the hints stay.
+fn leave_one(sub: &mut Subscription, hints: &mut Hints, who: u64)
+    ensures left { sub.new ≡ left_on who sub.old }
+    ensures hints { (slots : List ℕ) → AreHintsOn slots sub.old hints.old → AreHintsOn slots sub.new hints.new }
+{
+    if !sub.has_session(who) {
+        return;
+    }
+    sub.leave(who);
+    hints.clear();
 }
 
 /// Drops the first changes.

@@ -9,7 +9,9 @@ use Rattle.subscriptions.specs.Soundness.{HasLimits}
 use Rattle.subscriptions.proofs.Limits.{limits_acknowledged}
 use Rattle.subscriptions.proofs.Found.{acknowledges_none, acknowledges_at}
 use Rattle.subscriptions.specs.Hints.{AreHints}
+use Rattle.subscriptions.specs.Directory.{ArePlaces}
 use Rattle.subscriptions.proofs.Passed.{hints_acknowledged}
+use Rattle.subscriptions.proofs.Standing.{places_acked}
 use Rattle.subscriptions.proofs.table.Subscriptions.acknowledge.Goals as goal
 
 pub returns-in_default-clause-ok : goal.returns-in_default-clause-ok
@@ -24,10 +26,10 @@ invariant_of-self-2 c =
     let at : position (is_on c.args.key) c.self.inside.subs.items ≡ Some c.in-Some.place = search rules in
     let grown : c.append.new.self.items ≡ c.self.inside.changes.items ++ each (λ p. Acknowledged c.index_mut-sub.result.now.name p) c.args.positions.now = search rules in
     let room : length t.changes + length c.args.positions.now ≤ 65536 = subst (λ (x : Subscriptions). length x.changes + length c.args.positions.now ≤ 65536) (sym c.self.view_is) c.requires.room in
-    subst (λ (x : Subscriptions). HasLimits x × AreHints x c.self.inside.hints.items)
+    subst (λ (x : Subscriptions). HasLimits x × AreHints x c.self.inside.hints.items × ArePlaces x.subs c.self.inside.directory)
     (sym (acknowledges_at t c.args.key c.args.positions.now c.in-Some.place c.index_mut-sub.result.now c.acknowledge.new.self at c.index_mut-sub.ensures.value c.in_ok-acknowledge.ensures.ok)
     ∙ ap (λ (cs : List Record). let n : Subscriptions = record { subs = set c.self.inside.subs.items c.in-Some.place c.acknowledge.new.self; changes = cs; slots = c.self.inside.slots.items } in n) (sym grown))
-    (limits_acknowledged t c.args.key c.args.positions.now room c.self.invariant.0, hints_acknowledged t c.args.key c.args.positions.now c.self.inside.hints.items c.self.invariant.1)
+    (limits_acknowledged t c.args.key c.args.positions.now room c.self.invariant.0, hints_acknowledged t c.args.key c.args.positions.now c.self.inside.hints.items c.self.invariant.1, places_acked t.subs c.self.inside.directory c.args.key c.args.positions.now c.self.invariant.2)
 
 pub returns-clause-ok : goal.returns-clause-ok
 returns-clause-ok c =

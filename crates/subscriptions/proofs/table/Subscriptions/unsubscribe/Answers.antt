@@ -7,6 +7,8 @@ use Rattle.subscriptions.specs.Steps.{is_on, first_standing, unsubscribe_refusal
 use Rattle.subscriptions.specs.Soundness.{HasLimits}
 use Rattle.subscriptions.proofs.Limits.{limits_unsubscribed}
 use Rattle.subscriptions.proofs.Found.{unsubscribes_none, unsubscribes_at}
+use Rattle.subscriptions.proofs.Passed.{hints_gone}
+use Rattle.subscriptions.proofs.Standing.{places_gone}
 use Rattle.subscriptions.proofs.table.Subscriptions.unsubscribe.Goals as goal
 
 pub returns-in_default-clause-ok : goal.returns-in_default-clause-ok
@@ -20,15 +22,15 @@ invariant_of-self-2 c =
     let t : Subscriptions = record { subs = c.self.inside.subs.items; changes = c.self.inside.changes.items; slots = c.self.inside.slots.items } in
     let at : position (is_on c.args.key) c.self.inside.subs.items ≡ Some c.in-Some.place = search rules in
     let grown : c.push.new.self.items ≡ c.self.inside.changes.items ++ Removed c.index-sub.result.now.name ∷ [] = search rules in
-    let cleared : c.clear.new.self.items ≡ [] = search rules in
     let allowed = ap (λ (x : Subscriptions). first_standing (unsubscribe_refusals x c.args.key)) c.self.view_is ∙ c.requires in
-    rw cleared (
+    let next : c.place_of-next.result ≡ position (is_on c.args.key) (remove c.self.inside.subs.items c.in-Some.place) = search rules in (
       subst HasLimits
           (sym (unsubscribes_at t c.args.key c.in-Some.place c.index-sub.result.now at c.index-sub.ensures)
           ∙ ap (λ (cs : List Record). let n : Subscriptions = record { subs = remove c.self.inside.subs.items c.in-Some.place; changes = cs; slots = c.self.inside.slots.items } in n) (sym grown)
           ∙ ap (λ (xs : List Subscription). let n : Subscriptions = record { subs = xs; changes = c.push.new.self.items; slots = c.self.inside.slots.items } in n) (sym c.remove.ensures.items))
           (limits_unsubscribed t c.args.key allowed c.self.invariant.0),
-      tt,
+      rw (c.remove.ensures.items, c.remove-2.ensures.items) (hints_gone t c.self.inside.hints.items c.in-Some.place c.push.new.self.items c.self.invariant.1),
+      rw c.remove.ensures.items (places_gone t c.self.inside.directory c.move_up.new.self c.set.new.self c.args.key c.in-Some.place c.index-sub.result.now c.place_of-next.result at c.index-sub.ensures allowed next c.move_up.ensures c.set.ensures c.self.invariant.2),
     )
 
 pub returns-clause-ok : goal.returns-clause-ok
