@@ -89,6 +89,52 @@ fn hold_is_undone(rt: HostRuntime) -> Result<(), Fail> {
 }
 
 #[test]
+fn a_position_that_another_holds_is_not_given_back(rt: HostRuntime) -> Result<(), Fail> {
+    let mut holds = three_held(rt.alloc())?;
+    holds.hold(4, SECOND)?;
+    holds.release(6);
+    holds.hold(6, SECOND)?;
+    holds.give_back(FIRST);
+    for position in [4, 5, 6] {
+        assert_eq!(rt; holds.holder(position), Some(SECOND), "at {position}");
+    }
+    holds.give_back(SECOND);
+    for position in [4, 5, 6] {
+        assert_eq!(rt; holds.holder(position), None, "at {position}");
+    }
+    assert_eq!(rt; holds.sent_before(4), 2);
+    Ok(())
+}
+
+#[test]
+fn a_forgotten_position_is_not_given_back(rt: HostRuntime) -> Result<(), Fail> {
+    let mut holds = three_held(rt.alloc())?;
+    holds.forget(6);
+    holds.forget_below(5);
+    holds.hold(4, SECOND)?;
+    holds.hold(6, SECOND)?;
+    holds.give_back(FIRST);
+    for position in [4, 5, 6] {
+        assert_eq!(rt; holds.holder(position), Some(SECOND), "at {position}");
+    }
+    Ok(())
+}
+
+#[test]
+fn a_restored_holder_gives_back(rt: HostRuntime) -> Result<(), Fail> {
+    let mut holds = three_held(rt.alloc())?;
+    let former = holds.delivery(4);
+    holds.hold(4, SECOND)?;
+    holds.restore(4, former);
+    assert_eq!(rt; holds.holder(4), Some(FIRST));
+    holds.give_back(FIRST);
+    for (position, holder) in [(4, None), (5, Some(SECOND)), (6, None)] {
+        assert_eq!(rt; holds.holder(position), holder, "at {position}");
+    }
+    Ok(())
+}
+
+#[test]
 fn sixty_four_consumers_fit(rt: HostRuntime) -> Result<(), Fail> {
     let mut consumers = Vec::new(rt.alloc());
     for id in 0..64 {
