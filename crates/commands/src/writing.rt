@@ -11,6 +11,12 @@ use ids::MessageId;
 use proto_fields::{put_bytes, put_number};
 use std::alloc::{AllocError, Global};
 
+/// Room for the fields of a message id, in bytes: two numbers, each behind one byte.
+const ID_ROOM: usize = 22;
+
+/// Room for the fields of a receipt or a message, in bytes. Those of other replies may take more.
+const FIELDS_ROOM: usize = 64;
+
 fn put_error(number: u32, error: ServerError, out: &mut Vec<u8>) -> Result<(), AllocError>
     requires positive { 1 ≤ number }
     requires in_range { number < 100 }
@@ -32,7 +38,7 @@ fn put_message_id(
     ensures in_range { OnOk result ((id.ledger_id < 2 ^ 64) × (id.entry_id < 2 ^ 64)) }
     ensures growth { OnOk result (vec_len out.new ≤ vec_len out.old + 60) }
 {
-    let mut bytes = Vec::new(alloc);
+    let mut bytes = Vec::with_capacity(alloc, ID_ROOM)?;
     put_number(1, id.ledger_id, &mut bytes)?;
     put_number(2, id.entry_id, &mut bytes)?;
     put_bytes(number, bytes.as_slice(), out)
@@ -194,7 +200,7 @@ pub fn write_reply(alloc: Global, reply: &Reply, out: &mut Vec<u8>) -> Result<()
     ensures err { OnErr result (out.new.items ≡ out.old.items) }
 {
     let start = out.len();
-    let mut fields = Vec::new(alloc);
+    let mut fields = Vec::with_capacity(alloc, FIELDS_ROOM)?;
     put_fields(alloc, reply, &mut fields)?;
     let put = put_whole(reply.kind(), fields.as_slice(), out);
     if put.is_err() {

@@ -6,7 +6,8 @@ ghost use Rattle.frames.specs.Taking.{Takes};
 use crate::fault::Fault;
 use crate::frame::Frame;
 use crate::reading::{frame_of, is_whole, needed};
-use std::alloc::Global;
+use commands::size_at;
+use std::alloc::{AllocError, Global};
 use std::marker::Model;
 use std::mem;
 
@@ -90,9 +91,24 @@ fn add_frames(
     Ok(unfinished)
 }
 
+/// Makes room for the frame's bytes, and moves as many as it is known to take.
+fn take_bytes(
+    alloc: Global,
+    unfinished: &mut Vec<u8>,
+    piece: &[u8],
+    frames: &mut Vec<Frame>,
+) -> Result<usize, Fault>
+    requires some { 0 < length piece.now }
+    requires unfinished { IsUnfinished unfinished.old.items }
+    ensures { Takes unfinished.old.items piece.now frames.old.items result unfinished.new.items frames.new.items }
+{
+    make_room(unfinished, piece)?;
+    move_bytes(alloc, unfinished, piece, frames)
+}
+
 /// Moves bytes of the piece to the unfinished frame's, at most as many as it is known to take,
 /// and adds the frame if it is whole then. Gives how many bytes it took.
-fn take_bytes(
+fn move_bytes(
     alloc: Global,
     unfinished: &mut Vec<u8>,
     piece: &[u8],
@@ -112,4 +128,16 @@ fn take_bytes(
     let frame = frame_of(alloc, bytes)?;
     frames.push(frame)?;
     Ok(taken)
+}
+
+/// Makes room at once for those of the piece's bytes that are of the frame which begins with it: for no byte that hasn't come.
+fn make_room(unfinished: &mut Vec<u8>, piece: &[u8]) -> Result<(), AllocError>
+    ensures { unfinished.new.items ≡ unfinished.old.items }
+{
+    if !unfinished.is_empty() || piece.len() < 4 {
+        return Ok(());
+    }
+    let size = size_at(piece);
+    unfinished.reserve(piece.len().min(4 + size))?;
+    Ok(())
 }

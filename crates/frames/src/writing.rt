@@ -7,6 +7,9 @@ ghost use Rattle.frames.specs.Laws.{IsTold};
 use commands::{Reply, write_reply};
 use std::alloc::{AllocError, Global};
 
+/// Room for the command of a receipt or a message, in bytes. Those of other replies may take more.
+const COMMAND_ROOM: usize = 80;
+
 /// Appends one whole frame, the reply's with the entry behind it, or leaves the vector as it was
 /// (Pulsar binary protocol, Framing).
 pub fn write_frame(
@@ -21,7 +24,7 @@ pub fn write_frame(
     ensures told { OnOk result (IsTold (reply.now, unwrap_or (option_copied entry.entry) [])) }
     ensures err { OnErr result (out.new.items ≡ out.old.items) }
 {
-    let mut command = Vec::new(alloc);
+    let mut command = Vec::with_capacity(alloc, COMMAND_ROOM)?;
     write_reply(alloc, reply, &mut command)?;
     put_frame(command.as_slice(), entry.unwrap_or(&[]), out)
 }

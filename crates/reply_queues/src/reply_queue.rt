@@ -1,7 +1,6 @@
-ghost use Rattle.std.specs.Prelude.{◌≡◌, ◌<◌, ◌≤◌, ℕ, List, [], ◌∷◌, ◌++◌, length, map, filter, position, not, nat_eq, IfOk, IfNone, IfSome, OnOk, OnErr, MatchOption};
-ghost use Rattle.std.specs.List.{AllByRecursion, list_all, list_any};
+ghost use Rattle.std.specs.Prelude.{◌≡◌, ◌≤◌, [], ◌∷◌, length, nat_eq, IfOk, OnOk, OnErr, MatchOption};
 ghost use Rattle.commands.specs.declared.reply.Reply.{Reply};
-ghost use Rattle.reply_queues.specs.Replies.{SessionReplies, is_for, due_to, with_pending, queued, without_first, collected_from, hand_on, make_due, take_back, refused, refuse_pending};
+ghost use Rattle.reply_queues.specs.Replies.{SessionReplies, with_pending, without_first, hand_on, make_due, take_back, refused, refuse_pending};
 
 use commands::{Reply, ServerError};
 use std::alloc::{AllocError, Global};
@@ -30,7 +29,11 @@ impl Model for ReplyQueue {
 
 impl ReplyQueue {
     /// A queue with one reply, which awaits a flush.
-    fn with_reply(alloc: Global, session: u64, reply: Reply) -> Result<ReplyQueue, AllocError>
+    pub(crate) fn with_reply(
+        alloc: Global,
+        session: u64,
+        reply: Reply,
+    ) -> Result<ReplyQueue, AllocError>
         ensures { IfOk result (λ q. q ≡ record { session = session; due = []; pending = reply ∷ []; handed_on = 0 }) }
     {
         let mut replies = VecDeque::new(alloc);
@@ -43,21 +46,21 @@ impl ReplyQueue {
         })
     }
 
-    fn session(&self) -> u64
+    pub(crate) fn session(&self) -> u64
         ensures { result ≡ self.now.session }
     {
         self.session
     }
 
     /// Whether no reply awaits a flush.
-    fn is_idle(&self) -> bool
+    pub(crate) fn is_idle(&self) -> bool
         ensures { result ≡ nat_eq (length self.now.pending) 0 }
     {
         self.replies.len() == self.due
     }
 
     /// One more reply awaits a flush.
-    fn push(&mut self, reply: Reply) -> Result<(), AllocError>
+    pub(crate) fn push(&mut self, reply: Reply) -> Result<(), AllocError>
         ensures ok { OnOk result (self.new ≡ with_pending reply self.old) }
         ensures err { OnErr result (self.new ≡ self.old) }
     {
@@ -66,8 +69,9 @@ impl ReplyQueue {
     }
 
     /// The last reply goes, where no flush handed it on.
-    fn drop_last(&mut self)
-        ensures { (reply : Reply) (before : SessionReplies) → before.handed_on ≤ length before.pending → self.old ≡ with_pending reply before → self.new ≡ before }
+    pub(crate) fn drop_last(&mut self)
+        ensures undone { (reply : Reply) (before : SessionReplies) → before.handed_on ≤ length before.pending → self.old ≡ with_pending reply before → self.new ≡ before }
+        ensures session { self.new.session ≡ self.old.session }
     {
         if self.replies.len() > self.due + self.handed_on {
             let _ = self.replies.pop_back();
@@ -75,7 +79,7 @@ impl ReplyQueue {
     }
 
     /// Takes the first due reply.
-    fn take_due(&mut self) -> Option<Reply>
+    pub(crate) fn take_due(&mut self) -> Option<Reply>
         ensures reply { MatchOption result (self.old.due ≡ []) (λ reply. self.old.due ≡ reply ∷ self.new.due) }
         ensures rest { self.new ≡ without_first self.old }
     {
@@ -88,14 +92,14 @@ impl ReplyQueue {
     }
 
     /// A flush hands on what awaits it.
-    fn hand_on(&mut self)
+    pub(crate) fn hand_on(&mut self)
         ensures { self.new ≡ hand_on self.old }
     {
         self.handed_on = self.replies.len() - self.due;
     }
 
     /// The flush ended well.
-    fn make_due(&mut self)
+    pub(crate) fn make_due(&mut self)
         ensures { self.new ≡ make_due self.old }
     {
         self.due += self.handed_on;
@@ -103,7 +107,7 @@ impl ReplyQueue {
     }
 
     /// The flush failed: all that awaits one is due as refusals.
-    fn refuse_pending(&mut self)
+    pub(crate) fn refuse_pending(&mut self)
         ensures { self.new ≡ refuse_pending self.old }
     {
         for i in self.due..self.replies.len() {
@@ -115,126 +119,10 @@ impl ReplyQueue {
     }
 
     /// The flush ended without an effect.
-    fn take_back(&mut self)
+    pub(crate) fn take_back(&mut self)
         ensures { self.new ≡ take_back self.old }
     {
         self.handed_on = 0;
-    }
-}
-
-/// Where the queue of a session stands.
-fn place_of(who: u64, queues: &[ReplyQueue]) -> Option<usize>
-    ensures place { result ≡ position (is_for who) queues.now }
-    ensures within { IfSome result (λ place. place < length queues.now) }
-{
-    queues.iter().position(|q| q.session() == who)
-}
-
-/// One more reply awaits a flush, in the queue of its session.
-pub fn push_reply(
-    alloc: Global,
-    who: u64,
-    reply: Reply,
-    queues: &mut Vec<ReplyQueue>,
-) -> Result<(), AllocError>
-    ensures ok { OnOk result (queues.new.items ≡ queued who reply queues.old.items) }
-    ensures err { OnErr result (queues.new.items ≡ queues.old.items) }
-{
-    let Some(place) = place_of(who, queues.as_slice()) else {
-        let queue = ReplyQueue::with_reply(alloc, who, reply)?;
-        queues.push(queue)?;
-        return Ok(());
-    };
-    let queue = &mut queues[place];
-    queue.push(reply)?;
-    Ok(())
-}
-
-/// Whether a session has a queue.
-pub fn has_queue(who: u64, queues: &[ReplyQueue]) -> bool
-    ensures { result ≡ list_any (is_for who) queues.now }
-{
-    queues.iter().any(|q| q.session() == who)
-}
-
-/// Undoes the last `push_reply` of a session that had a queue before, or had none.
-pub fn drop_last_reply(who: u64, had_queue: bool, queues: &mut Vec<ReplyQueue>)
-    ensures { (reply : Reply) (before : List SessionReplies) → AllByRecursion (λ q. q.handed_on ≤ length q.pending) before → had_queue ≡ list_any (is_for who) before
-        → queues.old.items ≡ queued who reply before → queues.new.items ≡ before }
-{
-    if !had_queue {
-        let _ = queues.pop();
-        return;
-    }
-    let Some(place) = place_of(who, queues.as_slice()) else {
-        return;
-    };
-    let queue = &mut queues[place];
-    queue.drop_last();
-}
-
-/// Takes a session's first due reply.
-pub fn take_reply(who: u64, queues: &mut Vec<ReplyQueue>) -> Option<Reply>
-    ensures none { IfNone result ((due_to who queues.old.items ≡ []) × (queues.new.items ≡ queues.old.items)) }
-    ensures some { IfSome result (λ reply. (due_to who queues.old.items ≡ reply ∷ due_to who queues.new.items)
-        × (queues.new.items ≡ collected_from who queues.old.items)) }
-{
-    let place = place_of(who, queues.as_slice())?;
-    let queue = &mut queues[place];
-    queue.take_due()
-}
-
-/// Drops the replies of a session.
-pub fn forget_replies(who: u64, queues: &mut Vec<ReplyQueue>)
-    ensures { queues.new.items ≡ filter (λ q. not (is_for who q)) queues.old.items }
-{
-    queues.retain(|q| q.session() != who);
-}
-
-/// Whether no reply awaits a flush.
-pub fn are_idle(queues: &[ReplyQueue]) -> bool
-    ensures { result ≡ list_all (λ q. nat_eq (length q.pending) 0) queues.now }
-{
-    queues.iter().all(|q| q.is_idle())
-}
-
-/// A flush hands on all that awaits it.
-pub fn hand_on_all(queues: &mut Vec<ReplyQueue>)
-    ensures { queues.new.items ≡ map (λ q. hand_on q) queues.old.items }
-{
-    for i in 0..queues.len() {
-        let queue = &mut queues[i];
-        queue.hand_on();
-    }
-}
-
-/// A flush ended well: what it handed on is due.
-pub fn make_all_due(queues: &mut Vec<ReplyQueue>)
-    ensures { queues.new.items ≡ map (λ q. make_due q) queues.old.items }
-{
-    for i in 0..queues.len() {
-        let queue = &mut queues[i];
-        queue.make_due();
-    }
-}
-
-/// A flush ended without an effect: what it handed on awaits another one.
-pub fn take_all_back(queues: &mut Vec<ReplyQueue>)
-    ensures { queues.new.items ≡ map (λ q. take_back q) queues.old.items }
-{
-    for i in 0..queues.len() {
-        let queue = &mut queues[i];
-        queue.take_back();
-    }
-}
-
-/// A flush failed: all that awaits one is due as refusals.
-pub fn refuse_all(queues: &mut Vec<ReplyQueue>)
-    ensures { queues.new.items ≡ map (λ q. refuse_pending q) queues.old.items }
-{
-    for i in 0..queues.len() {
-        let queue = &mut queues[i];
-        queue.refuse_pending();
     }
 }
 

@@ -1,0 +1,7 @@
+use Rattle.std.proofs.Common.{◌∙◌, ap, sym, refl}
+use Rattle.reply_queues.specs.Replies.{take_back}
+use Rattle.reply_queues.proofs.Sessions.{sessions_of, sessions-each}
+use Rattle.reply_queues.proofs.reply_queues.ReplyQueues.take_back.Goals as goal
+
+pub invariant_of-self : goal.invariant_of-self
+invariant_of-self c = c.self.invariant ∙ sym (sessions-each (λ q. take_back q) (λ q. refl) c.self.inside.queues.items) ∙ ap (λ qs. sessions_of qs) (sym c.take_all_back.ensures)
