@@ -13,7 +13,7 @@ use Rattle.reply_queues.specs.Replies.{SessionReplies, hand_on, make_due, take_b
 use Rattle.topic_core.specs.State.{Topic, Doubt}
 use Rattle.topic_core.specs.declared.producer.Producer.{Producer}
 use Rattle.topic_core.specs.Soundness.{IsSound}
-use Rattle.topic_core.proofs.Producers.{closed_gone, all_back}
+use Rattle.topic_core.proofs.States.{closed_gone, all_back}
 use Rattle.topic_core.specs.Flush.{has_no_flush, is_idle, handed_on, finished, taken_back, flushed, FlushStep, FlushIn, FlushEnds}
 
 -- two cores whose parts that a flush changes agree

@@ -47,11 +47,11 @@ use Rattle.topic_core.specs.Laws.{IsFlushed, IsAdmitted}
 use Rattle.topic_core.proofs.Sends.{takes_entry, sound-accepted, receipts-accepted}
 use Rattle.topic_core.proofs.Collects.{sound-collected, receipts-collected, sound-left, receipts-left}
 use Rattle.topic_core.proofs.Subscribing.{sound-subs, receipts-subs, sound-subscribed, receipts-subscribed, kept-subscribed, accepts, sound-acked, receipts-acked, kept-acked, first-acked, slots-attached, slots-acked}
-use Rattle.topic_core.proofs.Producers.{AreKeptBack, all_opened}
+use Rattle.topic_core.proofs.States.{AreKeptBack, all_opened}
 use Rattle.topic_core.proofs.Closings.{sound-producers, receipts-producers, close-works, sound-closing, receipts-closing, sound-unsubscribed, receipts-unsubscribed, kept-unsubscribed, changes-unsubscribed}
 use Rattle.topic_core.proofs.Flushes.{sound-handed_on, receipts-handed_on, sound-finished, receipts-finished, sound-taken_back, receipts-taken_back, sound-failed, receipts-failed}
 use Rattle.topic_core.proofs.Flushing.{finished-handed_on, empty, and_first, and_second, idle-append, idle-waiting, idle-changes, idle-queues-of, idle-producers, idle-where}
-use Rattle.topic_core.proofs.Producers.{open_stay}
+use Rattle.topic_core.proofs.States.{open_stay}
 
 -- a core that is sound, with as many committed entries as before, over the same durable subscriptions
 pub record Stays (old new : Topic) : Type 0 where

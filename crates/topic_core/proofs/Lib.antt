@@ -1,7 +1,9 @@
 pub mod Ids
+pub mod LastEntries
 pub mod Queues
 pub mod Receipts
-pub mod Producers
+pub mod States
+pub mod Counted
 pub mod Sends
 pub mod Collects
 pub mod Flushes

@@ -6,6 +6,9 @@ use Rattle.ids.specs.Ids.{message_id_at}
 use Rattle.holds.specs.declared.consumer.ConsumerKey.{ConsumerKey}
 use Rattle.subscriptions.specs.Steps as subscriptions
 use Rattle.topic_core.specs.declared.dispatch.Outgoing.{Outgoing}
+use Rattle.topic_core.specs.declared.dispatch.AtHand.{AtHand}
+use Rattle.topic_core.specs.declared.dispatch.AtHand.TheVariants as at_hand
+use Rattle.std.specs.declared.alloc.AllocError.{AllocError}
 use Rattle.gated_log.specs.declared.read_error.ReadError.{ReadError}
 use Rattle.gated_log.specs.declared.read_error.ReadError.TheVariants.{Device, Damaged, NoMemory}
 use Rattle.topic_core.specs.State.{Topic}
@@ -45,3 +48,16 @@ Dispatches old key (Err (Damaged file offset)) new = ⊥
 -- what a session's consumer is given
 abbrev pub DispatchStep : Topic → ℕ → ℕ → Result (Option Outgoing) ReadError → Topic → Type 0
 DispatchStep old who id result new = Dispatches old (key_of who id) result new
+
+-- the same without a read of the device: a message of an admitted position, none exactly where none is admitted, or that its entry has to be read
+abbrev pub AtHandStep : Topic → ConsumerKey → Result AtHand AllocError → Topic → Type 0
+AtHandStep old key (Ok at_hand.Nothing) new = (new ≡ old) × ((i : ℕ) → Admits old key i → ⊥)
+AtHandStep old key (Ok at_hand.Unread) new = new ≡ old
+AtHandStep old key (Ok (at_hand.Message outgoing)) new = (i : ℕ) × IsSent old key i outgoing new
+AtHandStep old key (Err refused) new = new ≡ old
+
+-- a message, if there is one, is a MESSAGE for this consumer
+abbrev pub IsAtHandFor : ℕ → AtHand → Type 0
+IsAtHandFor consumer_id at_hand.Nothing = Unit {0}
+IsAtHandFor consumer_id at_hand.Unread = Unit {0}
+IsAtHandFor consumer_id (at_hand.Message outgoing) = IsMessageTo consumer_id outgoing

@@ -17,9 +17,9 @@ core_of t = record {
   waiting = t.waiting.items;
   accepted = t.accepted;
   handed = t.handed;
-  producers = t.producers.items;
+  producers = t.producers;
   subs = t.subs;
-  queues = t.queues.items;
+  queues = t.queues;
   doubt = doubt_of t.doubt;
   failed = t.failed;
 }

@@ -1,8 +1,10 @@
 pub mod Slots
 pub mod State
+pub mod Recent
 pub mod Soundness
 pub mod Held
 pub mod Steps
+pub mod Counts
 pub mod Dispatch
 pub mod Flush
 pub mod Crashes

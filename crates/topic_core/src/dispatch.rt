@@ -1,16 +1,22 @@
-ghost use Rattle.std.specs.Prelude.{◌≡◌, ◌⊎◌, ◌<◌, ◌≤◌, ℕ, IfNone, Some, false, length, slice_get, IfOk, IfErr, IfSome, IsErr, IsErrOf};
+ghost use Rattle.std.specs.Prelude.{◌≡◌, ◌⊎◌, ◌<◌, ◌≤◌, ℕ, IfNone, Some, false, length, slice_get, Ok, IfOk, IfErr, IfSome, OnOk, OnErr, IsErr, IsErrOf};
 ghost use Rattle.disk.specs.Disk.{Same, Leaves, Kept, Failed};
 ghost use Rattle.gated_log.specs.declared.read_error.ReadError.TheVariants.{Device, NoMemory};
+ghost use Rattle.commands.specs.declared.reply.Reply.TheVariants.{Message};
+ghost use Rattle.ids.specs.Ids.{message_id_at};
+ghost use Rattle.subscriptions.specs.Steps.{sent_before};
 ghost use Rattle.topic_core.specs.State.{CountsStay};
 ghost use Rattle.topic_core.specs.Steps.{key_of};
-ghost use Rattle.topic_core.specs.Dispatch.{Admits, DispatchStep, IsMessageTo};
+ghost use Rattle.topic_core.specs.declared.dispatch.AtHand.TheVariants.{Nothing};
+ghost use Rattle.topic_core.specs.Dispatch.{Admits, sent, DispatchStep, AtHandStep, IsMessageTo, IsAtHandFor};
 ghost use Rattle.topic_core.specs.Standing.{GoesOn, Phase, Standing};
 
 use crate::topic::{TopicCore, key_of};
 use bytes::Bytes;
 use commands::Reply;
 use disk::Shelf;
+use holds::ConsumerKey;
 use ids::to_id;
+use std::alloc::AllocError;
 use topic_stores::{ReadError, TopicStore};
 
 /// A MESSAGE on its way to a consumer.
@@ -21,10 +27,20 @@ pub struct Outgoing {
     pub entry: Bytes,
 }
 
+/// What a topic has for a consumer without a read of its device.
+#[derive(Drop)]
+pub enum AtHand {
+    /// There is no message for it.
+    Nothing,
+    /// There is one, whose entry has to be read.
+    Unread,
+    Message(Outgoing),
+}
+
 impl TopicCore {
     /// The position whose entry is a consumer's next message: one exactly where it may get one, which a dispatch then gives it.
     /// Changes nothing.
-    pub fn pick(&mut self, who: u64, consumer_id: u64) -> Option<u64>
+    fn pick(&mut self, who: u64, consumer_id: u64) -> Option<u64>
         ensures same { self.new ≡ self.old }
         ensures some { IfSome result (Admits self.old (key_of who consumer_id)) }
         ensures none { IfNone result ((i : ℕ) → Admits self.old (key_of who consumer_id) i → ⊥) }
@@ -69,13 +85,53 @@ impl TopicCore {
         };
         let bytes = self.read_committed(stores, shelf, position)?;
         let entry = Bytes::from_vec(bytes)?;
+        let outgoing = self.give(key, position, entry)?;
+        Ok(Some(outgoing))
+    }
+
+    /// A message for a consumer, which holds it from then on, where its entry stands in memory. A refusal changes nothing.
+    pub fn dispatch_at_hand(&mut self, who: u64, consumer_id: u64) -> Result<AtHand, AllocError>
+        ensures step { length self.old.ledger ≡ self.old.committed → AtHandStep self.old (key_of who consumer_id) result self.new }
+
+        // Whatever the ledger is.
+        ensures message { IfOk result (λ at_hand. IsAtHandFor consumer_id at_hand) }
+        ensures nothing { result ≡ Ok Nothing → (i : ℕ) → Admits self.old (key_of who consumer_id) i → ⊥ }
+        ensures goes_on { GoesOn self.old self.new }
+        ensures counts { CountsStay self.old self.new }
+        ensures refused { IsErr result → self.new ≡ self.old }
+        ensures works { IsErr result → self.old.failed ≡ false }
+    {
+        let Some(position) = self.pick(who, consumer_id) else {
+            return Ok(AtHand::Nothing);
+        };
+        let Some(entry) = self.durable.entry(position, self.committed)? else {
+            return Ok(AtHand::Unread);
+        };
+        let outgoing = self.give(key_of(who, consumer_id), position, entry)?;
+        Ok(AtHand::Message(outgoing))
+    }
+
+    /// Gives a consumer the entry of a position that it may get.
+    fn give(
+        &mut self,
+        key: ConsumerKey,
+        position: u64,
+        entry: Bytes,
+    ) -> Result<Outgoing, AllocError>
+        requires admitted { Admits self.old key position }
+        ensures reply { IfOk result (λ outgoing. outgoing.reply ≡ Message key.id (message_id_at self.old.per_ledger position) (sent_before self.old.subs key position)) }
+        ensures entry { IfOk result (λ outgoing. outgoing.entry ≡ entry) }
+        ensures ok { OnOk result (self.new ≡ sent self.old key position) }
+        ensures err { OnErr result (self.new ≡ self.old) }
+        ensures goes_on { GoesOn self.old self.new }
+    {
         let redelivery_count = self.subs.send(key, position, self.committed)?;
         let reply = Reply::Message {
-            consumer_id,
+            consumer_id: key.id,
             message_id: to_id(position, self.per_ledger),
             redelivery_count,
         };
-        Ok(Some(Outgoing { reply, entry }))
+        Ok(Outgoing { reply, entry })
     }
 
     /// Reads the entry of a committed position, also while a flush is under way.

@@ -1,4 +1,4 @@
-ghost use Rattle.std.specs.Prelude.{◌≡◌, ◌+◌, ◌≤◌, ◌++◌, true, false, length, drop, sum_by, Ok, IfOk, IfSome, IsErrOf};
+ghost use Rattle.std.specs.Prelude.{◌≡◌, ◌+◌, ◌≤◌, ◌++◌, true, false, length, take, drop, sum_by, Ok, IfOk, IfSome, IsErrOf};
 ghost use Rattle.disk.specs.Disk.{Kept, Failed};
 ghost use Rattle.disk.specs.Areas.{OfTopic, Within};
 ghost use Rattle.records.specs.Records.{after_all};
@@ -9,12 +9,10 @@ ghost use Rattle.topic_core.specs.Crashes.{IsLeft};
 ghost use Rattle.topic_core.specs.Flush.{handed_on, TakeStep, FinishStep, FlushStep, awaits, has_no_flush, is_idle, finished, taken_back, failed};
 ghost use Rattle.topic_core.specs.Standing.{Phase, IsFor, Match, Standing, phase_then};
 
-use crate::closing::{are_open, drop_closed, hand_on_closings, take_closings_back};
 use crate::durable::Durable;
 use crate::topic::{Doubt, TopicCore};
 use bytes::Bytes;
 use disk::Shelf;
-use reply_queues::{are_idle, hand_on_all, make_all_due, refuse_all, take_all_back};
 use std::alloc::AllocError;
 use topic_stores::{Batch, TopicStore, WriteError};
 
@@ -87,8 +85,8 @@ impl TopicCore {
     fn hand_on(&mut self)
         ensures { self.new ≡ handed_on self.old }
     {
-        hand_on_all(&mut self.queues);
-        hand_on_closings(&mut self.producers);
+        self.queues.hand_on();
+        self.producers.hand_on_closings();
         self.doubt = Some(Doubt {
             entries: self.waiting.len(),
             changes: self.subs.changes().len(),
@@ -101,8 +99,8 @@ impl TopicCore {
     {
         self.waiting.is_empty()
             && self.subs.changes().is_empty()
-            && are_idle(self.queues.as_slice())
-            && are_open(self.producers.as_slice())
+            && self.queues.are_idle()
+            && self.producers.are_open()
     }
 
     /// Whether the topic works and has handed on as much as the batch has.
@@ -129,7 +127,7 @@ impl TopicCore {
             return Ok(0);
         }
         match written {
-            Ok(()) => Ok(self.commit()),
+            Ok(()) => Ok(self.commit(batch)),
             Err(WriteError::Device) => {
                 self.fail();
                 Err(WriteError::Device)
@@ -163,21 +161,25 @@ impl TopicCore {
         }
     }
 
-    /// What was handed on is committed, its replies are due, and the producers whose closing it was are gone.
-    fn commit(&mut self) -> usize
+    /// What was handed on is committed, its replies are due, and the producers whose closing it was are gone. The entries stand
+    /// in memory from then on, in the batch's list.
+    fn commit(&mut self, batch: Batch) -> usize
+        requires as_many { length batch.entries.items ≡ entries_of self.old.doubt }
         ensures count { result ≡ entries_of self.old.doubt }
         ensures committed { self.new ≡ finished self.old }
     {
+        let Batch { mut entries, .. } = batch;
         let count = self.entries_handed_on();
         let changes = self.changes_handed_on();
         let bytes = bytes_in(&self.waiting[..count]);
-        self.durable = self.durable_after();
-        drop_first(&mut self.waiting, count);
+        let durable = self.durable_after();
+        move_first(&mut self.waiting, &mut entries);
+        self.durable.commit(durable, entries, bytes);
         self.waiting_bytes -= bytes;
         self.committed += count as u64;
         self.subs.settle(changes);
-        make_all_due(&mut self.queues);
-        drop_closed(&mut self.producers);
+        self.queues.make_due();
+        self.producers.drop_closed();
         self.doubt = None;
         count
     }
@@ -193,8 +195,8 @@ impl TopicCore {
     fn take_back(&mut self)
         ensures { self.new ≡ taken_back self.old }
     {
-        take_all_back(&mut self.queues);
-        take_closings_back(&mut self.producers);
+        self.queues.take_back();
+        self.producers.take_closings_back();
         self.doubt = None;
     }
 
@@ -202,7 +204,7 @@ impl TopicCore {
     fn fail(&mut self)
         ensures { self.new ≡ failed self.old }
     {
-        refuse_all(&mut self.queues);
+        self.queues.refuse();
         self.failed = true;
     }
 }
@@ -217,6 +219,27 @@ fn bytes_in(entries: &[Bytes]) -> u64
         bytes += entry.len() as u64;
     }
     bytes
+}
+
+/// Moves the first entries into a list of as many, in the place of those.
+fn move_first(entries: &mut Vec<Bytes>, moved: &mut Vec<Bytes>)
+    requires { length moved.old.items ≤ length entries.old.items }
+    ensures moved { moved.new.items ≡ take (length moved.old.items) entries.old.items }
+    ensures left { entries.new.items ≡ drop (length moved.old.items) entries.old.items }
+{
+    let count = moved.len();
+    exchange_first(entries.as_mut_slice(), moved.as_mut_slice());
+    drop_first(entries, count);
+}
+
+/// Exchanges the first entries and all of another list.
+fn exchange_first(entries: &mut [Bytes], others: &mut [Bytes])
+    requires { length others.old ≤ length entries.old }
+    ensures others { others.new ≡ take (length others.old) entries.old }
+    ensures entries { entries.new ≡ others.old ++ drop (length others.old) entries.old }
+{
+    let count = others.len();
+    entries[..count].swap_with_slice(others);
 }
 
 /// Drops the first entries.

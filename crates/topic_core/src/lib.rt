@@ -14,17 +14,22 @@ mod dispatch;
 mod durable;
 mod flush;
 mod found_entries;
+mod id_counts;
 mod laws;
 mod making;
+mod name_counts;
 mod opening;
 mod producer;
+mod producer_counts;
+mod producers;
+mod recent;
 mod redelivering;
 mod slots;
 mod topic;
 mod unsubscribing;
 
 pub use command::{Answer, PlainEntry, Send, SentEntry, Subscribe, TopicCommand};
-pub use dispatch::Outgoing;
+pub use dispatch::{AtHand, Outgoing};
 pub use laws::{
     answers_are_no_receipts, answers_fit, commands_hand_out_nothing, entries_are_published,
     flushes_commit, flushes_keep, ids_are_positions, messages_are_admitted,

@@ -8,8 +8,11 @@ ghost use Rattle.topic_core.specs.State.{opened};
 ghost use Rattle.topic_core.specs.Standing.{Match, resting};
 
 use crate::durable::Durable;
+use crate::producers::Producers;
+use crate::recent::Recent;
 use crate::topic::TopicCore;
 use disk::{DeviceError, Shelf};
+use reply_queues::ReplyQueues;
 use std::alloc::Global;
 use subscriptions::Subscriptions;
 use topic_stores::TopicStore;
@@ -37,14 +40,14 @@ impl TopicCore {
             alloc,
             per_ledger,
             committed: 0,
-            durable: Durable::none(),
+            durable: Recent::over(alloc, Durable::none()),
             waiting: Vec::new(alloc),
             waiting_bytes: 0,
             accepted: 0,
             handed: 0,
-            producers: Vec::new(alloc),
+            producers: Producers::new(alloc),
             subs: Subscriptions::new(alloc),
-            queues: Vec::new(alloc),
+            queues: ReplyQueues::new(alloc),
             doubt: None,
             failed: false,
         };

@@ -14,9 +14,12 @@ ghost use Rattle.topic_core.specs.Standing.{Phase, resting, Match, Standing, pha
 
 use crate::durable::{Durable, Found};
 use crate::found_entries::FoundEntries;
+use crate::producers::Producers;
+use crate::recent::Recent;
 use crate::topic::TopicCore;
 use disk::{FileId, Shelf};
 use gated_log::Refusal;
+use reply_queues::ReplyQueues;
 use std::alloc::Global;
 use subscriptions::Subscriptions;
 use topic_stores::TopicStore;
@@ -55,14 +58,14 @@ impl TopicCore {
             alloc,
             per_ledger,
             committed,
-            durable,
+            durable: Recent::over(alloc, durable),
             waiting: Vec::new(alloc),
             waiting_bytes: 0,
             accepted: 0,
             handed: 0,
-            producers: Vec::new(alloc),
+            producers: Producers::new(alloc),
             subs,
-            queues: Vec::new(alloc),
+            queues: ReplyQueues::new(alloc),
             doubt: None,
             failed: false,
         };
@@ -137,10 +140,10 @@ impl TopicCore {
             durable,
         } = again;
         self.committed = stores.len();
-        self.durable = durable;
+        self.durable = Recent::over(self.alloc, durable);
         self.waiting = Vec::new(self.alloc);
         self.waiting_bytes = 0;
-        self.producers = Vec::new(self.alloc);
+        self.producers = Producers::new(self.alloc);
         self.subs = subs;
         self.doubt = None;
         self.failed = false;

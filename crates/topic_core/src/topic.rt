@@ -1,5 +1,4 @@
-ghost use Rattle.std.specs.Prelude.{◌≡◌, ◌+◌, ◌^◌, ◌<◌, ◌≤◌, ◌&&◌, ℕ, true, false, None, length, IfOk, IfSome, OnOk, OnErr, filter, not, nat_eq, sum_by};
-ghost use Rattle.std.specs.List.{list_any};
+ghost use Rattle.std.specs.Prelude.{◌≡◌, ◌+◌, ◌^◌, ◌<◌, ◌≤◌, ◌&&◌, ℕ, true, false, None, length, IfOk, IfSome, OnOk, OnErr, sum_by};
 ghost use Rattle.std.specs.Str.{bytes_eq};
 ghost use Rattle.std.specs.Result.{is_ok};
 ghost use Rattle.commands.specs.Metadata.{entry_of};
@@ -7,21 +6,19 @@ ghost use Rattle.subscriptions.specs.Statuses.{AreStatuses};
 ghost use Rattle.topic_core.specs.Slots.{slot_of_entry};
 ghost use Rattle.topic_core.specs.State.{Topic, next_position};
 ghost use Rattle.reply_queues.specs.Replies.{is_receipt};
-ghost use Rattle.topic_core.specs.Steps.{Meets, TopicStep, Collects, Fits, first_standing, producer_refusals, send_refusals, limit_refusals, has_room, producer_outcome, send_outcome, has_producer, has_open_producer, has_name, is_producer, is_open_producer, is_open, is_single_message, accepted, receipt, key_of, left};
+ghost use Rattle.topic_core.specs.Steps.{Meets, TopicStep, Collects, Fits, first_standing, producer_refusals, send_refusals, limit_refusals, has_room, producer_outcome, send_outcome, has_producer, has_open_producer, has_name, is_single_message, accepted, receipt, key_of, left};
 ghost use Rattle.topic_core.specs.Soundness.{IsSound};
 ghost use Rattle.topic_core.specs.Standing.{GoesOn};
 
 use crate::command::{Answer, PlainEntry, Send, SentEntry, TopicCommand};
-use crate::durable::Durable;
-use crate::producer::{Producer, ProducerState};
+use crate::producers::Producers;
+use crate::recent::Recent;
 use crate::slots::slot_of_meta;
 use bytes::Bytes;
 use commands::{MessageMeta, Reply, ReplyText, ServerError, Text};
 use holds::ConsumerKey;
 use ids::to_id;
-use reply_queues::{
-    ReplyQueue, drop_last_reply, forget_replies, has_queue, push_reply, take_reply,
-};
+use reply_queues::ReplyQueues;
 use std::alloc::{AllocError, Global};
 use std::marker::Model;
 use subscriptions::{SubscriptionStatus, Subscriptions};
@@ -51,14 +48,14 @@ pub struct TopicCore {
     pub(crate) alloc: Global,
     pub(crate) per_ledger: u32,
     pub(crate) committed: u64,
-    pub(crate) durable: Durable,
+    pub(crate) durable: Recent,
     pub(crate) waiting: Vec<Bytes>,
     pub(crate) waiting_bytes: u64,
     pub(crate) accepted: u64,
     pub(crate) handed: u64,
-    pub(crate) producers: Vec<Producer>,
+    pub(crate) producers: Producers,
     pub(crate) subs: Subscriptions,
-    pub(crate) queues: Vec<ReplyQueue>,
+    pub(crate) queues: ReplyQueues,
     pub(crate) doubt: Option<Doubt>,
     pub(crate) failed: bool,
 }
@@ -124,21 +121,19 @@ impl TopicCore {
     pub fn has_producer(&self, who: u64, id: u64) -> bool
         ensures { result ≡ has_producer self.now who id }
     {
-        self.producers
-            .iter()
-            .any(|p| p.session == who && p.id == id)
+        self.producers.has(who, id)
     }
 
     pub(crate) fn has_open_producer(&self, who: u64, id: u64) -> bool
         ensures { result ≡ has_open_producer self.now who id }
     {
-        has_open(self.producers.as_slice(), who, id)
+        self.producers.has_open(who, id)
     }
 
     fn has_name(&self, name: &str) -> bool
         ensures { result ≡ has_name self.now name.now }
     {
-        self.producers.iter().any(|p| p.name.as_str() == name)
+        self.producers.has_name(name)
     }
 
     fn producer_refusal(&self, name: &str) -> Option<ServerError>
@@ -203,12 +198,7 @@ impl TopicCore {
             return Ok(Answer::Now(Reply::Error { request_id, error }));
         }
         let name = String::from_str(self.alloc, producer_name.as_str())?;
-        self.producers.push(Producer {
-            session: who,
-            id: producer_id,
-            name: Text::new(name),
-            state: ProducerState::Open,
-        })?;
+        self.producers.add(who, producer_id, Text::new(name))?;
         Ok(Answer::Now(Reply::ProducerSuccess {
             request_id,
             producer_name,
@@ -267,10 +257,9 @@ impl TopicCore {
             sequence_id,
             message_id,
         };
-        let had_queue = has_queue(who, self.queues.as_slice());
-        push_reply(self.alloc, who, receipt, &mut self.queues)?;
+        let made = self.queues.push(who, receipt)?;
         if let Err(error) = self.subs.add_slot(slot) {
-            drop_last_reply(who, had_queue, &mut self.queues);
+            self.queues.drop_last(who, made);
             return Err(error);
         }
         self.waiting.push(entry).unwrap();
@@ -312,7 +301,7 @@ impl TopicCore {
         ensures step { Collects self.old who result self.new }
         ensures goes_on { GoesOn self.old self.new }
     {
-        let reply = take_reply(who, &mut self.queues)?;
+        let reply = self.queues.take(who)?;
         if is_receipt(&reply) {
             self.handed += 1;
         }
@@ -324,9 +313,9 @@ impl TopicCore {
         ensures step { self.new ≡ left self.old who }
         ensures goes_on { GoesOn self.old self.new }
     {
-        forget_producers(who, &mut self.producers);
+        self.producers.forget_session(who);
         self.subs.leave(who);
-        forget_replies(who, &mut self.queues);
+        self.queues.forget(who);
     }
 }
 
@@ -337,13 +326,6 @@ pub(crate) fn key_of(session: u64, id: u64) -> ConsumerKey
     ConsumerKey { session, id }
 }
 
-/// Whether a session has this producer, and it is open.
-fn has_open(producers: &[Producer], who: u64, id: u64) -> bool
-    ensures { result ≡ list_any (is_open_producer who id) producers.now }
-{
-    producers.iter().any(|p| p.session == who && p.id == id && p.state == ProducerState::Open)
-}
-
 /// Whether an entry is one message, neither compressed nor delayed.
 fn is_single_message(num_messages: i32, metadata: &MessageMeta) -> bool
     ensures { result ≡ is_single_message num_messages metadata.now }
@@ -352,13 +334,6 @@ fn is_single_message(num_messages: i32, metadata: &MessageMeta) -> bool
         && metadata.deliver_at_time.is_none()
         && num_messages == 1
         && metadata.num_messages_in_batch == 1
-}
-
-/// Drops the producers of a session.
-fn forget_producers(who: u64, producers: &mut Vec<Producer>)
-    ensures { producers.new.items ≡ filter (λ p. not (nat_eq p.session who)) producers.old.items }
-{
-    producers.retain(|p| p.session != who);
 }
 
 fn is_receipt(reply: &Reply) -> bool

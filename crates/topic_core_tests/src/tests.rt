@@ -3,6 +3,7 @@
 // drops it before it looks at them.
 mod basics;
 mod failures;
+mod recent;
 
 ghost use Rattle.std.specs.Prelude.{IfOk};
 ghost use Rattle.topic_core_tests.specs.Matching.{AreMatched};

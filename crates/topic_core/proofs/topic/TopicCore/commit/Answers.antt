@@ -1,4 +1,4 @@
-use Rattle.std.proofs.Common.{◌≡◌, ◌++◌, length, take, rules, arith}
+use Rattle.std.proofs.Common.{◌≡◌, ◌++◌, length, take, rules, ap, ◌∙◌, arith}
 use Rattle.std.specs.List.{sum_by}
 use Rattle.std.proofs.lemmas.List.Sums.{sum_by-take-drop}
 use Rattle.records.specs.Records.{after_all}
@@ -12,10 +12,12 @@ invariant_of-self c =
     let t = core_of c.self.inside in
     let count : c.entries_handed_on-count.result ≡ entries_of t.doubt = search rules in
     let changes : c.changes_handed_on-changes.result ≡ changes_of t.doubt = search rules in
-    let ledger : c.durable_after-self-inside.result.ledger ≡ t.ledger ++ entries_in_doubt t = search rules in
-    let kept : c.durable_after-self-inside.result.kept ≡ after_all (changes_in_doubt t) t.kept = search rules in
-    let bytes : c.bytes_in-bytes.result ≡ sum_by length (take c.entries_handed_on-count.result t.waiting) = search rules in (
-      rw c.drop_first.ensures (omega (arith, bytes, c.self.invariant.0, sum_by-take-drop length t.waiting c.entries_handed_on-count.result)),
-      rw (c.drop_first.ensures, c.settle.ensures, c.make_all_due.ensures, c.drop_closed.ensures, ledger, kept, count, changes) (sound-finished t c.self.invariant.1),
-      rw (c.drop_first.ensures, c.settle.ensures, c.make_all_due.ensures, c.drop_closed.ensures, ledger, kept, count, changes) (receipts-finished t c.self.invariant.1 c.self.invariant.2),
+    let ledger : c.commit.new.self.ledger ≡ t.ledger ++ entries_in_doubt t = search rules in
+    let kept : c.commit.new.self.kept ≡ after_all (changes_in_doubt t) t.kept = search rules in
+    let as_many : length c.args.batch.entries.items ≡ entries_of t.doubt = search rules in
+    let bytes : c.bytes_in-bytes.result ≡ sum_by length (take c.entries_handed_on-count.result t.waiting) = search rules in
+    let moved : c.bytes_in-bytes.result ≡ sum_by length (take (entries_of t.doubt) t.waiting) = bytes ∙ ap (λ n. sum_by length (take n t.waiting)) count in (
+      rw (c.move_first.ensures.left, as_many) (omega (arith, moved, c.self.invariant.0, sum_by-take-drop length t.waiting (entries_of t.doubt))),
+      rw (c.move_first.ensures.left, c.settle.ensures, c.make_due.ensures, c.drop_closed.ensures, ledger, kept, as_many, count, changes) (sound-finished t c.self.invariant.1),
+      rw (c.move_first.ensures.left, c.settle.ensures, c.make_due.ensures, c.drop_closed.ensures, ledger, kept, as_many, count, changes) (receipts-finished t c.self.invariant.1 c.self.invariant.2),
     )

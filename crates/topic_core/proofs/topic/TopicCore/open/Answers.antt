@@ -1,5 +1,6 @@
-use Rattle.std.proofs.Common.{◌≡◌, ◌≤◌, ◌^◌, length, map, refl, sym, ◌∙◌, arith}
+use Rattle.std.proofs.Common.{◌≡◌, ◌≤◌, ◌^◌, length, map, refl, sym, ap, ◌∙◌, arith}
 use Rattle.topic_core.specs.Slots.{slot_of_entry}
+use Rattle.topic_core.specs.declared.durable.Durable.{Durable}
 use Rattle.std.proofs.lemmas.List.{length-map}
 use Rattle.topic_core.proofs.Openings.{sound-opened, receipts-opened, kept-filled}
 use Rattle.topic_core.proofs.topic.TopicCore.open.Goals as goal
@@ -12,7 +13,7 @@ invariant_of-core g c =
     let added = c.in_ok-opened.ensures.added in
     let size : c.len-committed.result ≡ length ledger = c.len-committed.ensures.len ∙ sym added.0 in
     let few : length ledger ≤ 2 ^ 62 = omega (arith, size, c.len-committed.ensures.few) in
-    rw (c.new.ensures.items, c.new-2.ensures.items, c.new-3.ensures.items, added.1, added.2, size) (
+    rw (c.over.ensures, c.new.ensures.items, c.new-2.ensures, c.new-3.ensures, added.1, added.2, size) (
       refl,
       sound-opened c.args.per_ledger ledger slots kept c.requires.numbered few (length-map ledger slot_of_entry) c.in_ok-opened.ensures.durable,
       receipts-opened c.args.per_ledger ledger slots kept,
@@ -22,7 +23,7 @@ pub returns-clause-matched : goal.returns-clause-matched
 returns-clause-matched g c =
     let added = c.in_ok-opened.ensures.added in
     record {
-      kept = kept-filled c.len-committed.result (g.T.TopicStore.view c.in_ok-opened.opened.stores).kept _ _ _ added.1 added.2 c.in_ok-opened.ensures.durable;
+      kept = kept-filled c.len-committed.result (g.T.TopicStore.view c.in_ok-opened.opened.stores).kept _ _ _ added.1 (ap (λ (d : Durable). d.kept) c.over.ensures ∙ added.2) c.in_ok-opened.ensures.durable;
       numbered = c.in_ok-opened.ensures.per_ledger;
-      remembers = record { core_works = refl; works = c.in_ok-opened.ensures.works; counted = sym c.len-committed.ensures.len; kept = sym added.2 };
+      remembers = record { core_works = refl; works = c.in_ok-opened.ensures.works; counted = sym c.len-committed.ensures.len; kept = sym (ap (λ (d : Durable). d.kept) c.over.ensures ∙ added.2) };
     }

@@ -2,6 +2,7 @@ use Rattle.std.proofs.Common.{◌≡◌, ◌≤◌, ◌^◌, true, length, map, 
 use Rattle.topic_core.specs.State.{Topic}
 use Rattle.topic_core.specs.Held.{core_of}
 use Rattle.topic_core.specs.Slots.{slot_of_entry}
+use Rattle.topic_core.specs.declared.durable.Durable.{Durable}
 use Rattle.std.proofs.lemmas.List.{length-map}
 use Rattle.topic_core.proofs.Openings.{sound-reopened, receipts-reopened, kept-filled}
 use Rattle.topic_core.proofs.topic.TopicCore.restart.Goals as goal
@@ -18,7 +19,7 @@ invariant_of-self g c =
     let was : t.failed ≡ true = subst (λ (k : Topic). k.failed ≡ true) (sym c.self.view_is) c.requires.failed in
     let known = ap (λ (k : Topic). k.committed) c.self.view_is in
     let more : t.committed ≤ length ledger = omega (arith, known, added.0, c.requires.more) in
-    rw (c.new.ensures.items, c.new-2.ensures.items, added.1, added.2, size) (
+    rw (c.over.ensures, c.new.ensures.items, c.new-2.ensures, added.1, added.2, size) (
       refl,
       sound-reopened t ledger slots kept c.self.invariant.1 was more few (length-map ledger slot_of_entry) c.requires.durable,
       receipts-reopened t ledger slots kept c.self.invariant.1 c.self.invariant.2 was more,
@@ -28,7 +29,7 @@ pub returns-clause-matched : goal.returns-clause-matched
 returns-clause-matched g c =
     let added = c.requires.added in
     record {
-      kept = kept-filled c.len-self-inside.result (g.T.TopicStore.view c.args.again.stores).kept _ _ _ added.1 added.2 c.requires.durable;
+      kept = kept-filled c.len-self-inside.result (g.T.TopicStore.view c.args.again.stores).kept _ _ _ added.1 (ap (λ (d : Durable). d.kept) c.over.ensures ∙ added.2) c.requires.durable;
       numbered = c.requires.numbered ∙ sym (ap (λ (t : Topic). t.per_ledger) c.self.view_is);
-      remembers = record { core_works = refl; works = c.requires.works; counted = sym c.len-self-inside.ensures.len; kept = sym added.2 };
+      remembers = record { core_works = refl; works = c.requires.works; counted = sym c.len-self-inside.ensures.len; kept = sym (ap (λ (d : Durable). d.kept) c.over.ensures ∙ added.2) };
     }

@@ -1,0 +1,13 @@
+-- The entries of a ledger that stand in memory.
+use Rattle.std.specs.Prelude.{◌≡◌, ℕ, ◌≤◌, List, ◌++◌, length, All}
+
+-- these entries are the ledger's last ones, none longer than any that is accepted
+pub record AreLast (ledger recent : List (List ℕ)) : Type 0 where
+  pub older : List (List ℕ)
+  pub ends : ledger ≡ older ++ recent
+  pub each_small : All (λ entry. length entry ≤ 1048576) recent
+
+-- some first ones are gone
+pub record IsRest (old new : List (List ℕ)) : Type 0 where
+  pub gone : List (List ℕ)
+  pub is : old ≡ gone ++ new
