@@ -3,7 +3,7 @@ use Rattle.std.proofs.Common.{◌≡◌, ℕ, zero, suc, ◌-◌, ◌^◌, false
 use Rattle.std.specs.List.{repeat}
 use Rattle.std.specs.Fmt.{decimal, padded_integral, format_spec, char_count}
 use Rattle.std.proofs.Math.Utf8.{encode}
-use Rattle.script.specs.Output.{right_in}
+use Rattle.admin.specs.Status.{right_in}
 
 repeat-one : (n byte : ℕ) → repeat n (byte ∷ []) ≡ replicate n byte
 repeat-one zero byte = refl

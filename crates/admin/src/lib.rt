@@ -6,4 +6,4 @@ mod status;
 #[cfg(test)]
 mod tests;
 
-pub use status::print_status;
+pub use status::{print_status, print_topic};

@@ -1,8 +1,7 @@
 // The status lines of topics.
 ghost use Rattle.std.specs.Prelude.{OnOk};
 ghost use Rattle.std.specs.Io.KnownBytes.{Appends};
-ghost use Rattle.script.specs.Output.{topic_line, subscription_line};
-ghost use Rattle.admin.specs.Status.{lines_of, lines_of_all};
+ghost use Rattle.admin.specs.Status.{topic_line, subscription_line, lines_of, lines_of_all};
 
 use node::TopicStatus;
 use std::io;
@@ -24,8 +23,10 @@ pub fn print_status<W: Write>(statuses: &[TopicStatus], writer: &mut W) -> io::R
     Ok(())
 }
 
-// The line of a topic, and behind it those of its subscriptions.
-fn print_topic<W: Write>(status: &TopicStatus, writer: &mut W) -> io::Result<()>
+/// Writes the line of a topic, and behind it those of its subscriptions, as `print_status` has them.
+///
+/// A fault of the writer is handed on, and how much went out isn't said.
+pub fn print_topic<W: Write>(status: &TopicStatus, writer: &mut W) -> io::Result<()>
     ensures { OnOk result (Appends (W.contents writer.old) (W.contents writer.new) (lines_of status.now)) }
 {
     print_topic_line(status, writer)?;

@@ -9,7 +9,7 @@ use crate::tally::Tallies;
 use bells::Bells;
 use disk::Shelf;
 use std::sync::Wait;
-use topic_core::{Outgoing, ReadError, Send, SentEntry, TopicCommand, TopicStore};
+use topic_core::{AtHand, Outgoing, ReadError, Send, SentEntry, TopicCommand, TopicStore};
 
 /// So long an entry is at most, in bytes; a topic refuses a longer one whatever room it has. Our own rule.
 const LONGEST_ENTRY: usize = 1_048_576;
@@ -24,11 +24,11 @@ impl<T: TopicStore, S: Shelf + Drop, K: Tallies> SharedTopic<T, S, K> {
         number: u64,
         place: u8,
         length: Option<usize>,
-        held: Option<Hold<'t, K>>,
-    ) -> Hold<'t, K> {
+        held: Option<Hold<'t, T, S, K>>,
+    ) -> Hold<'t, T, S, K> {
         let mut hold = match held {
             Some(hold) => hold,
-            None => Hold::new(self.topic.lock(rt), number),
+            None => Hold::new(None, self.topic.lock(rt), number),
         };
         for _ in rt.forever() {
             if hold.topic.lets_in(place, length) {
@@ -36,28 +36,40 @@ impl<T: TopicStore, S: Shelf + Drop, K: Tallies> SharedTopic<T, S, K> {
             }
             hold.release(bells);
             bells.wait_reader(rt, place);
-            hold = Hold::new(self.topic.lock(rt), number);
+            hold = Hold::new(None, self.topic.lock(rt), number);
             hold.has_waited = true;
         }
         unreachable!()
     }
 
-    /// A message for a consumer, which holds it from then on. Where there is none, the connection's writer is woken when there may be.
-    pub(crate) fn dispatch<R: Wait>(
-        &self,
+    /// A message for a consumer, which holds it from then on, under the topic's lock. For an entry that isn't at hand it is let go,
+    /// and taken again behind the stores' lock, so that nobody waits for a write with it.
+    pub(crate) fn dispatch<'t, R: Wait>(
+        &'t self,
         rt: &R,
+        bells: &Bells,
+        held: Hold<'t, T, S, K>,
         place: u8,
         who: u64,
         consumer_id: u64,
-    ) -> Result<Option<Outgoing>, ReadError>
-        ensures message { IfOk result (λ sent. IfSome sent (λ outgoing. IsMessageTo consumer_id outgoing)) }
+    ) -> (Hold<'t, T, S, K>, Result<Option<Outgoing>, ReadError>)
+        ensures message { IfOk result.1 (λ sent. IfSome sent (λ outgoing. IsMessageTo consumer_id outgoing)) }
     {
-        let mut topic = self.topic.lock(rt);
-        let sent = topic.dispatch(rt, &self.stores, who, consumer_id);
-        if !matches!(&sent, Ok(Some(_))) {
-            topic.waiting.starve(place);
+        let mut hold = held;
+        let mut next = hold.dispatch(place, who, consumer_id);
+        if matches!(&next, Ok(AtHand::Unread)) {
+            let number = hold.number;
+            hold.release(bells);
+            let stores = self.stores.lock(rt);
+            hold = Hold::new(Some(stores), self.topic.lock(rt), number);
+            next = hold.dispatch(place, who, consumer_id);
         }
-        sent
+        let sent = match next {
+            Ok(AtHand::Message(outgoing)) => Ok(Some(outgoing)),
+            Ok(AtHand::Nothing | AtHand::Unread) => Ok(None),
+            Err(why) => Err(why),
+        };
+        (hold, sent)
     }
 
     /// The session leaves. What it sent stays; what its consumers held is given back.

@@ -1,10 +1,12 @@
 // A topic with its shares.
-ghost use Rattle.std.specs.Prelude.{◌≡◌, ◌+◌, ◌<◌, ◌≤◌, false, true, IfOk, IfErr, IfSome, IsErr};
+ghost use Rattle.std.specs.Prelude.{◌≡◌, ◌+◌, ◌<◌, ◌≤◌, false, true, length, IfOk, IfErr, IfSome, IsErr, IsErrOf};
+ghost use Rattle.disk.specs.Disk.{Same, Leaves, Kept, Failed};
+ghost use Rattle.gated_log.specs.declared.read_error.ReadError.TheVariants.{Device};
 ghost use Rattle.topic_core.specs.State.{CountsStay};
-ghost use Rattle.topic_core.specs.Steps.{TopicStep, Collects, GrantStep, Fits, left, has_producer, has_consumer};
-ghost use Rattle.topic_core.specs.Dispatch.{IsMessageTo};
+ghost use Rattle.topic_core.specs.Steps.{TopicStep, Collects, GrantStep, Fits, key_of, left, has_producer, has_consumer};
+ghost use Rattle.topic_core.specs.Dispatch.{DispatchStep, AtHandStep, IsAtHandFor, IsMessageTo};
 ghost use Rattle.topic_core.specs.Soundness.{IsSound};
-ghost use Rattle.topic_core.specs.Standing.{GoesOn};
+ghost use Rattle.topic_core.specs.Standing.{GoesOn, Phase, Standing};
 ghost use Rattle.topic_lock.specs.Counting.{sends_of, receipts_collected, is_send, is_later};
 ghost use Rattle.reply_queues.specs.Replies.{is_receipt};
 
@@ -16,11 +18,12 @@ use crate::tally::{
 use crate::waiting::Waiting;
 use commands::Reply;
 use disk::Shelf;
+use std::alloc::AllocError;
 use std::marker::Model;
 use std::sync::ledger::Share;
 use std::sync::{Mutex, Wait};
 use topic_core::{
-    Answer, Outgoing, ReadError, TooManyPermits, TopicCommand, TopicCore, TopicStore,
+    Answer, AtHand, Outgoing, ReadError, TooManyPermits, TopicCommand, TopicCore, TopicStore,
     commands_hand_out_nothing, entries_are_published,
 };
 
@@ -94,6 +97,13 @@ impl<K: Tallies> CountedTopic<K> {
         self.core.show_sound();
     }
 
+    /// Whether a device failure ended the topic's work.
+    pub fn is_failed(&self) -> bool
+        ensures { result ≡ self.now.core.failed }
+    {
+        self.core.is_failed()
+    }
+
     pub fn has_producer(&self, who: u64, id: u64) -> bool
         ensures { result ≡ has_producer self.now.core who id }
     {
@@ -165,26 +175,68 @@ impl<K: Tallies> CountedTopic<K> {
         core.grant(who, consumer_id, permits)
     }
 
-    /// A message for a consumer, which holds it from then on. Where there is one, its entry is read under the stores' lock, which
-    /// may wait for a write.
-    pub fn dispatch<T: TopicStore, S: Shelf + Drop, R: Wait>(
-        &mut self,
-        rt: &R,
-        stores: &Mutex<CountedStores<T, S, K>>,
-        who: u64,
-        consumer_id: u64,
-    ) -> Result<Option<Outgoing>, ReadError>
-        ensures message { IfOk result (λ sent. IfSome sent (λ outgoing. IsMessageTo consumer_id outgoing)) }
+    /// A message for a consumer, which holds it from then on, where its entry stands in memory. A refusal changes nothing.
+    pub fn dispatch_at_hand(&mut self, who: u64, consumer_id: u64) -> Result<AtHand, AllocError>
+        ensures step { length self.old.core.ledger ≡ self.old.core.committed → AtHandStep self.old.core (key_of who consumer_id) result self.new.core }
+        ensures message { IfOk result (λ at_hand. IsAtHandFor consumer_id at_hand) }
         ensures goes_on { GoesOn self.old.core self.new.core }
         ensures counts { CountsStay self.old.core self.new.core }
         ensures refused { IsErr result → self.new.core ≡ self.old.core }
         ensures works { IsErr result → self.old.core.failed ≡ false }
     {
         let CountedTopic { core, .. } = self;
-        if core.pick(who, consumer_id).is_none() {
-            return Ok(None);
+        core.dispatch_at_hand(who, consumer_id)
+    }
+
+    /// A message for a consumer, which holds it from then on, with one read of the topic's stores where there is one.
+    pub fn dispatch<T: TopicStore, S: Shelf + Drop>(
+        &mut self,
+        stores: &mut CountedStores<T, S, K>,
+        who: u64,
+        consumer_id: u64,
+    ) -> Result<Option<Outgoing>, ReadError>
+        ensures step { (phase : Phase) → Standing T.stands phase self.old.core (T.view stores.old.stores) (S.disk stores.old.shelf) →
+            DispatchStep self.old.core who consumer_id result self.new.core }
+        ensures message { IfOk result (λ sent. IfSome sent (λ outgoing. IsMessageTo consumer_id outgoing)) }
+        ensures goes_on { GoesOn self.old.core self.new.core }
+        ensures counts { CountsStay self.old.core self.new.core }
+        ensures refused { IsErr result → self.new.core ≡ self.old.core }
+        ensures works { IsErr result → self.old.core.failed ≡ false }
+        ensures stores { stores.new.stores ≡ stores.old.stores }
+        ensures cause { (T.view stores.old.stores).failed ≡ false → IsErrOf result Device → Failed (S.disk stores.old.shelf) (S.disk stores.new.shelf) }
+        ensures seen { (S.disk stores.old.shelf).honest → Same (S.disk stores.old.shelf).seen (S.disk stores.new.shelf).seen }
+        ensures any_moment { (S.disk stores.old.shelf).honest → Leaves (S.disk stores.old.shelf).may_leave (S.disk stores.old.shelf) (S.disk stores.new.shelf) }
+        ensures kept { Kept (S.disk stores.old.shelf) (S.disk stores.new.shelf) }
+    {
+        let CountedTopic { core, .. } = self;
+        let CountedStores {
+            stores: files,
+            shelf,
+            ..
+        } = stores;
+        core.dispatch(files, shelf, who, consumer_id)
+    }
+
+    /// The next message of a consumer, where its entry is at hand.
+    pub(crate) fn next_at_hand(&mut self, who: u64, consumer_id: u64) -> Result<AtHand, ReadError>
+        ensures message { IfOk result (λ at_hand. IsAtHandFor consumer_id at_hand) }
+    {
+        Ok(self.dispatch_at_hand(who, consumer_id)?)
+    }
+
+    /// The next message of a consumer, whose entry is read.
+    pub(crate) fn read_next<T: TopicStore, S: Shelf + Drop>(
+        &mut self,
+        stores: &mut CountedStores<T, S, K>,
+        who: u64,
+        consumer_id: u64,
+    ) -> Result<AtHand, ReadError>
+        ensures message { IfOk result (λ at_hand. IsAtHandFor consumer_id at_hand) }
+    {
+        match self.dispatch(stores, who, consumer_id)? {
+            Some(outgoing) => Ok(AtHand::Message(outgoing)),
+            None => Ok(AtHand::Nothing),
         }
-        stores.lock(rt).dispatch(core, who, consumer_id)
     }
 
     /// The session leaves. What it sent stays.

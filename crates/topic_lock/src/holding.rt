@@ -1,36 +1,46 @@
 // A topic's lock, as a port holds it.
-ghost use Rattle.std.specs.Prelude.{◌≡◌, ◌+◌, ◌<◌};
+ghost use Rattle.std.specs.Prelude.{◌≡◌, ◌+◌, ◌<◌, IfOk};
+ghost use Rattle.topic_core.specs.Dispatch.{IsAtHandFor};
 ghost use Rattle.topic_core.specs.Steps.{Fits};
 ghost use Rattle.topic_lock.specs.Counting.{sends_of};
 
 use crate::counted::{AcceptedTally, CountedTopic};
+use crate::stores::CountedStores;
 use crate::tally::{AcceptedByPorts, Tallies};
 use bells::{Bells, Marks};
+use disk::Shelf;
 use std::sync::ledger::Share;
 use std::sync::{MutexGuard, Wait};
-use topic_core::{Answer, TopicCommand};
+use topic_core::{Answer, AtHand, ReadError, TopicCommand, TopicStore};
 
 /// A topic's lock that a port has, and who is to be woken once it lets it go.
 #[derive(Drop)]
-pub(crate) struct Hold<'t, K: Tallies> {
+pub(crate) struct Hold<'t, T: TopicStore, S: Shelf + Drop, K: Tallies> {
     pub(crate) topic: MutexGuard<'t, CountedTopic<K>>,
+    /// The lock of its stores, where entries are read. It was taken before the topic's.
+    stores: Option<MutexGuard<'t, CountedStores<T, S, K>>>,
     pub(crate) number: u64,
     /// Others may wait for room, since the port did.
     pub(crate) has_waited: bool,
-    /// The topic's flusher is owed something, and wasn't before.
-    is_first: bool,
+    /// The topic's flusher has something to do of which it wasn't told: a reply is owed, or the topic has failed.
+    rings_flusher: bool,
     /// Positions may have been given back, which other consumers may get.
     gives_back: bool,
 }
 
-impl<'t, K: Tallies> Hold<'t, K> {
-    /// The lock of the topic of a number, which was just taken.
-    pub(crate) fn new(topic: MutexGuard<'t, CountedTopic<K>>, number: u64) -> Hold<'t, K> {
+impl<'t, T: TopicStore, S: Shelf + Drop, K: Tallies> Hold<'t, T, S, K> {
+    /// The lock of the topic of a number, which was just taken, and that of its stores, where entries are to be read.
+    pub(crate) fn new(
+        stores: Option<MutexGuard<'t, CountedStores<T, S, K>>>,
+        topic: MutexGuard<'t, CountedTopic<K>>,
+        number: u64,
+    ) -> Hold<'t, T, S, K> {
         Hold {
             topic,
+            stores,
             number,
             has_waited: false,
-            is_first: false,
+            rings_flusher: false,
             gives_back: false,
         }
     }
@@ -52,7 +62,7 @@ impl<'t, K: Tallies> Hold<'t, K> {
     {
         let Hold {
             topic,
-            is_first,
+            rings_flusher,
             gives_back,
             ..
         } = self;
@@ -61,20 +71,42 @@ impl<'t, K: Tallies> Hold<'t, K> {
         }
         let answer = topic.command(rt, tally, port, who, command);
         let is_owed = matches!(&answer, Answer::Later | Answer::Nothing);
-        if is_owed && topic.waiting.owe(place) {
-            *is_first = true;
+        if (is_owed && topic.waiting.owe(place)) || topic.is_failed() {
+            *rings_flusher = true;
         }
         answer
     }
 
-    /// Lets the lock go, and wakes the topic's flusher where it is first owed something, the next reader that waits for room where
+    /// What the topic has for a consumer of the connection at this place, whose writer is woken when there may be a message where there
+    /// is none. An entry that isn't at hand is read only with the stores' lock.
+    pub(crate) fn dispatch(
+        &mut self,
+        place: u8,
+        who: u64,
+        consumer_id: u64,
+    ) -> Result<AtHand, ReadError>
+        ensures message { IfOk result (λ at_hand. IsAtHandFor consumer_id at_hand) }
+    {
+        let Hold { topic, stores, .. } = self;
+        let next = match stores {
+            Some(stores) => topic.read_next(&mut *stores, who, consumer_id),
+            None => topic.next_at_hand(who, consumer_id),
+        };
+        if matches!(&next, Ok(AtHand::Nothing) | Err(_)) {
+            topic.waiting.starve(place);
+        }
+        next
+    }
+
+    /// Lets the lock go, and wakes the topic's flusher where it has something to do, the next reader that waits for room where
     /// others may, and writers of the connections to whose consumers something was given back.
     pub(crate) fn release(self, bells: &Bells) {
         let Hold {
             topic,
+            stores,
             number,
             has_waited,
-            is_first,
+            rings_flusher,
             gives_back,
         } = self;
         let mut topic = topic;
@@ -89,7 +121,8 @@ impl<'t, K: Tallies> Hold<'t, K> {
             Marks::new()
         };
         drop(topic);
-        if is_first {
+        drop(stores);
+        if rings_flusher {
             bells.ring_flusher(number);
         }
         ring_reader(bells, reader);

@@ -25,7 +25,7 @@ use std::sync::ledger::Share;
 use topic_core::{Answer, Outgoing, ReadError, TooManyPermits, TopicCommand, TopicStore};
 
 /// A port over the topics' locks, with shares of what all ports were told. It knows the topics that were there when it last looked.
-/// In a turn it keeps the lock of the topic that worked a command for those that follow, until it is asked for anything else.
+/// In a turn it keeps the lock of the topic that it was asked for last, until it is asked for another one or for something else.
 #[derive(Drop)]
 pub struct LockedPort<'p, 'a, T: TopicStore, S: Shelf + Drop, K: Tallies, R: Wait> {
     rt: &'p R,
@@ -35,7 +35,7 @@ pub struct LockedPort<'p, 'a, T: TopicStore, S: Shelf + Drop, K: Tallies, R: Wai
     known: Vec<Known<'a, T, S, K>>,
     accepted: Share<AcceptedByPorts<K>>,
     handed: Share<HandedByPorts<K>>,
-    held: Cell<Option<Hold<'a, K>>>,
+    held: Cell<Option<Hold<'a, T, S, K>>>,
     is_in_turn: bool,
     ghost parts: { (accepted.parts ≡ 1) × (handed.parts ≡ 1) },
 }
@@ -125,7 +125,7 @@ impl<'p, 'a, T: TopicStore, S: Shelf + Drop, K: Tallies, R: Wait> LockedPort<'p,
 
     /// The lock of a topic: the one that is kept, where it is of this topic, or one that is taken, once there is room for an entry of
     /// this length.
-    fn hold(&self, topic: u64, entry_length: Option<usize>) -> Hold<'a, K>
+    fn hold(&self, topic: u64, entry_length: Option<usize>) -> Hold<'a, T, S, K>
         requires { topic < length self.now.known.items }
     {
         let held = self.held.take();
@@ -149,7 +149,7 @@ impl<'p, 'a, T: TopicStore, S: Shelf + Drop, K: Tallies, R: Wait> LockedPort<'p,
     }
 
     /// Keeps a lock until the port is asked for something else, where a turn is on.
-    fn keep(&self, hold: Hold<'a, K>) {
+    fn keep(&self, hold: Hold<'a, T, S, K>) {
         if self.is_in_turn {
             self.held.set(Some(hold));
         } else {
@@ -305,9 +305,19 @@ impl<'p, 'a, T: TopicStore, S: Shelf + Drop, K: Tallies, R: Wait> Port
         who: u64,
         consumer_id: u64,
     ) -> Result<Option<Outgoing>, ReadError> {
-        self.let_go();
-        self.topic(topic)
-            .dispatch(self.rt, self.seat.place, who, consumer_id)
+        let held = self.hold(topic, None);
+        let shared = self.topic(topic);
+        let place = self.seat.place;
+        let (hold, sent) = shared.dispatch(
+            self.rt,
+            &self.broker.bells,
+            held,
+            place,
+            who,
+            consumer_id,
+        );
+        self.keep(hold);
+        sent
     }
 
     fn next_due(&self, _who: u64, from: u64) -> Option<u64> {
@@ -326,18 +336,16 @@ impl<'p, 'a, T: TopicStore, S: Shelf + Drop, K: Tallies, R: Wait> Port
         ensures accepted { self.new.accepted.amount ≡ self.old.accepted.amount }
         ensures handed { self.new.handed.amount ≡ self.old.handed.amount + receipts_collected result }
     {
-        self.let_go();
-        let shared = self.topic(topic);
+        let mut hold = self.hold(topic, None);
         let LockedPort {
             rt,
             broker,
             handed,
             ..
         } = self;
-        shared
-            .topic
-            .lock(*rt)
-            .collect(*rt, &broker.totals.handed, handed, who)
+        let reply = hold.topic.collect(*rt, &broker.totals.handed, handed, who);
+        self.keep(hold);
+        reply
     }
 
     fn leave(&mut self, topic: u64, who: u64) {

@@ -12,7 +12,7 @@ use topic_core::TopicStore;
 /// A topic behind its lock.
 pub type LockedTopic<K> = Mutex<CountedTopic<K>>;
 
-/// A topic that is there, and its stores. The lock of the stores is taken after that of the topic, or alone.
+/// A topic that is there, and its stores. The lock of the stores is taken before that of the topic, or alone.
 #[derive(Drop)]
 pub struct SharedTopic<T: TopicStore, S: Shelf + Drop, K: Tallies> {
     pub topic: LockedTopic<K>,

@@ -1,27 +1,27 @@
 // A topic's stores on their device, with their share of what is durable.
 ghost use Rattle.std.specs.Prelude.{◌≡◌, ◌⊎◌, ◌+◌, ◌<◌, ◌≤◌, ◌^◌, ◌++◌, true, false, length, Ok, Err, IfOk, IfSome, OnOk, IsErr, IsErrOf};
-ghost use Rattle.disk.specs.Disk.{Kept, Failed};
+ghost use Rattle.disk.specs.Disk.{Leaves, Kept, Failed};
+ghost use Rattle.gated_log.specs.declared.refusal.Refusal.TheVariants.{Device as Lost};
 ghost use Rattle.disk.specs.Areas.{OfTopic, Within};
 ghost use Rattle.managed_ledger.specs.Entries.{Entries};
 ghost use Rattle.records.specs.Records.{after_all};
 ghost use Rattle.topic_stores.specs.Views.{Settled};
 ghost use Rattle.topic_stores.specs.Writing.{IsLeft, StandsFor};
-ghost use Rattle.topic_core.specs.State.{CountsStay};
-ghost use Rattle.topic_core.specs.Dispatch.{IsMessageTo};
-ghost use Rattle.topic_core.specs.Standing.{GoesOn};
 ghost use Rattle.records.specs.Maps.{Kept as KeptSubscriptions};
 ghost use Rattle.topic_lock.specs.declared.fault.FlushFault.TheVariants.{Device, NoMemory, Apart};
 ghost use Rattle.topic_lock.specs.Ends.{fault_of};
 ghost use Rattle.topic_lock.specs.Flushing.{Writes};
 
+use crate::counted::CountedTopic;
 use crate::durable::{DurableByStores, DurableTally};
 use crate::fault::FlushFault;
 use crate::tally::Tallies;
 use crate::written::{Flusher, Written};
 use disk::Shelf;
-use std::sync::Wait;
+use gated_log::Refusal;
 use std::sync::ledger::Share;
-use topic_core::{Batch, Outgoing, ReadError, TopicCore, TopicStore, WriteError};
+use std::sync::{Mutex, Wait};
+use topic_core::{Batch, TopicStore, WriteError};
 
 /// A topic's stores on their device, with their share of what is durable: as many entries as they remember.
 #[derive(Drop)]
@@ -45,21 +45,18 @@ impl<T: TopicStore, S: Shelf + Drop, K: Tallies> CountedStores<T, S, K> {
         }
     }
 
-    /// A message for a consumer of a topic, with one read of the device where there is one.
-    pub(crate) fn dispatch(
+    /// Opens these stores' topic again where it has failed, as `CountedTopic::reopen` says.
+    pub(crate) fn reopen_topic<R: Wait>(
         &mut self,
-        core: &mut TopicCore,
-        who: u64,
-        consumer_id: u64,
-    ) -> Result<Option<Outgoing>, ReadError>
-        ensures message { IfOk result (λ sent. IfSome sent (λ outgoing. IsMessageTo consumer_id outgoing)) }
-        ensures goes_on { GoesOn core.old core.new }
-        ensures counts { CountsStay core.old core.new }
-        ensures refused { IsErr result → core.new ≡ core.old }
-        ensures works { IsErr result → core.old.failed ≡ false }
+        rt: &R,
+        tally: &DurableTally<K>,
+        topic: &Mutex<CountedTopic<K>>,
+    ) -> Result<(), Refusal>
+        ensures cause { IsErrOf result Lost → Failed (S.disk self.old.shelf) (S.disk self.new.shelf) }
+        ensures any_moment { (S.disk self.old.shelf).honest → Leaves (S.disk self.old.shelf).may_leave (S.disk self.old.shelf) (S.disk self.new.shelf) }
+        ensures kept { Kept (S.disk self.old.shelf) (S.disk self.new.shelf) }
     {
-        let CountedStores { stores, shelf, .. } = self;
-        core.dispatch(stores, shelf, who, consumer_id)
+        topic.lock(rt).reopen(rt, tally, self)
     }
 
     /// Writes a batch, which a flusher took of the stores' topic, and counts what became durable for the stores and for the flusher.

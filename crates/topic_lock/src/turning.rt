@@ -9,6 +9,7 @@ use crate::tally::Tallies;
 use crate::written::{Flusher, Written};
 use bells::{Bells, Marks};
 use disk::Shelf;
+use gated_log::Refusal;
 use std::sync::Wait;
 use topic_core::{Batch, TopicStore, WriteError};
 
@@ -46,6 +47,16 @@ impl<T: TopicStore, S: Shelf + Drop, K: Tallies> SharedTopic<T, S, K> {
         bells.ring_by_another(rt, &hungry);
         ring_reader(bells, reader);
         ended
+    }
+
+    /// Whether the topic has failed.
+    pub fn is_failed<R: Wait>(&self, rt: &R) -> bool {
+        self.topic.lock(rt).is_failed()
+    }
+
+    /// Opens the topic again where it has failed. A refusal changes nothing.
+    pub fn reopen<R: Wait>(&self, rt: &R, tally: &DurableTally<K>) -> Result<(), Refusal> {
+        self.stores.lock(rt).reopen_topic(rt, tally, &self.topic)
     }
 
     /// A batch of all that waits, and whom its flush owes a reply. Where memory is refused what is owed stays.

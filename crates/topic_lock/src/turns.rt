@@ -1,6 +1,6 @@
 /// What a port is told of the turns in which a session is fed or pumped.
 pub trait Turns {
-    /// A turn begins: the port may look which topics are there by now, and may keep a topic's lock from one command to the next.
+    /// A turn begins: the port may look which topics are there by now, and may keep a topic's lock from one call to the next.
     fn begin_turn(&mut self);
 
     /// The turn ends: the port keeps no lock.

@@ -6,16 +6,19 @@ ghost use Rattle.std.specs.Prelude.{◌≡◌, IfOk, length};
 
 use bytes::Bytes;
 use catalog::{Catalog, EntriesPerLedger};
-use commands::{Reply, ReplyText, read_entry};
+use commands::{InitialPosition, Reply, ReplyText, Text, read_entry};
 use disk_mem::MemShelf;
 use gated_log::Refusal;
+use holds::SlotRanges;
 use names::TopicName;
+use records::is_subscription_name;
 use session::{Found, Port};
 use std::alloc::{AllocError, Global};
 use std::sync::Wait;
 use std::sync::atomic::{AtomicBool, Ordering};
 use std::thread;
-use topic_core::{Answer, FileStores, PlainEntry, Send, SentEntry, TopicCommand};
+use subscriptions::Mode;
+use topic_core::{Answer, FileStores, PlainEntry, Send, SentEntry, Subscribe, TopicCommand};
 use topic_lock::{FlushFault, Flusher, Place, SharedBroker, Spare, Tallies, TopicParts, Totals};
 
 // How long a thread waits for another one, in turns.
@@ -124,6 +127,22 @@ fn send(alloc: Global, sequence_id: u64) -> Result<TopicCommand, AllocError> {
         sequence_id,
         num_messages: 1,
         entry: SentEntry::Plain(PlainEntry { bytes, metadata }),
+    }))
+}
+
+// A consumer 5 of the subscription `s` is asked for, from the first entry on.
+fn subscribe(alloc: Global) -> Result<TopicCommand, AllocError> {
+    let subscription = Text::new(String::from_str(alloc, "s")?);
+    if !is_subscription_name(subscription.as_str().as_bytes()) {
+        return Err(AllocError);
+    }
+    Ok(TopicCommand::Subscribe(Subscribe {
+        consumer_id: 5,
+        request_id: 205,
+        subscription,
+        mode: Mode::Exclusive,
+        ranges: SlotRanges::new(Vec::new(alloc)),
+        initial: InitialPosition::Earliest,
     }))
 }
 

@@ -1,8 +1,8 @@
-// A write that is held holds nobody's SEND.
+// A write that is held holds nobody's SEND, and no message whose entry was just committed.
 ghost use Rattle.std.specs.Prelude.{◌≡◌};
 ghost use Rattle.topic_lock.specs.Ledgers.{IsOf};
 
-use super::{new_broker, publishes, send, waits_for};
+use super::{flush_first, new_broker, publishes, send, subscribe, waits_for};
 use disk_mem::MemShelf;
 use gated_log::Refusal;
 use session::Port;
@@ -29,7 +29,7 @@ struct Gate {
     may_go_on: AtomicBool,
 }
 
-// Flushes the topic; the write is held, with the stores' lock, until another session's SEND was answered. Answers whether it was, and
+// Flushes the topic; the write is held, with the stores' lock, until another session has sent and received. Answers whether it did, and
 // how many entries were committed.
 fn flush_held<K: Tallies, R: Wait>(
     rt: &R,
@@ -44,21 +44,18 @@ fn flush_held<K: Tallies, R: Wait>(
     };
     let mut stores = shared.stores.lock(rt);
     gate.is_held.store(true, Ordering::SeqCst);
-    let was_answered = waits_for(&gate.may_go_on);
+    let went_on = waits_for(&gate.may_go_on);
     let written = stores.write(rt, tally, flusher, batch);
     drop(stores);
     match shared.topic.lock(rt).finish(written) {
-        Ok((_, Ok(count))) => Ok((was_answered, count)),
+        Ok((_, Ok(count))) => Ok((went_on, count)),
         Ok((_, Err(FlushFault::NoMemory))) => Err(Refusal::NoMemory),
         _ => Err(Refusal::Device),
     }
 }
 
-// Sends as the only producer of a session, and answers whether that was accepted.
-fn is_accepted<P: Port>(alloc: Global, port: &mut P, who: u64) -> Result<bool, Refusal> {
-    let Some(topic) = publishes(alloc, port, who)? else {
-        return Ok(false);
-    };
+// Sends as a session's producer, and answers whether that was accepted.
+fn sends<P: Port>(alloc: Global, port: &mut P, who: u64, topic: u64) -> Result<bool, Refusal> {
     if topic >= port.topics() {
         return Ok(false);
     }
@@ -68,7 +65,50 @@ fn is_accepted<P: Port>(alloc: Global, port: &mut P, who: u64) -> Result<bool, R
     }
 }
 
-// Sends in a session, and flushes.
+// Subscribes from the first entry on, and answers whether a message is there at once.
+fn receives<P: Port>(alloc: Global, port: &mut P, who: u64, topic: u64) -> Result<bool, Refusal> {
+    if topic >= port.topics() {
+        return Ok(false);
+    }
+    let answer = port.command(topic, who, subscribe(alloc)?);
+    if matches!(answer, Answer::NoMemory) {
+        return Err(Refusal::NoMemory);
+    }
+    if topic >= port.topics() {
+        return Ok(false);
+    }
+    if port.grant(topic, who, 5, 1).is_err() {
+        return Ok(false);
+    }
+    if topic >= port.topics() {
+        return Ok(false);
+    }
+    let message = port.dispatch(topic, who, 5)?;
+    Ok(message.is_some())
+}
+
+// Sends as the only producer of a session, has that committed, and sends again.
+fn send_twice<'a, K: Tallies, R: Wait, P: Port>(
+    rt: &R,
+    alloc: Global,
+    port: &mut P,
+    broker: &SharedBroker<'a, FileStores, MemShelf, K>,
+    flusher: Flusher<K>,
+) -> Result<Option<Flusher<K>>, Refusal> {
+    let Some(topic) = publishes(alloc, port, 0)? else {
+        return Ok(None);
+    };
+    if !sends(alloc, port, 0, topic)? {
+        return Ok(None);
+    }
+    let flusher = flush_first(rt, broker, flusher)?;
+    if !sends(alloc, port, 0, topic)? {
+        return Ok(None);
+    }
+    Ok(Some(flusher))
+}
+
+// Sends twice in a session. The first entry is committed, and the flush of the second one is held.
 fn send_and_flush<'p, 'a, K: Tallies, R: Wait>(
     rt: &R,
     alloc: Global,
@@ -78,11 +118,11 @@ fn send_and_flush<'p, 'a, K: Tallies, R: Wait>(
     gate: &Gate,
 ) -> Result<(bool, usize), Refusal> {
     let mut port = resting.begin();
-    let sent = is_accepted(alloc, &mut port, 0);
+    let sent = send_twice(rt, alloc, &mut port, broker, flusher);
     drop(port.rest());
-    if !sent? {
+    let Some(flusher) = sent? else {
         return Ok((false, 0));
-    }
+    };
     let Some(place) = broker.places.first() else {
         return Ok((false, 0));
     };
@@ -92,28 +132,37 @@ fn send_and_flush<'p, 'a, K: Tallies, R: Wait>(
     flush_held(rt, &broker.totals.durable, shared, flusher, gate)
 }
 
-// Sends in the other session while the write is held, and answers whether that was accepted.
-fn send_meanwhile<'p, 'a, K: Tallies, R: Wait>(
+// Whether a SEND of the other session is accepted, and whether a consumer of it gets the entry that was committed.
+fn send_and_receive<P: Port>(alloc: Global, port: &mut P) -> Result<(bool, bool), Refusal> {
+    let Some(topic) = publishes(alloc, port, 1)? else {
+        return Ok((false, false));
+    };
+    let sent = sends(alloc, port, 1, topic)?;
+    Ok((sent, receives(alloc, port, 1, topic)?))
+}
+
+// Sends and receives in the other session while the write is held.
+fn go_on_meanwhile<'p, 'a, K: Tallies, R: Wait>(
     alloc: Global,
     resting: MemPort<'p, 'a, K, R>,
     gate: &Gate,
-) -> Result<bool, Refusal> {
+) -> Result<(bool, bool), Refusal> {
     if !waits_for(&gate.is_held) {
-        return Ok(false);
+        return Ok((false, false));
     }
     let mut port = resting.begin();
-    let sent = is_accepted(alloc, &mut port, 1);
+    let seen = send_and_receive(alloc, &mut port);
     drop(port.rest());
     gate.may_go_on.store(true, Ordering::SeqCst);
-    sent
+    seen
 }
 
-// Whether the flush saw the other session's SEND answered, how many entries it committed, and whether the SEND was accepted.
+// Whether the flush saw the other session go on, how many entries it committed, and what the other session saw.
 fn run<K: Tallies + Send + Sync, R: Threads + Wait + Sync>(
     rt: &R,
     alloc: Global,
     blanks: Blanks,
-) -> Result<((bool, usize), bool), Refusal>
+) -> Result<((bool, usize), (bool, bool)), Refusal>
     requires accepted { IsOf blanks.accepted_topics K.accepted.one 64 × IsOf blanks.accepted_ports K.accepted.other 2 }
     requires handed { IsOf blanks.handed_topics K.handed.one 64 × IsOf blanks.handed_ports K.handed.other 2 }
     requires durable { IsOf blanks.durable_stores K.durable.one 64 × IsOf blanks.durable_topics K.durable.other 192 }
@@ -137,22 +186,23 @@ fn run<K: Tallies + Send + Sync, R: Threads + Wait + Sync>(
         may_go_on: AtomicBool::new(false),
     };
     let (gate, broker) = (&gate, &broker);
-    let (flushed, sent) = thread::join(
+    let (flushed, seen) = thread::join(
         rt,
         move || {
             let flushed = send_and_flush(rt, alloc, first, broker, flusher, gate);
             gate.is_held.store(true, Ordering::SeqCst);
             flushed
         },
-        move || send_meanwhile(alloc, second, gate),
+        move || go_on_meanwhile(alloc, second, gate),
     );
-    Ok((flushed?, sent?))
+    Ok((flushed?, seen?))
 }
 
-// The write ends only after the other session's SEND was accepted, and commits the one entry that it was taken of.
+// The write ends only after the other session's SEND was accepted and its consumer got the entry of the flush before, and commits the
+// one entry that it was taken of.
 #[test]
 fn a_write_holds_no_send(rt: HostRuntime) -> Result<(), Fail> {
     let seen = run::<Brand, _>(&rt, rt.alloc(), Blanks::new(2))?;
-    assert_eq!(rt; seen, ((true, 1), true));
+    assert_eq!(rt; seen, ((true, 1), (true, true)));
     Ok(())
 }
