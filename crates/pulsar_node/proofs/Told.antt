@@ -7,7 +7,8 @@ use Rattle.std.proofs.lemmas.List.{flat_map_more}
 use Rattle.node.specs.State.{State}
 use Rattle.node.specs.Driving as node
 use Rattle.node.specs.declared.status.TopicStatus.{TopicStatus}
-use Rattle.pulsar_node.specs.Replay.{lines_of, StatusOf}
+use Rattle.admin.specs.Status.{lines_of}
+use Rattle.pulsar_node.specs.Replay.{StatusOf}
 
 -- an element behind which one more was put is one of those before it, or that one
 old_or_last : {X : Type 0} (xs : List X) (last x : X) (i : ℕ) → slice_get (xs ++ last ∷ []) i ≡ Some x → (slice_get xs i ≡ Some x) ⊎ ((i ≡ length xs) × (last ≡ x))

@@ -41,6 +41,7 @@ task_of (line.Finish topic) = task.Event (event.Finish topic)
 task_of (line.Reopen topic) = task.Event (event.Reopen topic)
 task_of (line.Fail k) = task.Arm (fuse.Fail k)
 task_of (line.Stop k) = task.Arm (fuse.Stop k)
+task_of (line.FailRead k) = task.Arm (fuse.FailRead k)
 task_of (line.Crash as_) = task.Crash (form_of as_)
 task_of line.Status = task.Status
 

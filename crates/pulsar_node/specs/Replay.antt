@@ -8,7 +8,6 @@ use Rattle.disk.specs.declared.crash_shelf.Fuse.TheVariants as fuse
 use Rattle.disk.specs.Laid.{Laid, after_arm}
 use Rattle.disk_mem.specs.declared.shelf.MemShelf.{MemShelf}
 use Rattle.disk_mem.specs.Device.{disk_of, laid, LeftAs}
-use Rattle.subscriptions.specs.declared.status.SubscriptionStatus.{SubscriptionStatus}
 use Rattle.node.specs.State.{State, fresh_broker}
 use Rattle.node.specs.Runs.{Life, OpeningStep, HappeningStep}
 use Rattle.node.specs.Driving.{Cut, StatusIn}
@@ -21,7 +20,8 @@ use Rattle.script.specs.declared.script.Script.{Script}
 use Rattle.script.specs.declared.output.Outcome.TheVariants.{Done, Refused}
 use Rattle.script.specs.declared.output.StorageRefusal.TheVariants as refusal
 use Rattle.script.specs.Script.{IsScript, IsFirstBad}
-use Rattle.script.specs.Output.{output_line, topic_line, subscription_line}
+use Rattle.script.specs.Output.{output_line}
+use Rattle.admin.specs.Status.{lines_of}
 use Rattle.pulsar_node.specs.Event.{task_of, outcome_of}
 use Rattle.pulsar_node.specs.declared.event.Task.{Task}
 use Rattle.pulsar_node.specs.declared.event.Task.TheVariants as task
@@ -67,16 +67,6 @@ abbrev pub Cuts : ℕ → Moment → CrashForm → List ℕ → Moment → Type 
 Cuts number old form text new =
     ((ordered : Moment) × Armed (after_arm (fuse.CrashAs form) (laid old.device)) old ordered × Restarts number ordered text new)
     ⊎ (Armed (laid old.device) old new × (text ≡ output_line number [] (Refused refusal.NoMemory)))
-
--- the status line of a topic, and behind it those of its subscriptions
-abbrev pub status_lines : ℕ → List ℕ → ℕ → ℕ → List SubscriptionStatus → List ℕ
-status_lines number name entries segments statuses =
-    topic_line number entries segments name
-    ++ flat_map (λ status. subscription_line number status.mark_delete status.ranges status.name) statuses
-
--- those of what is told of a topic
-abbrev pub lines_of : TopicStatus → List ℕ
-lines_of topic = status_lines topic.number topic.name topic.entries topic.segments topic.subscriptions.items
 
 -- what is told of the topics: one status for each, in the order of their numbers
 pub record AreTold (state : State) (told : List TopicStatus) : Type 0 where

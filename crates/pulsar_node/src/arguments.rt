@@ -101,6 +101,7 @@ with numbers in decimal and bytes in hex:
   finish T        that flush ends as its write did
   fail K          the device's Kth write, cut or sync from now fails, once
   stop K          that one and all later ones fail, until the next crash
+  failread K      the device's Kth read from now fails, once
   crash old       the power is cut, and the node starts again: of each file what its last
                   sync left; `crash new`: what reads gave; `crash fill HH`: this byte
                   wherever a byte may be anything

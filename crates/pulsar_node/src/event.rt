@@ -37,6 +37,7 @@ pub(crate) fn task_of(line: Line) -> Task
         Line::Reopen(topic) => Task::Event(Event::Reopen(topic)),
         Line::Fail(call) => Task::Arm(Fuse::Fail(call)),
         Line::Stop(call) => Task::Arm(Fuse::Stop(call)),
+        Line::FailRead(read) => Task::Arm(Fuse::FailRead(read)),
         Line::Crash(left) => Task::Crash(form_of(left)),
         Line::Status => Task::Status,
     }

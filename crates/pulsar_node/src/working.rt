@@ -1,5 +1,5 @@
 // A replay under way: the machine that it works the lines of a script on.
-ghost use Rattle.std.specs.Prelude.{◌≡◌, ◌⊎◌, ◌+◌, ◌<◌, ◌≤◌, ◌^◌, [], IfOk, string_bytes};
+ghost use Rattle.std.specs.Prelude.{◌≡◌, ◌⊎◌, ◌+◌, ◌<◌, ◌≤◌, ◌^◌, [], IfOk};
 ghost use Rattle.catalog.specs.Names.{IsPerLedger};
 ghost use Rattle.node.specs.Driving.{shelf_in, Holds};
 ghost use Rattle.node.specs.Runs.{Life};
@@ -7,15 +7,16 @@ ghost use Rattle.script.specs.Output.{output_line as line_of_output};
 ghost use Rattle.pulsar_node.specs.declared.event.Task.TheVariants as task;
 ghost use Rattle.pulsar_node.specs.Cause.{DeviceOnlyIf, NewDeviceFailed};
 ghost use Rattle.pulsar_node.specs.Event.{task_of};
-ghost use Rattle.pulsar_node.specs.Replay.{printed_output, lines_of, StatusOf, Moment, Begun, WorksTask, WorksLines, Writes};
+ghost use Rattle.pulsar_node.specs.Replay.{printed_output, StatusOf, Moment, Begun, WorksTask, WorksLines, Writes};
 
 use crate::event::{Task, outcome_of, task_of};
 use crate::fault::ProgramFault;
 use crate::sink::Sink;
+use admin::print_topic;
 use disk::{CrashForm, Fuse, Shelf};
 use disk_mem::MemShelf;
-use node::{EntriesPerLedger, Event, Machine, Node, Output, ReplyText, Site, TopicStatus};
-use script::{Line, Outcome, StorageRefusal, output_line, subscription_line, topic_line};
+use node::{EntriesPerLedger, Event, Machine, Node, Output, ReplyText, Site};
+use script::{Line, Outcome, StorageRefusal, output_line};
 use std::alloc::{AllocError, Global};
 use topic_core::FileStores;
 
@@ -141,19 +142,21 @@ impl Replay {
         ensures cause { DeviceOnlyIf W.can_fail result }
     {
         let text = self.topics_text()?;
-        sink.write_whole(text.as_bytes())?;
+        sink.write_whole(text.as_slice())?;
         Ok(self)
     }
 
     // The lines of all topics, in the order of their numbers; none where the node is down. An error is want of memory.
-    fn topics_text(&self) -> Result<String, AllocError>
-        ensures { (life : Life) → Holds (⟦<MemShelf as Shelf>⟧.disk) self.now.machine life → IfOk result (λ text. StatusOf life.up life.state (string_bytes text)) }
+    fn topics_text(&self) -> Result<Vec<u8>, AllocError>
+        ensures { (life : Life) → Holds (⟦<MemShelf as Shelf>⟧.disk) self.now.machine life → IfOk result (λ text. StatusOf life.up life.state text.items) }
     {
-        let mut text = String::new(self.alloc);
+        let mut text = Vec::new(self.alloc);
         let mut topic = 0;
         while let Some(status) = self.machine.status(topic)? {
-            let lines = status_text(self.alloc, &status)?;
-            text.push_str(lines.as_str())?;
+            // A writer in memory fails for want of it alone.
+            if print_topic(&status, &mut text).is_err() {
+                return Err(AllocError);
+            }
             topic += 1;
         }
         Ok(text)
@@ -178,30 +181,6 @@ impl Replay {
         write_line(self.alloc, self.line, &[], outcome, sink)?;
         Ok(self)
     }
-}
-
-// The line of a topic, and behind it those of its subscriptions.
-fn status_text(alloc: Global, status: &TopicStatus) -> Result<String, AllocError>
-    ensures { IfOk result (λ text. string_bytes text ≡ lines_of status.now) }
-{
-    let mut text = topic_line(
-        alloc,
-        status.number,
-        status.entries,
-        status.segments,
-        status.name.as_str(),
-    )?;
-    for subscription in &status.subscriptions {
-        let line = subscription_line(
-            alloc,
-            status.number,
-            subscription.mark_delete,
-            subscription.ranges as u64,
-            subscription.name.as_str(),
-        )?;
-        text.push_str(line.as_str())?;
-    }
-    Ok(text)
 }
 
 // Writes the line of an output, or a front of it.

@@ -2,4 +2,3 @@ pub mod Numbers
 pub mod Texts
 pub mod Scripts
 pub mod Readings
-pub mod Padding

@@ -17,7 +17,7 @@ use Rattle.std.proofs.lemmas.Str.Parse.{not_in_digits}
 use Rattle.hex.specs.Hex.{decode_of, decode_sized}
 use Rattle.hex.proofs.HexLemmas.{decode_of-ok, decode_sized-ok, decode_sized-twice}
 use Rattle.script.specs.declared.line.Line.{Line}
-use Rattle.script.specs.declared.line.Line.TheVariants.{Open, Bytes, Pump, Close, Flush, Take, Write, Finish, Fail, Stop, Crash, Reopen, Status}
+use Rattle.script.specs.declared.line.Line.TheVariants.{Open, Bytes, Pump, Close, Flush, Take, Write, Finish, Fail, Stop, FailRead, Crash, Reopen, Status}
 use Rattle.script.specs.declared.line.CrashAs.{CrashAs}
 use Rattle.script.specs.declared.line.CrashAs.TheVariants.{Old, New, Fill}
 use Rattle.script.specs.declared.script.Script.{Script}
@@ -155,7 +155,8 @@ event_is text number n line word spelled is =
     one_of (codes "finish") Finish (λ h. h) _ (
     one_of (codes "fail") Fail (λ h. h) _ (
     one_of (codes "stop") Stop (λ h. h) _ (
-    one_of (codes "reopen") Reopen (λ h. h) _ (λ h. cc h)))))))))
+    one_of (codes "failread") FailRead (λ h. h) _ (
+    one_of (codes "reopen") Reopen (λ h. h) _ (λ h. cc h))))))))))
   where
     one_of : (known : List ℕ) (event : ℕ → Line) → (IsNumbered text known n → IsLine text (event n)) → (others : Option Line) → (others ≡ Some line → IsLine text line)
         → cond (bytes_eq word known) (Some (event n)) others ≡ Some line → IsLine text line
@@ -271,6 +272,10 @@ line_of-stop : (number : List ℕ) → line_of (codes "stop" ++ 32 ∷ number) �
 unfolding line_of after
 line_of-stop number = refl
 
+line_of-failread : (number : List ℕ) → line_of (codes "failread" ++ 32 ∷ number) ≡ numbered_line_of (codes "failread" ++ 32 ∷ number)
+unfolding line_of after
+line_of-failread number = refl
+
 line_of-reopen : (number : List ℕ) → line_of (codes "reopen" ++ 32 ∷ number) ≡ numbered_line_of (codes "reopen" ++ 32 ∷ number)
 unfolding line_of after
 line_of-reopen number = refl
@@ -294,6 +299,7 @@ line_of-only text (Write topic) h = numbered_only text (codes "write") topic ref
 line_of-only text (Finish topic) h = numbered_only text (codes "finish") topic refl line_of-finish h
 line_of-only text (Fail k) h = numbered_only text (codes "fail") k refl line_of-fail h
 line_of-only text (Stop k) h = numbered_only text (codes "stop") k refl line_of-stop h
+line_of-only text (FailRead k) h = numbered_only text (codes "failread") k refl line_of-failread h
 line_of-only text (Crash form) h = ap line_of h.1 ∙ line_of-crash h.0 ∙ ap (option_map Crash) (crash_as_only h.0 form h.2)
 line_of-only text (Reopen topic) h = numbered_only text (codes "reopen") topic refl line_of-reopen h
 line_of-only text Status h = ap line_of h ∙ line_of-status

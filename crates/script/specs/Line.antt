@@ -3,7 +3,7 @@ use Rattle.std.specs.Prelude.{◌≡◌, ℕ, ◌<◌, ◌≤◌, ◌^◌, List,
 use Rattle.std.specs.Str.Parse.{IsNumeral, digits_value}
 use Rattle.hex.specs.Hex.{decode_of}
 use Rattle.script.specs.declared.line.Line.{Line}
-use Rattle.script.specs.declared.line.Line.TheVariants.{Open, Bytes, Pump, Close, Flush, Take, Write, Finish, Fail, Stop, Crash, Reopen, Status}
+use Rattle.script.specs.declared.line.Line.TheVariants.{Open, Bytes, Pump, Close, Flush, Take, Write, Finish, Fail, Stop, FailRead, Crash, Reopen, Status}
 use Rattle.script.specs.declared.line.CrashAs.{CrashAs}
 use Rattle.script.specs.declared.line.CrashAs.TheVariants.{Old, New, Fill}
 
@@ -42,6 +42,7 @@ IsLine text (Write topic) = IsNumbered text (codes "write") topic
 IsLine text (Finish topic) = IsNumbered text (codes "finish") topic
 IsLine text (Fail k) = IsNumbered text (codes "fail") k
 IsLine text (Stop k) = IsNumbered text (codes "stop") k
+IsLine text (FailRead k) = IsNumbered text (codes "failread") k
 IsLine text (Crash form) = (words : List ℕ) × (text ≡ codes "crash " ++ words) × IsCrashAs words form
 IsLine text (Reopen topic) = IsNumbered text (codes "reopen") topic
 IsLine text Status = text ≡ codes "status"

@@ -1,5 +1,5 @@
 -- The lines that a script prints.
-use Rattle.std.specs.Prelude.{ℕ, ◌-◌, List, [], ◌∷◌, ◌++◌, length, replicate, codes}
+use Rattle.std.specs.Prelude.{ℕ, List, [], ◌∷◌, ◌++◌, codes}
 use Rattle.std.specs.Fmt.{decimal}
 use Rattle.hex.specs.Hex.{encode_lower}
 use Rattle.script.specs.declared.output.Outcome.{Outcome}
@@ -43,17 +43,3 @@ hex_or_dash (byte ∷ bytes) = encode_lower (byte ∷ bytes)
 -- the number of the line, the bytes out and the result, one space apart
 abbrev pub output_line : ℕ → List ℕ → Outcome → List ℕ
 output_line number bytes outcome = decimal number ++ (32 ∷ hex_or_dash bytes ++ (32 ∷ word_of_outcome outcome ++ 10 ∷ []))
-
--- a number right in so many places, behind spaces; a wider one takes more
-abbrev pub right_in : ℕ → ℕ → List ℕ
-right_in places n = replicate (places - length (decimal n)) 32 ++ decimal n
-
--- `T`, the topic's number, its entries, its segment files and its name, one space apart
-abbrev pub topic_line : ℕ → ℕ → ℕ → List ℕ → List ℕ
-topic_line number entries segments name =
-    codes "T " ++ (right_in 4 number ++ (32 ∷ right_in 10 entries ++ (32 ∷ right_in 6 segments ++ (32 ∷ name ++ 10 ∷ []))))
-
--- `S`, the topic's number, the mark-delete position, the ranges after it and the subscription's name, one space apart
-abbrev pub subscription_line : ℕ → ℕ → ℕ → List ℕ → List ℕ
-subscription_line topic mark_delete ranges name =
-    codes "S " ++ (right_in 4 topic ++ (32 ∷ right_in 10 mark_delete ++ (32 ∷ right_in 6 ranges ++ (32 ∷ name ++ 10 ∷ []))))

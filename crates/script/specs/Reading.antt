@@ -8,7 +8,7 @@ use Rattle.std.specs.Str.Parse.{digits_value}
 use Rattle.hex.specs.Hex.{decode_of, decode_sized}
 use Rattle.script.specs.Script.{is_line_feed, texts_of}
 use Rattle.script.specs.declared.line.Line.{Line}
-use Rattle.script.specs.declared.line.Line.TheVariants.{Open, Bytes, Pump, Close, Flush, Take, Write, Finish, Fail, Stop, Crash, Reopen, Status}
+use Rattle.script.specs.declared.line.Line.TheVariants.{Open, Bytes, Pump, Close, Flush, Take, Write, Finish, Fail, Stop, FailRead, Crash, Reopen, Status}
 use Rattle.script.specs.declared.line.CrashAs.{CrashAs}
 use Rattle.script.specs.declared.line.CrashAs.TheVariants.{Old, New, Fill}
 use Rattle.script.specs.declared.line.LineFault.{LineFault}
@@ -83,6 +83,7 @@ event_of word n =
     if bytes_eq word (codes "finish") then Some (Finish n) else
     if bytes_eq word (codes "fail") then Some (Fail n) else
     if bytes_eq word (codes "stop") then Some (Stop n) else
+    if bytes_eq word (codes "failread") then Some (FailRead n) else
     if bytes_eq word (codes "reopen") then Some (Reopen n) else None
 
 -- a word, one space and a number

@@ -43,6 +43,8 @@ pub enum Line {
     Fail(u64),
     /// `stop K`: this device call from now and all later ones fail, until the next crash.
     Stop(u64),
+    /// `failread K`: this read from now fails, once. Reads are counted by themselves, from 1.
+    FailRead(u64),
     /// `crash old`, `crash new` or `crash fill HH`: the power is cut, and the node starts again.
     Crash(CrashAs),
     /// `reopen T`: a topic's files are opened again.
@@ -129,6 +131,9 @@ fn event(word: &[u8], number: u64) -> Option<Line>
     }
     if word == b"stop".as_slice() {
         return Some(Line::Stop(number));
+    }
+    if word == b"failread".as_slice() {
+        return Some(Line::FailRead(number));
     }
     if word == b"reopen".as_slice() {
         return Some(Line::Reopen(number));

@@ -1,5 +1,5 @@
 ghost use Rattle.std.specs.Prelude.{◌≡◌, IfOk, string_bytes};
-ghost use Rattle.script.specs.Output.{output_line as line_of_output, topic_line as line_of_topic, subscription_line as line_of_subscription, hex_or_dash as text_of_bytes, word_of_outcome, word_of_fault, word_of_refusal};
+ghost use Rattle.script.specs.Output.{output_line as line_of_output, hex_or_dash as text_of_bytes, word_of_outcome, word_of_fault, word_of_refusal};
 
 use std::alloc::{AllocError, Global};
 
@@ -109,37 +109,6 @@ pub fn output_line(
     let hex = hex_or_dash(alloc, bytes)?;
     let word = outcome.as_str();
     format!(in alloc; "{number} {hex} {word}\n")
-}
-
-/// The line that a status prints of one topic. Our own rule: `T`, the topic's number in 4 places, its entries in 10, its
-/// segment files in 6, and its name, one space apart, and a line feed. A number stands right in its places, behind spaces; a
-/// wider one takes more places.
-#[tactic(auto, using(crate::proofs::Padding::right_in_is))]
-pub fn topic_line(
-    alloc: Global,
-    number: u64,
-    entries: u64,
-    segments: u64,
-    name: &str,
-) -> Result<String, AllocError>
-    ensures { IfOk result (λ line. string_bytes line ≡ line_of_topic number entries segments name.now) }
-{
-    format!(in alloc; "T {number:>4} {entries:>10} {segments:>6} {name}\n")
-}
-
-/// The line that a status prints of one subscription, behind the line of its topic. Our own rule: `S`, the topic's number in
-/// 4 places, the mark-delete position in 10, the ranges after it in 6, and the subscription's name, as in the topic's line.
-#[tactic(auto, using(crate::proofs::Padding::right_in_is))]
-pub fn subscription_line(
-    alloc: Global,
-    topic: u64,
-    mark_delete: u64,
-    ranges: u64,
-    name: &str,
-) -> Result<String, AllocError>
-    ensures { IfOk result (λ line. string_bytes line ≡ line_of_subscription topic mark_delete ranges name.now) }
-{
-    format!(in alloc; "S {topic:>4} {mark_delete:>10} {ranges:>6} {name}\n")
 }
 
 fn hex_or_dash(alloc: Global, bytes: &[u8]) -> Result<String, AllocError>

@@ -1,6 +1,6 @@
 use script::{
     CrashAs, Line, Outcome, Script, ScriptFault, Sequence, SessionFault, StorageRefusal,
-    one_reading, output_line, printed_bytes_are_read, read_script, subscription_line, topic_line,
+    one_reading, output_line, printed_bytes_are_read, read_script,
 };
 use std::process::Abort;
 use std::test::Fail;
@@ -9,7 +9,7 @@ const EACH: &[u8] =
     b"init 0000000000000000000001000\nopen\nbytes 18446744073709551615 00fFAb\npump 7\nclose 08\nflush 0";
 
 const EACH_OF_A_DEVICE: &[u8] =
-    b"init 2\nfail 0\nfail 4\nstop 18446744073709551615\nreopen 3\ncrash old\ncrash new\ncrash fill 07\ncrash fill aF\nstatus\n";
+    b"init 2\nfail 0\nfail 4\nstop 18446744073709551615\nreopen 3\ncrash old\ncrash new\ncrash fill 07\ncrash fill aF\nstatus\nfailread 5\n";
 
 // The first bad line of a script; want of memory is handed on.
 fn first_bad(rt: &HostRuntime, script: &[u8]) -> Result<Option<u64>, ScriptFault> {
@@ -47,7 +47,7 @@ fn reads_each_line(rt: HostRuntime) -> Result<(), Fail> {
 #[test]
 fn reads_each_line_of_a_device(rt: HostRuntime) -> Result<(), Fail> {
     let lines = read_script(rt.alloc(), EACH_OF_A_DEVICE)?.lines.into_vec();
-    assert_eq!(rt; lines.len(), 9);
+    assert_eq!(rt; lines.len(), 10);
     assert!(rt; matches!(&lines[0], Line::Fail(0)));
     assert!(rt; matches!(&lines[1], Line::Fail(4)));
     assert!(rt; matches!(&lines[2], Line::Stop(u64::MAX)));
@@ -57,6 +57,7 @@ fn reads_each_line_of_a_device(rt: HostRuntime) -> Result<(), Fail> {
     assert!(rt; matches!(&lines[6], Line::Crash(CrashAs::Fill(7))));
     assert!(rt; matches!(&lines[7], Line::Crash(CrashAs::Fill(0xaf))));
     assert!(rt; matches!(&lines[8], Line::Status));
+    assert!(rt; matches!(&lines[9], Line::FailRead(5)));
     Ok(())
 }
 
@@ -148,7 +149,10 @@ fn finds_a_bad_line_of_a_device(rt: HostRuntime) -> Result<(), Fail> {
         b"init 1\ncrash fill -\n".as_slice(),
         b"init 1\ncrash fill  07\n".as_slice(),
         b"init 1\ncrash fill 07 \n".as_slice(),
-        b"init 1\nfailread 1\n".as_slice(),
+        b"init 1\nfailread\n".as_slice(),
+        b"init 1\nfailread  1\n".as_slice(),
+        b"init 1\nfailread 1 1\n".as_slice(),
+        b"init 1\nfailreads 1\n".as_slice(),
         b"init 1\ntake\n".as_slice(),
         b"init 1\nwrite\n".as_slice(),
         b"init 1\nfinish\n".as_slice(),
@@ -236,73 +240,6 @@ fn names_each_storage_refusal(rt: HostRuntime) {
         assert_eq!(rt; refusal.as_str(), want);
         assert_eq!(rt; Outcome::Refused(refusal).as_str(), want);
     }
-}
-
-#[test]
-fn prints_status_lines(rt: HostRuntime) -> Result<(), Fail> {
-    let alloc = rt.alloc();
-    for (number, entries, segments, want) in [
-        (0, 3, 2, "T    0          3      2 persistent://a/b/c\n"),
-        (
-            63,
-            50_000,
-            1,
-            "T   63      50000      1 persistent://a/b/c\n",
-        ),
-        (
-            9_999,
-            9_999_999_999,
-            999_999,
-            "T 9999 9999999999 999999 persistent://a/b/c\n",
-        ),
-        (
-            10_000,
-            10_000_000_000,
-            1_000_000,
-            "T 10000 10000000000 1000000 persistent://a/b/c\n",
-        ),
-    ] {
-        assert_eq!(rt;
-            topic_line(alloc, number, entries, segments, "persistent://a/b/c")?.as_str(),
-            want
-        );
-    }
-    assert_eq!(rt;
-        topic_line(alloc, u64::MAX, 0, 0, "")?.as_str(),
-        "T 18446744073709551615          0      0 \n"
-    );
-    Ok(())
-}
-
-#[test]
-fn prints_status_lines_of_subscriptions(rt: HostRuntime) -> Result<(), Fail> {
-    let alloc = rt.alloc();
-    for (topic, mark_delete, ranges, want) in [
-        (0, 1, 1, "S    0          1      1 s\n"),
-        (63, 50_000, 0, "S   63      50000      0 s\n"),
-        (
-            9_999,
-            9_999_999_999,
-            999_999,
-            "S 9999 9999999999 999999 s\n",
-        ),
-        (
-            10_000,
-            10_000_000_000,
-            1_000_000,
-            "S 10000 10000000000 1000000 s\n",
-        ),
-    ] {
-        assert_eq!(rt;
-            subscription_line(alloc, topic, mark_delete, ranges, "s")?.as_str(),
-            want
-        );
-    }
-    assert_eq!(rt;
-        subscription_line(alloc, 0, u64::MAX, 0, "my-sub_0.b")?.as_str(),
-        "S    0 18446744073709551615      0 my-sub_0.b\n"
-    );
-    Ok(())
 }
 
 #[test]

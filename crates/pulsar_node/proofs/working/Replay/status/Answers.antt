@@ -12,13 +12,13 @@ returns-in_err-text-clause-works g c = λ old lives.
 pub returns-in_err-write_whole-clause-works : goal.returns-in_err-write_whole-clause-works
 returns-in_err-write_whole-clause-works g c = λ old lives.
     let p = err_from_is_err_and c.from_residual-in_err-write_whole.result c.from_residual-in_err-write_whole.ensures.1 in
-    let told = subst (λ (t : List ℕ). StatusOf old.life.up old.life.state t) (sym c.as_bytes.ensures.value) (c.in_ok-text.ensures old.life lives.1) in
-    rw (p.1, p.2) (task_fails _ c.args.self.line old _ c.as_bytes.result.now old _ _ c.in_err-write_whole.field-0.0 (record { same = refl; printed = told }) c.in_err-write_whole.ensures.writes)
+    let told = subst (λ (t : List ℕ). StatusOf old.life.up old.life.state t) (sym c.as_slice.ensures.value) (c.in_ok-text.ensures old.life lives.1) in
+    rw (p.1, p.2) (task_fails _ c.args.self.line old _ c.as_slice.result.now old _ _ c.in_err-write_whole.field-0.0 (record { same = refl; printed = told }) c.in_err-write_whole.ensures.writes)
 
 pub returns-clause-works : goal.returns-clause-works
 returns-clause-works g c = λ old lives.
-    let told = subst (λ (t : List ℕ). StatusOf old.life.up old.life.state t) (sym c.as_bytes.ensures.value) (c.in_ok-text.ensures old.life lives.1) in record {
-      text = c.as_bytes.result.now;
+    let told = subst (λ (t : List ℕ). StatusOf old.life.up old.life.state t) (sym c.as_slice.ensures.value) (c.in_ok-text.ensures old.life lives.1) in record {
+      text = c.as_slice.result.now;
       new = old;
       step = record { same = refl; printed = told };
       writes = c.in_ok-write_whole.ensures.writes;

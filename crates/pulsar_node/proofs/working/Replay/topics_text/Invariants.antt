@@ -1,5 +1,4 @@
 use Rattle.std.proofs.Common.{◌≤◌, ◌-◌, ◌^◌, length}
-use Rattle.std.specs.Prelude.{string_bytes}
 use Rattle.disk_mem.specs.Device.{disk_of}
 use Rattle.node.specs.Driving.{Holds}
 use Rattle.node.specs.Runs.{Life}
@@ -9,8 +8,8 @@ use Rattle.pulsar_node.proofs.working.Replay.topics_text.Given as goal
 -- the topics so far were told, and each line has a byte
 abbrev pub invariant-loop-text : goal.invariant-loop-text
 invariant-loop-text l = record {
-  told : (life : Life) → Holds disk_of l.fn.self.machine life → ToldSoFar life.up life.state l.topic (string_bytes l.text);
-  few : l.topic ≤ length (string_bytes l.text);
+  told : (life : Life) → Holds disk_of l.fn.self.machine life → ToldSoFar life.up life.state l.topic l.text.items;
+  few : l.topic ≤ length l.text.items;
 }
 
 abbrev pub decreases-loop-text : goal.decreases-loop-text
