@@ -23,8 +23,9 @@ def free_port():
 class Server:
     """A served folder. What the program says on standard error stands in the file `log` beside the folder."""
 
-    def __init__(self, program, folder, entries=1000):
+    def __init__(self, program, folder, entries=1000, survives_limits=False):
         self.program, self.folder, self.log, self.process, self.port = program, folder, f"{folder}.log", None, None
+        self.restores = not survives_limits  # a limit that is passed is an error of the call, and no signal ends the program
         said = self.run("init", folder, "--entries", str(entries))
         if said != (0, f"initialised, {entries} entries a ledger\n", ""):
             raise Wrong(f"init answered {said}")
@@ -42,7 +43,7 @@ class Server:
         self.port = free_port()
         with open(self.log, "a", encoding="utf-8") as log:
             self.process = subprocess.Popen([self.program, "serve", f"127.0.0.1:{self.port}", self.folder], stdin=subprocess.DEVNULL,
-                                            stdout=subprocess.PIPE, stderr=log, text=True)
+                                            stdout=subprocess.PIPE, stderr=log, text=True, restore_signals=self.restores)
 
     def start(self):
         """Serves, and takes clients."""

@@ -37,7 +37,11 @@ class Acked:
         self.parts = [(0, start)]
 
     def add(self, first, last):
-        self.parts.append((first, last + 1))
+        start, end = self.parts[-1]
+        if start <= first <= end:
+            self.parts[-1] = (start, max(end, last + 1))
+        else:
+            self.parts.append((first, last + 1))
 
     def has(self, position):
         return any(first <= position < end for first, end in self.parts)

@@ -87,6 +87,48 @@ def made_or_not(said):
     return None if told[2] == with_other else "the topic is neither found nor made"
 
 
+def frame(command, entry=""):
+    """The hex of a frame with this command, and with an entry behind it."""
+    size = len(command) // 2
+    return f"{size + 4 + len(entry) // 2:08x}{size:08x}{command}{entry}"
+
+
+def varint(number):
+    return f"{number & 127 | (128 if number > 127 else 0):02x}" + (varint(number >> 7) if number > 127 else "")
+
+
+def field(number, value):
+    """The hex of a field whose value is a message or bytes, in hex."""
+    return varint(number * 8 + 2) + varint(len(value) // 2) + value
+
+
+def sends(first, end):
+    """Messages with these sequence ids in one piece."""
+    return "bytes 0 " + "".join(frame("0806" + field(6, f"080110{varint(n)}"), "0000000a0a017010001801c03e05") for n in range(first, end)) + "\n"
+
+
+def acknowledge(positions):
+    """One individual acknowledgement of these positions."""
+    ids = "".join(field(3, f"080010{varint(position)}") for position in positions)
+    return "bytes 0 " + frame("080a" + field(10, f"08021000{ids}4009")) + "\n"
+
+
+# 4,097 messages and a subscription that has acknowledged the first 4,095 of them, so that 4,096 records stand in slot 0: the flush of the next
+# acknowledgement replaces it first.
+REPLACES_BEGIN = (f"init 50000\nopen\n{CONNECT}bytes 0 000000200000001c08052a180a1270657273697374656e743a2f2f612f622f6310011807\n"
+                  + "".join(sends(n, min(n + 1000, 4097)) + "flush 0\n" for n in range(0, 4097, 1000)) + SUBSCRIBE + "flush 0\n"
+                  + acknowledge(range(4095)) + END)
+REPLACES = acknowledge([4095]) + END
+
+
+def acknowledged_or_not(said):
+    """All that was acknowledged before is, and the last one where it was answered."""
+    left = re.findall(r"^S    0 +(\d+) +0 s$", said, re.M)
+    if left not in (["4095"], ["4096"]):
+        return "an acknowledgement is away"
+    return "an answered acknowledgement is lost" if said.count(ACK_RESPONSE) == 2 and left != ["4096"] else None
+
+
 # What is done, what is done after the crash, the judge, up to which call, and the forms of crash behind a stop. A single failure is followed by `old`.
 SWEEPS = {
     "receipted": (SENDS, "status\n", receipted_is_found, 20, ("old", "new", "fill 01", "fill 07")),
@@ -95,7 +137,11 @@ SWEEPS = {
     "changed_in_parts": (CHANGES_IN_PARTS, "status\n", changed_is_found, 13, ("old", "new", "fill 01", "fill 07")),
     "made": (MAKES, MAKES_AGAIN, made_or_not, 22, ("old", "new", "fill 01", "fill 07")),
     "changed": (CHANGES, "status\n", changed_is_found, 13, ("old", "new", "fill 01", "fill 07")),
+    "replaced": (REPLACES, "status\n", acknowledged_or_not, 11, ("old", "new", "fill 01", "fill 07")),
 }
+
+# What is done before the failure is ordered.
+BEGINNINGS = {"replaced": REPLACES_BEGIN}
 
 
 def scripts():
@@ -103,5 +149,5 @@ def scripts():
     for name, (done, further, judge, calls, forms) in SWEEPS.items():
         for failure, form in [("stop", form) for form in forms] + [("fail", "old")]:
             for call in range(1, calls):
-                script = f"{BEGIN}{failure} {call}\n{done}crash {form}\n{further}"
+                script = f"{BEGINNINGS.get(name, BEGIN)}{failure} {call}\n{done}crash {form}\n{further}"
                 yield f"sweep-{name}-{failure}-{call}-{form.replace(' ', '-')}", script, judge

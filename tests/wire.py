@@ -259,24 +259,34 @@ COMMANDS = {2: (CONNECT, say_connect), 4: (SUBSCRIBE, say_subscribe), 5: (PRODUC
             21: (LOOKUP, say_lookup("PARTITIONED_METADATA")), 23: (LOOKUP, say_lookup("LOOKUP"))}
 
 
-def read_command(content):
-    """The type of a command and what is said of it."""
+def command_in(content):
+    """The type of a command, and its values by their names; none of a type that isn't served."""
     fields = readable(content)
     kind = read_known(fields, 1, "u64", REQUIRED)
     if kind not in COMMANDS:
-        return kind, f"type {kind}"
+        return kind, None
     if all(field != kind for field, _, _ in fields):
         raise Fault(MISSING)
-    table, say = COMMANDS[kind]
-    return kind, say(read_known(fields, kind, ("message", table), REQUIRED))
+    return kind, read_known(fields, kind, ("message", COMMANDS[kind][0]), REQUIRED)
+
+
+def read_command(content):
+    """The type of a command and what is said of it."""
+    kind, values = command_in(content)
+    return kind, f"type {kind}" if values is None else COMMANDS[kind][1](values)
+
+
+def metadata_in(entry):
+    """The values of an entry's metadata, by their names."""
+    size = int.from_bytes(entry[:4], "big")
+    if len(entry) < 4 or size > len(entry) - 4:
+        raise Fault(UNREADABLE)
+    return read_message(METADATA, entry[4:4 + size])
 
 
 def read_entry(entry):
     """What the metadata of an entry says."""
-    size = int.from_bytes(entry[:4], "big")
-    if len(entry) < 4 or size > len(entry) - 4:
-        raise Fault(UNREADABLE)
-    return say_meta(read_message(METADATA, entry[4:4 + size]))
+    return say_meta(metadata_in(entry))
 
 
 # Frames
@@ -298,17 +308,26 @@ def read_behind(kind, behind):
     return ""
 
 
-def take_frame(stream):
-    """What is said of the first frame of a stream, and how many bytes it has; nothing where it isn't whole."""
+def whole_frame(stream):
+    """Of the first frame of a stream the command, the part behind it, and how many bytes the frame has; nothing where it isn't whole."""
     size, command_size = int.from_bytes(stream[:4], "big"), int.from_bytes(stream[4:8], "big")
     if len(stream) >= 4 and size > LARGEST_FRAME:
         raise Fault(TOO_LARGE)
     if len(stream) >= 8 and (size < 4 or command_size > size - 4):
         raise Fault(BAD_SIZES)
     if len(stream) < 8 or len(stream) < 4 + size:
+        return None
+    return stream[8:8 + command_size], stream[8 + command_size:4 + size], 4 + size
+
+
+def take_frame(stream):
+    """What is said of the first frame of a stream, and how many bytes it has; nothing where it isn't whole."""
+    whole = whole_frame(stream)
+    if not whole:
         return "", 0
-    kind, command = read_command(stream[8:8 + command_size])
-    return f"{command}{read_behind(kind, stream[8 + command_size:4 + size])}; ", 4 + size
+    command, behind, size = whole
+    kind, shown = read_command(command)
+    return f"{shown}{read_behind(kind, behind)}; ", size
 
 
 def read_stream(stream):
