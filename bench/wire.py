@@ -53,11 +53,13 @@ EXCLUSIVE = 0
 KEY_SHARED = 3
 
 
-def subscribe(consumer, name, kind=EXCLUSIVE, ranges=()):
-    """From the first entry on; the ranges of hash slots, both ends included, are those of a sticky Key_Shared consumer."""
+def subscribe(consumer, name, kind=EXCLUSIVE, ranges=(), earliest=True):
+    """From the first entry on, or behind those that are committed; the ranges of hash slots, both ends included, are those of a sticky Key_Shared
+    consumer."""
     sticky = number(1, 1) + b"".join(text(3, number(1, start) + number(2, end)) for start, end in ranges)
     meta = text(17, sticky) if ranges else b""
-    return frame(4, text(1, TOPIC) + text(2, name) + number(3, kind) + number(4, consumer) + number(5, 8) + number(13, 1) + meta)
+    begins = number(13, 1) if earliest else b""
+    return frame(4, text(1, TOPIC) + text(2, name) + number(3, kind) + number(4, consumer) + number(5, 8) + begins + meta)
 
 
 def flow(consumer, permits):
