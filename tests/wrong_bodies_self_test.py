@@ -49,6 +49,7 @@ TRIES = [  # of wrong bodies alone: whether the source is changed before, with w
     (True, [], "1 checks, 2 refused"),
     (True, ["--kept", "{folder}/kept"], "1 checks, 2 refused"),  # a folder that isn't there, as behind a gate that had no edit to try
 ]
+TURNS = 2  # of which each tries one of the two
 
 
 class Repository:
@@ -92,6 +93,10 @@ def faults(repository):
         said, status = repository.tries(WRONG, *flags)
         if status != 0 or f"two: 2 wrong bodies in {wanted}\n" not in said:
             found.append(f"wrong bodies alone, {flags or 'without flags'}, status {status}:\n{said}")
+    for turn in range(TURNS):
+        said, status = repository.tries(WRONG, "--anew", "--turn", f"{turn}/{TURNS}")
+        if status != 0 or "two: 1 wrong bodies in 1 checks, 1 refused\n" not in said:
+            found.append(f"turn {turn} of {TURNS}, status {status}:\n{said}")
     for name, edit in NOT_WRONG.items():
         said, status = repository.tries({**WRONG, name: edit})
         told = [line for line in said.splitlines() if line.startswith("two/")]
