@@ -1,7 +1,7 @@
 """Shows that tests/wrong_bodies can fail: over a repository of one small crate, made for it, with wrong bodies that are none.
 
-A body that is right, one whose old text stands nowhere and one that can't be read are each told by name, with status 1, beside wrong bodies that
-are refused; and those alone pass. What was refused isn't tried again until a text of the crate is another one, where the kit's gate remembers.
+A body that is right, also of a function that calls a wrong one, one whose old text stands nowhere and one that can't be read are each told by name, with
+status 1, beside wrong bodies that are refused; and those alone pass. What was refused isn't tried again until a text of the crate is another one, where the kit's gate remembers.
 """
 import os
 import shutil
@@ -35,10 +35,18 @@ pub fn second(a: u64, b: u64) -> u64
     let both = (a, b);
     both.1
 }
+
+/// The first of them again.
+pub fn first_again(a: u64, b: u64) -> u64
+    ensures { result ≡ a }
+{
+    first(a, b)
+}
 """
 WRONG = {"first_is_the_second": ("pair.0", "pair.1"), "second_is_the_first": ("both.1", "both.0")}
 NOT_WRONG = {
     "a_right_body": ("pair.0", "(pair.0, pair.1).0", "a_right_body: NOT REFUSED"),
+    "a_right_caller_of_a_wrong_body": ("    first(a, b)", "    (first(a, b), b).0", "a_right_caller_of_a_wrong_body: NOT REFUSED"),
     "of_a_body_that_is_gone": ("pair.2", "pair.1", "of_a_body_that_is_gone: it can't be applied"),
     "not_to_be_read": ("pair.0", "pair.0.(", "not_to_be_read: it did not reach the prover"),
 }
