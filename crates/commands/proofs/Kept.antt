@@ -1,7 +1,7 @@
 -- What is kept of the fields of a number, against what the fields themselves say.
-use Rattle.std.proofs.Common.{◌≡◌, ◌≢◌, ◌<◌, ◌≤◌, ℕ, List, [], ◌∷◌, length, get_or, set, replicate, Option, Some, None, Result, Ok, Err, true, false, nat_eq, refl, ap, ◌∙◌, sym, arith, append-nil}
+use Rattle.std.proofs.Common.{◌≡◌, ◌≢◌, ◌<◌, ◌≤◌, ℕ, List, [], ◌∷◌, length, get_or, set, replicate, Option, Some, None, Result, Ok, Err, true, false, nat_eq, refl, ap, ◌∙◌, sym, subst, arith, append-nil}
 use Rattle.std.specs.List.{fold}
-use Rattle.std.proofs.lemmas.List.{get_or-set_same, get_or-set_other, length-set, get_or-replicate}
+use Rattle.std.proofs.lemmas.List.{get_or-set_same, get_or-set_other, length-set, length-replicate, get_or-replicate}
 use Rattle.proto_fields.specs.declared.value.Field.{Field}
 use Rattle.proto_fields.specs.declared.value.Value.{Value}
 use Rattle.proto_fields.specs.declared.value.Value.TheVariants.{Varint, Fixed64, Bytes, Fixed32}
@@ -239,14 +239,12 @@ entry_of table k = seen (get_or table k held.Absent)
 -- the bytes are read so far, and of each number this is kept
 pub record Keeping (bytes : List ℕ) (table : List Held) (rest : List ℕ) : Type 0 where
   pub read : Read bytes rest
-  pub numbers : length table ≡ 24
-  pub each : (k : ℕ) → k < 24 → kept_in k Nothing (message_fields bytes) ≡ kept_in k (entry_of table k) (message_fields rest)
+  pub each : (k : ℕ) → k < length table → kept_in k Nothing (message_fields bytes) ≡ kept_in k (entry_of table k) (message_fields rest)
 
-pub keeping-none : (bytes : List ℕ) → Keeping bytes (replicate 24 held.Absent) bytes
-keeping-none bytes = record {
+pub keeping-none : (n : ℕ) (bytes : List ℕ) → Keeping bytes (replicate n held.Absent) bytes
+keeping-none n bytes = record {
   read = record { same = refl };
-  numbers = refl;
-  each = λ k small. ap (λ h. kept_in k (seen h) (message_fields bytes)) (sym (get_or-replicate 24 k held.Absent held.Absent small));
+  each = λ k small. ap (λ h. kept_in k (seen h) (message_fields bytes)) (sym (get_or-replicate n k held.Absent held.Absent (rw (length-replicate n held.Absent) at small)));
 }
 
 kept_in-this : (k : ℕ) (kept : Kept) (field : Field) (r : Result (List Field) CommandFault) →
@@ -261,15 +259,14 @@ kept_in-other k kept field (Err fault) e = refl
 
 -- one field more is in front of the rest
 keeping-next : {bytes : List ℕ} {table : List Held} {rest : List ℕ} (field : Field) (after : List ℕ) → Keeping bytes table rest → field_at rest ≡ Ok (field, after) →
-    (k : ℕ) → k < 24 → kept_in k Nothing (message_fields bytes) ≡ kept_in k (entry_of table k) (with_first field (message_fields after))
+    (k : ℕ) → k < length table → kept_in k Nothing (message_fields bytes) ≡ kept_in k (entry_of table k) (with_first field (message_fields after))
 keeping-next {bytes} {table} {rest} field after h at k small = h.each k small ∙ ap (kept_in k (entry_of table k)) (message_fields-more rest (field, after) at)
 
 -- a field of a number of which nothing is kept
 pub keeping-other : {bytes : List ℕ} {table : List Held} {rest : List ℕ} (field : Field) (after : List ℕ) →
-    Keeping bytes table rest → field_at rest ≡ Ok (field, after) → 24 ≤ field.number → Keeping bytes table after
+    Keeping bytes table rest → field_at rest ≡ Ok (field, after) → length table ≤ field.number → Keeping bytes table after
 keeping-other {bytes} {table} {rest} field after h at large = record {
   read = read-more (field, after) h.read at;
-  numbers = h.numbers;
   each = λ k small.
       keeping-next field after h at k small ∙ kept_in-other k (entry_of table k) field (message_fields after) (other_number field k (λ same. absurd (omega arith)));
 }
@@ -283,18 +280,17 @@ entry-other table n k new other = ap seen (get_or-set_other table n k new held.A
 
 -- a field of a number of which something is kept
 pub keeping-this : {bytes : List ℕ} {table : List Held} {rest : List ℕ} (field : Field) (after : List ℕ) (new : Held) →
-    Keeping bytes table rest → field_at rest ≡ Ok (field, after) → field.number < 24 → seen new ≡ held_with (entry_of table field.number) field.value →
+    Keeping bytes table rest → field_at rest ≡ Ok (field, after) → field.number < length table → seen new ≡ held_with (entry_of table field.number) field.value →
     Keeping bytes (set table field.number new) after
 keeping-this {bytes} {table} {rest} field after new h at below is = record {
   read = read-more (field, after) h.read at;
-  numbers = length-set table field.number new ∙ h.numbers;
-  each = λ k small. elim (nat_eq field.number k) as (λ b. nat_eq field.number k ≡ b → kept_in k Nothing (message_fields bytes) ≡ kept_in k (entry_of (set table field.number new) k) (message_fields after)) [
+  each = λ k small. let within : k < length table = subst (λ n. k < n) (length-set table field.number new) small in elim (nat_eq field.number k) as (λ b. nat_eq field.number k ≡ b → kept_in k Nothing (message_fields bytes) ≡ kept_in k (entry_of (set table field.number new) k) (message_fields after)) [
     | true ↦ λ e.
         let same = is_number field k e in
-        keeping-next field after h at k small ∙ kept_in-this k (entry_of table k) field (message_fields after) e
-        ∙ ap (λ kept. kept_in k kept (message_fields after)) (ap (λ n. held_with (entry_of table n) field.value) (sym same) ∙ sym is ∙ sym (entry-this table field.number k new same (rw h.numbers small)))
+        keeping-next field after h at k within ∙ kept_in-this k (entry_of table k) field (message_fields after) e
+        ∙ ap (λ kept. kept_in k kept (message_fields after)) (ap (λ n. held_with (entry_of table n) field.value) (sym same) ∙ sym is ∙ sym (entry-this table field.number k new same within))
     | false ↦ λ e.
-        keeping-next field after h at k small ∙ kept_in-other k (entry_of table k) field (message_fields after) e
+        keeping-next field after h at k within ∙ kept_in-other k (entry_of table k) field (message_fields after) e
         ∙ ap (λ kept. kept_in k kept (message_fields after)) (sym (entry-other table field.number k new (isnt_number field k e)))
   ] refl;
 }
@@ -306,7 +302,6 @@ keeping-all {bytes} {table} {rest} h e =
     record {
       fields = fields;
       kept = record {
-        numbers = h.numbers;
         each = λ k small.
             let end = ap (kept_in k Nothing) (sym fields) ∙ h.each k small ∙ ap (λ b. kept_in k (entry_of table k) (message_fields b)) e ∙ ap (kept_in k (entry_of table k)) message_fields-none in
             sym (held_from-none (entry_of table k) k) ∙ sym (same_ok _ _ end);

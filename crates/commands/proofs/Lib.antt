@@ -9,3 +9,4 @@ pub mod Readable
 pub mod Apart
 pub mod ByType
 pub mod Entries
+pub mod Front

@@ -79,10 +79,9 @@ is_there (Content content) = true
 is_there (LastContent content) = true
 is_there Other = true
 
--- what is kept of the fields of each number below 24
+-- what is kept of the fields of each number that the table has room for
 pub record KeepsAll (table : List Held) (fields : List Field) : Type 0 where
-  pub numbers : length table ≡ 24
-  pub each : (number : ℕ) → number < 24 → seen (get_or table number held.Absent) ≡ held_of number fields
+  pub each : (number : ℕ) → number < length table → seen (get_or table number held.Absent) ≡ held_of number fields
 
 -- the bytes are a message, of whose fields this is kept
 pub record IsRead (bytes : List ℕ) (table : List Held) : Type 0 where

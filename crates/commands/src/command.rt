@@ -8,6 +8,7 @@ use crate::consuming::{
 };
 use crate::fault::CommandFault;
 use crate::giving_back::{CloseConsumer, Redeliver, read_close_consumer, read_redeliver};
+use crate::held::Held;
 use crate::kinds::required;
 use crate::lookup::{
     LookupTopic, PartitionedTopicMetadata, read_lookup_topic, read_partitioned_topic_metadata,
@@ -118,7 +119,8 @@ fn read_body(alloc: Global, kind: CommandType, body: &[u8]) -> Result<Command, C
 pub fn read_command(alloc: Global, bytes: &[u8]) -> Result<Command, CommandFault>
     ensures { Reads result (command_of bytes.now) }
 {
-    let message = Message::read(bytes)?;
+    let mut held = [Held::Absent; 12];
+    let message = Message::read(bytes, &mut held)?;
     let number = required(message.u64(1)?)?;
     let Some(kind) = command_type(number) else {
         return Ok(Command::Other(number));

@@ -3,6 +3,7 @@ ghost use Rattle.commands.specs.Reading.{Reads};
 ghost use Rattle.commands.specs.Connection.{connect_of, empty_of};
 
 use crate::fault::CommandFault;
+use crate::held::Held;
 use crate::kinds::required;
 use crate::message::Message;
 use crate::text::Text;
@@ -19,7 +20,8 @@ pub struct Connect {
 pub fn read_connect(alloc: Global, bytes: &[u8]) -> Result<Connect, CommandFault>
     ensures { Reads result (connect_of bytes.now) }
 {
-    let message = Message::read(bytes)?;
+    let mut held = [Held::Absent; 5];
+    let message = Message::read(bytes, &mut held)?;
     Ok(Connect {
         client_version: required(message.text(alloc, 1)?)?,
         protocol_version: message.i32(4)?.unwrap_or(0),
@@ -29,6 +31,7 @@ pub fn read_connect(alloc: Global, bytes: &[u8]) -> Result<Connect, CommandFault
 pub fn read_empty(bytes: &[u8]) -> Result<(), CommandFault>
     ensures { result ≡ empty_of bytes.now }
 {
-    Message::read(bytes)?;
+    let mut held = [Held::Absent; 1];
+    Message::read(bytes, &mut held)?;
     Ok(())
 }

@@ -3,6 +3,7 @@ ghost use Rattle.commands.specs.Reading.{Reads};
 ghost use Rattle.commands.specs.Consuming.{subscription_type, initial_position, ack_type, subscribe_of, ack_of, flow_of, unsubscribe_of};
 
 use crate::fault::CommandFault;
+use crate::held::Held;
 use crate::key_shared::{KeySharedMeta, read_key_shared_meta_field};
 use crate::kinds::required;
 use crate::message::Message;
@@ -110,7 +111,8 @@ fn ack_type(number: u64) -> Result<AckType, CommandFault>
 pub fn read_subscribe(alloc: Global, bytes: &[u8]) -> Result<Subscribe, CommandFault>
     ensures { Reads result (subscribe_of bytes.now) }
 {
-    let message = Message::read(bytes)?;
+    let mut held = [Held::Absent; 18];
+    let message = Message::read(bytes, &mut held)?;
     Ok(Subscribe {
         topic: required(message.text(alloc, 1)?)?,
         subscription: required(message.text(alloc, 2)?)?,
@@ -128,7 +130,8 @@ pub fn read_subscribe(alloc: Global, bytes: &[u8]) -> Result<Subscribe, CommandF
 pub fn read_ack(alloc: Global, bytes: &[u8]) -> Result<Ack, CommandFault>
     ensures { Reads result (ack_of bytes.now) }
 {
-    let message = Message::read(bytes)?;
+    let mut held = [Held::Absent; 9];
+    let message = Message::read(bytes, &mut held)?;
     Ok(Ack {
         consumer_id: required(message.u64(1)?)?,
         ack_type: ack_type(required(message.u64(2)?)?)?,
@@ -141,7 +144,8 @@ pub fn read_ack(alloc: Global, bytes: &[u8]) -> Result<Ack, CommandFault>
 pub fn read_flow(bytes: &[u8]) -> Result<Flow, CommandFault>
     ensures { result ≡ flow_of bytes.now }
 {
-    let message = Message::read(bytes)?;
+    let mut held = [Held::Absent; 3];
+    let message = Message::read(bytes, &mut held)?;
     Ok(Flow {
         consumer_id: required(message.u64(1)?)?,
         message_permits: required(message.u32(2)?)?,
@@ -152,7 +156,8 @@ pub fn read_flow(bytes: &[u8]) -> Result<Flow, CommandFault>
 pub fn read_unsubscribe(bytes: &[u8]) -> Result<Unsubscribe, CommandFault>
     ensures { result ≡ unsubscribe_of bytes.now }
 {
-    let message = Message::read(bytes)?;
+    let mut held = [Held::Absent; 3];
+    let message = Message::read(bytes, &mut held)?;
     Ok(Unsubscribe {
         consumer_id: required(message.u64(1)?)?,
         request_id: required(message.u64(2)?)?,

@@ -3,6 +3,7 @@ ghost use Rattle.commands.specs.Reading.{Reads};
 ghost use Rattle.commands.specs.GivingBack.{close_consumer_of, redeliver_of};
 
 use crate::fault::CommandFault;
+use crate::held::Held;
 use crate::kinds::required;
 use crate::message::Message;
 use crate::message_ids::read_message_ids;
@@ -30,7 +31,8 @@ pub struct Redeliver {
 pub fn read_close_consumer(bytes: &[u8]) -> Result<CloseConsumer, CommandFault>
     ensures { result ≡ close_consumer_of bytes.now }
 {
-    let message = Message::read(bytes)?;
+    let mut held = [Held::Absent; 3];
+    let message = Message::read(bytes, &mut held)?;
     Ok(CloseConsumer {
         consumer_id: required(message.u64(1)?)?,
         request_id: required(message.u64(2)?)?,
@@ -41,7 +43,8 @@ pub fn read_close_consumer(bytes: &[u8]) -> Result<CloseConsumer, CommandFault>
 pub fn read_redeliver(alloc: Global, bytes: &[u8]) -> Result<Redeliver, CommandFault>
     ensures { Reads result (redeliver_of bytes.now) }
 {
-    let message = Message::read(bytes)?;
+    let mut held = [Held::Absent; 3];
+    let message = Message::read(bytes, &mut held)?;
     Ok(Redeliver {
         consumer_id: required(message.u64(1)?)?,
         message_ids: read_message_ids(alloc, &message, 2)?,

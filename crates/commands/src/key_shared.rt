@@ -4,6 +4,7 @@ ghost use Rattle.commands.specs.Message.{each, message_value_field};
 ghost use Rattle.commands.specs.KeyShared.{key_shared_mode, int_range_of, key_shared_meta_of};
 
 use crate::fault::CommandFault;
+use crate::held::Held;
 use crate::kinds::required;
 use crate::message::Message;
 use crate::sequence::Sequence;
@@ -45,7 +46,8 @@ fn key_shared_mode(number: u64) -> Result<KeySharedMode, CommandFault>
 fn read_int_range(bytes: &[u8]) -> Result<IntRange, CommandFault>
     ensures { result ≡ int_range_of bytes.now }
 {
-    let message = Message::read(bytes)?;
+    let mut held = [Held::Absent; 3];
+    let message = Message::read(bytes, &mut held)?;
     Ok(IntRange {
         start: required(message.i32(1)?)?,
         end: required(message.i32(2)?)?,
@@ -66,7 +68,8 @@ fn read_each(alloc: Global, parts: &[ByteSlice<'_>]) -> Result<Sequence<IntRange
 fn read_key_shared_meta(alloc: Global, bytes: &[u8]) -> Result<KeySharedMeta, CommandFault>
     ensures { Reads result (key_shared_meta_of bytes.now) }
 {
-    let message = Message::read(bytes)?;
+    let mut held = [Held::Absent; 4];
+    let message = Message::read(bytes, &mut held)?;
     let mode = key_shared_mode(required(message.u64(1)?)?)?;
     let parts = message.parts(alloc, 3)?;
     let hash_ranges = read_each(alloc, parts.as_slice())?;
@@ -77,7 +80,7 @@ fn read_key_shared_meta(alloc: Global, bytes: &[u8]) -> Result<KeySharedMeta, Co
 #[tactic(auto, unfolding(crate::specs::Message::message_value_field))]
 pub fn read_key_shared_meta_field(
     alloc: Global,
-    message: &Message<'_>,
+    message: &Message<'_, '_>,
     number: u32,
 ) -> Result<Option<KeySharedMeta>, CommandFault>
     ensures { Reads result (message_value_field key_shared_meta_of number message.now) }

@@ -3,6 +3,7 @@ ghost use Rattle.commands.specs.Reading.{Reads};
 ghost use Rattle.commands.specs.Lookup.{partitioned_topic_metadata_of, lookup_topic_of};
 
 use crate::fault::CommandFault;
+use crate::held::Held;
 use crate::kinds::required;
 use crate::message::Message;
 use crate::text::Text;
@@ -29,7 +30,8 @@ pub fn read_partitioned_topic_metadata(
 ) -> Result<PartitionedTopicMetadata, CommandFault>
     ensures { Reads result (partitioned_topic_metadata_of bytes.now) }
 {
-    let message = Message::read(bytes)?;
+    let mut held = [Held::Absent; 3];
+    let message = Message::read(bytes, &mut held)?;
     Ok(PartitionedTopicMetadata {
         topic: required(message.text(alloc, 1)?)?,
         request_id: required(message.u64(2)?)?,
@@ -40,7 +42,8 @@ pub fn read_partitioned_topic_metadata(
 pub fn read_lookup_topic(alloc: Global, bytes: &[u8]) -> Result<LookupTopic, CommandFault>
     ensures { Reads result (lookup_topic_of bytes.now) }
 {
-    let message = Message::read(bytes)?;
+    let mut held = [Held::Absent; 3];
+    let message = Message::read(bytes, &mut held)?;
     Ok(LookupTopic {
         topic: required(message.text(alloc, 1)?)?,
         request_id: required(message.u64(2)?)?,

@@ -12,19 +12,16 @@ use proto_fields::{ByteSlice, Fields};
 use std::alloc::{AllocError, Global};
 use std::marker::Model;
 
-/// The numbers below this are those that the field tables name.
-const NUMBERS: usize = 24;
-
-/// A message whose bytes are fields and nothing else. Contracts see the list of its fields. It keeps what the
-/// calls ask of the fields whose number is below `NUMBERS`; for others, and for an embedded message that
-/// occurs more than once, they go over the bytes again.
+/// A message whose bytes are fields and nothing else. Contracts see the list of its fields. What the calls ask of the
+/// fields of the first numbers is kept beside it, for as many numbers as whoever reads it has room for; for others, and
+/// for an embedded message that occurs more than once, they go over the bytes again.
 #[derive(Drop)]
-pub struct Message<'a> {
+pub struct Message<'a, 'k> {
     bytes: &'a [u8],
-    held: [Held<'a>; NUMBERS],
+    held: &'k [Held<'a>],
 }
 
-impl<'a> Model for Message<'a> {
+impl<'a, 'k> Model for Message<'a, 'k> {
     ghost use Rattle.std.specs.Prelude.{List};
     ghost use Rattle.proto_fields.specs.declared.value.Field.{Field};
     ghost use Rattle.commands.specs.Message.{known_fields};
@@ -34,24 +31,25 @@ impl<'a> Model for Message<'a> {
 
     ghost view = { λ m. known_fields m.bytes.now };
 
-    ghost invariant = { λ m. IsRead m.bytes.now m.held };
+    ghost invariant = { λ m. IsRead m.bytes.now m.held.now };
 }
 
-impl<'a> Message<'a> {
-    ghost use Rattle.std.specs.Prelude.{◌≡◌, Ok, IfSome};
+impl<'a, 'k> Message<'a, 'k> {
+    ghost use Rattle.std.specs.Prelude.{◌≡◌, Ok, IfSome, length, replicate};
+    ghost use Rattle.commands.specs.declared.held.Held.TheVariants.{Absent};
     ghost use Rattle.commands.specs.Reading.{Reads};
     ghost use Rattle.commands.specs.Kept.{seen, held_of};
     ghost use Rattle.commands.specs.Message.{message_fields, u64_field, u32_field, bool_field, i32_field, i64_field, bytes_field, text_field, message_field, has_field, occurrences, content_of};
 
-    /// The message of these bytes.
-    pub fn read(bytes: &'a [u8]) -> Result<Message<'a>, CommandFault>
+    /// The message of these bytes. What is asked of the fields of a number is kept at its place in `held`.
+    pub fn read(bytes: &'a [u8], held: &'k mut [Held<'a>]) -> Result<Message<'a, 'k>, CommandFault>
+        requires { held.old ≡ replicate (length held.old) Absent }
         ensures { result ≡ message_fields bytes.now }
     {
-        let mut held = [Held::Absent; NUMBERS];
         let mut input = Fields::new(bytes);
         'fields: while let Some(field) = input.next()? {
             let number = field.number as usize;
-            if number < NUMBERS {
+            if number < held.len() {
                 held[number] = held[number].with(&field.value);
             }
         }
@@ -63,7 +61,7 @@ impl<'a> Message<'a> {
         ensures { IfSome result (λ held. seen held ≡ held_of number self.now) }
     {
         let number = number as usize;
-        if number < NUMBERS {
+        if number < self.held.len() {
             Some(self.held[number])
         } else {
             None
@@ -162,6 +160,16 @@ impl<'a> Message<'a> {
         match self.held(number) {
             Some(Held::Content(part)) => Ok(Some(Content::new(ByteSlice::new(part)))),
             _ => joined_contents(alloc, self.bytes, number),
+        }
+    }
+
+    /// The bytes of an embedded message that occurs once, if that is kept.
+    pub fn only(&self, number: u32) -> Option<ByteSlice<'a>>
+        ensures { IfSome result (λ part. occurrences content_of number self.now ≡ Ok (part ∷ [])) }
+    {
+        match self.held(number) {
+            Some(Held::Content(part)) => Some(ByteSlice::new(part)),
+            _ => None,
         }
     }
 

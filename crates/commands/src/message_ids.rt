@@ -1,9 +1,10 @@
-ghost use Rattle.std.specs.Prelude.{◌≡◌};
+ghost use Rattle.std.specs.Prelude.{◌≡◌, [], ◌∷◌};
 ghost use Rattle.commands.specs.Reading.{Reads};
 ghost use Rattle.commands.specs.Message.{each, message_value_field, repeated_field};
 ghost use Rattle.commands.specs.MessageIds.{message_id_of};
 
 use crate::fault::CommandFault;
+use crate::held::Held;
 use crate::kinds::required;
 use crate::message::Message;
 use crate::sequence::Sequence;
@@ -16,7 +17,8 @@ use std::alloc::Global;
 fn read_message_id(bytes: &[u8]) -> Result<MessageIdData, CommandFault>
     ensures { result ≡ message_id_of bytes.now }
 {
-    let message = Message::read(bytes)?;
+    let mut held = [Held::Absent; 6];
+    let message = Message::read(bytes, &mut held)?;
     Ok(MessageIdData {
         ledger_id: required(message.u64(1)?)?,
         entry_id: required(message.u64(2)?)?,
@@ -24,6 +26,15 @@ fn read_message_id(bytes: &[u8]) -> Result<MessageIdData, CommandFault>
         batch_index: message.i32(4)?.unwrap_or(-1),
         has_ack_set: message.has(5)?,
     })
+}
+
+/// The message id of the only part.
+fn read_only(alloc: Global, part: &[u8]) -> Result<Sequence<MessageIdData>, CommandFault>
+    ensures { Reads result (each message_id_of (part.now ∷ [])) }
+{
+    let mut only = Vec::with_capacity(alloc, 1)?;
+    only.push(read_message_id(part)?)?;
+    Ok(Sequence::new(only))
 }
 
 fn read_each(
@@ -43,7 +54,7 @@ fn read_each(
 #[tactic(auto, unfolding(crate::specs::Message::message_value_field))]
 pub fn read_message_id_field(
     alloc: Global,
-    message: &Message<'_>,
+    message: &Message<'_, '_>,
     number: u32,
 ) -> Result<Option<MessageIdData>, CommandFault>
     ensures { Reads result (message_value_field message_id_of number message.now) }
@@ -58,11 +69,14 @@ pub fn read_message_id_field(
 #[tactic(auto, unfolding(crate::specs::Message::repeated_field))]
 pub fn read_message_ids(
     alloc: Global,
-    message: &Message<'_>,
+    message: &Message<'_, '_>,
     number: u32,
 ) -> Result<Sequence<MessageIdData>, CommandFault>
     ensures { Reads result (repeated_field message_id_of number message.now) }
 {
+    if let Some(part) = message.only(number) {
+        return read_only(alloc, part.as_slice());
+    }
     let parts = message.parts(alloc, number)?;
     read_each(alloc, parts.as_slice())
 }

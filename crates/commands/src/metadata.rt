@@ -3,6 +3,7 @@ ghost use Rattle.commands.specs.Reading.{Reads};
 ghost use Rattle.commands.specs.Metadata.{meta_of, size_at, entry_of};
 
 use crate::fault::CommandFault;
+use crate::held::Held;
 use crate::kinds::required;
 use crate::message::Message;
 use crate::sequence::Sequence;
@@ -28,7 +29,8 @@ pub struct MessageMeta {
 pub fn read_meta(alloc: Global, bytes: &[u8]) -> Result<MessageMeta, CommandFault>
     ensures { Reads result (meta_of bytes.now) }
 {
-    let message = Message::read(bytes)?;
+    let mut held = [Held::Absent; 20];
+    let message = Message::read(bytes, &mut held)?;
     Ok(MessageMeta {
         producer_name: required(message.text(alloc, 1)?)?,
         sequence_id: required(message.u64(2)?)?,

@@ -3,6 +3,7 @@ ghost use Rattle.commands.specs.Reading.{Reads};
 ghost use Rattle.commands.specs.Producing.{producer_of, send_of, close_producer_of};
 
 use crate::fault::CommandFault;
+use crate::held::Held;
 use crate::kinds::required;
 use crate::message::Message;
 use crate::text::Text;
@@ -36,7 +37,8 @@ pub struct CloseProducer {
 pub fn read_producer(alloc: Global, bytes: &[u8]) -> Result<Producer, CommandFault>
     ensures { Reads result (producer_of bytes.now) }
 {
-    let message = Message::read(bytes)?;
+    let mut held = [Held::Absent; 5];
+    let message = Message::read(bytes, &mut held)?;
     Ok(Producer {
         topic: required(message.text(alloc, 1)?)?,
         producer_id: required(message.u64(2)?)?,
@@ -49,7 +51,8 @@ pub fn read_producer(alloc: Global, bytes: &[u8]) -> Result<Producer, CommandFau
 pub fn read_send(bytes: &[u8]) -> Result<Send, CommandFault>
     ensures { result ≡ send_of bytes.now }
 {
-    let message = Message::read(bytes)?;
+    let mut held = [Held::Absent; 4];
+    let message = Message::read(bytes, &mut held)?;
     Ok(Send {
         producer_id: required(message.u64(1)?)?,
         sequence_id: required(message.u64(2)?)?,
@@ -61,7 +64,8 @@ pub fn read_send(bytes: &[u8]) -> Result<Send, CommandFault>
 pub fn read_close_producer(bytes: &[u8]) -> Result<CloseProducer, CommandFault>
     ensures { result ≡ close_producer_of bytes.now }
 {
-    let message = Message::read(bytes)?;
+    let mut held = [Held::Absent; 3];
+    let message = Message::read(bytes, &mut held)?;
     Ok(CloseProducer {
         producer_id: required(message.u64(1)?)?,
         request_id: required(message.u64(2)?)?,

@@ -92,3 +92,12 @@ pub writes-room : {old : List ℕ} {value : ℕ} {now : List ℕ} {rest : ℕ} �
 writes-room {old} {value} {now} {rest} h =
     let some : 0 < length (varint rest) = varint-some rest in
     omega (arith, some, simp length-append at (ap length h.whole))
+
+-- the groups counted so far, and those of the rest
+pub counts-more : (value rest len : ℕ) → len + length (varint rest) ≡ 1 + length (varint value) → 128 ≤ rest →
+    (len + 1) + length (varint (rest / 128)) ≡ 1 + length (varint value)
+counts-more value rest len h large = let e = ap length (varint-more rest large) in omega arith
+
+pub counts-last : (value rest len : ℕ) → len + length (varint rest) ≡ 1 + length (varint value) → rest < 128 →
+    len ≡ length (varint value)
+counts-last value rest len h small = let e = ap length (varint-last rest small) in omega arith

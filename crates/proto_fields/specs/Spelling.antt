@@ -14,6 +14,10 @@ varint n = groups n n
 abbrev pub number_field : ℕ → ℕ → List ℕ
 number_field number n = varint (8 * number) ++ varint n
 
--- a field of wire type 2, which holds bytes, a text or an embedded message
+-- what stands before the bytes of a field of wire type 2: its tag, and how many they are
+abbrev pub bytes_head : ℕ → ℕ → List ℕ
+bytes_head number count = varint (8 * number + 2) ++ varint count
+
+-- a field of wire type 2, which holds bytes, a text or an embedded message: its head, and then they
 abbrev pub bytes_field : ℕ → List ℕ → List ℕ
 bytes_field number content = varint (8 * number + 2) ++ varint (length content) ++ content

@@ -18,6 +18,6 @@ pub use laws::{
     has_one_reading, keeps_fault, names_faults, reads_first_fault, reads_spellings, reads_varints,
     reads_what_is_put, reads_whole, writes_shortest,
 };
-pub use put::{put_bytes, put_number, put_varint};
+pub use put::{number_len, put_bytes, put_bytes_head, put_number, put_varint, varint_len};
 pub use slice::ByteSlice;
 pub use value::{Field, Value};

@@ -3,7 +3,7 @@ use Rattle.std.proofs.lemmas.Result.{err_from_is_err_and}
 use Rattle.proto_fields.proofs.Shorter.{field_at-shorter}
 use Rattle.commands.proofs.Walk.{read-fault}
 use Rattle.commands.proofs.Kept.{keeping-this, keeping-other, keeping-all}
-use Rattle.commands.proofs.message.Message.read.Goals.{then-number-lt-NUMBERS, else-number-lt-NUMBERS}
+use Rattle.commands.proofs.message.Message.read.Goals.{then-number-held, else-number-held}
 use Rattle.commands.proofs.message.Message.read.Goals as goal
 
 pub returns-in_err-field : goal.returns-in_err-field
@@ -11,15 +11,15 @@ returns-in_err-field c =
     let p = err_from_is_err_and c.from_residual.result c.from_residual.ensures.1 in
     rw (p.1, p.2) (sym (read-fault _ c.fields.invariant.read c.in_err-field.ensures.0 c.in_err-field.ensures.1))
 
-pub fields-smaller-after-number-lt-NUMBERS : goal.fields-smaller-after-number-lt-NUMBERS
-fields-smaller-after-number-lt-NUMBERS c = let found = rw c.in-Some.is at c.in_ok-field.ensures in field_at-shorter _ _ found
+pub fields-smaller-after-number-held : goal.fields-smaller-after-number-held
+fields-smaller-after-number-held c = let found = rw c.in-Some.is at c.in_ok-field.ensures in field_at-shorter _ _ found
 
-pub fields-preserved-after-number-lt-NUMBERS : goal.fields-preserved-after-number-lt-NUMBERS
-fields-preserved-after-number-lt-NUMBERS c =
+pub fields-preserved-after-number-held : goal.fields-preserved-after-number-held
+fields-preserved-after-number-held c =
     let found = rw c.in-Some.is at c.in_ok-field.ensures in
-    elim c.if-number-lt-NUMBERS.branch [
-      | then-number-lt-NUMBERS w ↦ rw w.held-is (keeping-this _ _ _ c.fields.invariant found w.if-number-lt-NUMBERS.true w.with.ensures)
-      | else-number-lt-NUMBERS w ↦ rw w.held-is (keeping-other _ _ c.fields.invariant found w.if-number-lt-NUMBERS.false)
+    elim c.if-number-held.branch [
+      | then-number-held w ↦ rw w.held-is (keeping-this _ _ _ c.fields.invariant found w.if-number-held.true w.with.ensures)
+      | else-number-held w ↦ rw w.held-is (keeping-other _ _ c.fields.invariant found w.if-number-held.false)
     ]
 
 pub fields-smaller : goal.fields-smaller
@@ -28,9 +28,9 @@ fields-smaller c = let found = rw c.in-Some.is at c.in_ok-field.ensures in field
 pub fields-preserved : goal.fields-preserved
 fields-preserved c =
     let found = rw c.in-Some.is at c.in_ok-field.ensures in
-    elim c.if-number-lt-NUMBERS.branch [
-      | then-number-lt-NUMBERS w ↦ rw w.held-is (keeping-this _ _ _ c.fields.invariant found w.if-number-lt-NUMBERS.true w.with.ensures)
-      | else-number-lt-NUMBERS w ↦ rw w.held-is (keeping-other _ _ c.fields.invariant found w.if-number-lt-NUMBERS.false)
+    elim c.if-number-held.branch [
+      | then-number-held w ↦ rw w.held-is (keeping-this _ _ _ c.fields.invariant found w.if-number-held.true w.with.ensures)
+      | else-number-held w ↦ rw w.held-is (keeping-other _ _ c.fields.invariant found w.if-number-held.false)
     ]
 
 pub invariant_of-result : goal.invariant_of-result
