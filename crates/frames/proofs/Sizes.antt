@@ -1,11 +1,12 @@
 -- The sizes at the front don't depend on what follows them.
-use Rattle.std.proofs.Common.{◌≡◌, ◌<◌, ◌≤◌, ℕ, ◌+◌, List, ◌++◌, length, drop, nat_lt, true, false, inl, inr, refl, ap, ◌∙◌, arith, length-append, length-drop}
+use Rattle.std.proofs.Common.{◌≡◌, ◌<◌, ◌≤◌, ℕ, ◌+◌, List, ◌++◌, length, take, drop, nat_lt, sym, true, false, inl, inr, refl, ap, ◌∙◌, arith, length-append, length-drop}
 use Rattle.std.proofs.lemmas.Bool.{cases_lt}
 use Rattle.std.proofs.lemmas.Bool.Decides.{nat_tests}
-use Rattle.std.proofs.lemmas.List.{take-append-le, drop-append-le}
+use Rattle.std.proofs.lemmas.List.{take-append-le, drop-append-le, take-append-drop, length-take-le}
 use Rattle.std.specs.Int.{w32, from_be_bytes}
 use Rattle.commands.specs.Metadata.{size_at}
-use Rattle.frames.specs.Reading.{needed, EndsWithin}
+use Rattle.frames.specs.Frames.{largest_size}
+use Rattle.frames.specs.Reading.{needed, EndsWithin, IsWhole}
 
 pub size_at-more : (bytes more : List ℕ) → 4 ≤ length bytes → size_at (bytes ++ more) ≡ size_at bytes
 size_at-more bytes more h = ap (λ b. from_be_bytes w32 b) (take-append-le 4 bytes more h)
@@ -48,3 +49,21 @@ ends-within bytes more h all agree =
             rw same (omega arith)
       ]
     ]
+
+-- the sizes at the front of a stream tell which of its bytes are a frame's
+pub whole-front : (stream : List ℕ) → size_at stream ≤ largest_size → 4 + size_at (drop 4 stream) ≤ size_at stream → 4 + size_at stream ≤ length stream →
+    IsWhole (take (4 + size_at stream) stream)
+whole-front stream small agree within =
+    let n = 4 + size_at stream in
+    let part = take n stream in
+    let split : part ++ drop n stream ≡ stream = take-append-drop n stream in
+    let long : length part ≡ n = length-take-le n stream within in
+    let first : size_at part ≡ size_at stream = sym (size_at-more part (drop n stream) (omega (arith, long))) ∙ ap size_at split in
+    let second : size_at (drop 4 part) ≡ size_at (drop 4 stream) =
+    sym (second-more part (drop n stream) (omega (arith, long, agree))) ∙ ap (λ l. size_at (drop 4 l)) split in
+    record {
+      known = omega (arith, long, agree);
+      small = rw first small;
+      agree = rw (first, second) agree;
+      all = rw first long;
+    }

@@ -1,5 +1,5 @@
 -- How a frame is read, step by step.
-use Rattle.std.specs.Prelude.{◌≡◌, ◌≢◌, ◌≤◌, ℕ, ◌+◌, List, length, take, drop, Result, Ok, Err, Bool, nat_lt, ◌==◌, ◌&&◌, slice_index, if◌then◌else◌}
+use Rattle.std.specs.Prelude.{◌≡◌, ◌≢◌, ◌≤◌, ℕ, ◌+◌, List, length, take, drop, Option, Some, None, Result, Ok, Err, Bool, nat_lt, ◌==◌, ◌&&◌, slice_index, if◌then◌else◌}
 use Rattle.std.specs.Bool.{MatchBool}
 use Rattle.std.proofs.Common.{refl}
 use Rattle.commands.specs.declared.command.Command.{Command}
@@ -14,6 +14,8 @@ use Rattle.frames.specs.declared.fault.Fault.TheVariants.{TooLarge, BadSizes, Un
 use Rattle.frames.specs.declared.frame.Frame.{Frame}
 use Rattle.frames.specs.declared.frame.FrameEntry.{FrameEntry}
 use Rattle.frames.specs.declared.frame.FrameEntry.TheVariants.{Nothing, Checksummed, Entry}
+use Rattle.frames.specs.declared.whole.Whole.{Whole}
+use Rattle.frames.specs.declared.whole.Whole.TheVariants.{Lent, Own}
 use Rattle.frames.specs.Frames.{largest_size}
 use Rattle.frames.specs.Faults.{IsFaulty}
 use Rattle.frames.specs.Streams.{IsUnfinished}
@@ -110,3 +112,14 @@ EndsWithin bytes = 8 ≤ length bytes → 4 + size_at (drop 4 bytes) ≤ size_at
 abbrev pub Judges : Result Bool Fault → List ℕ → Type 0
 Judges (Ok whole) bytes = MatchBool whole (IsWhole bytes) (IsUnfinished bytes)
 Judges (Err fault) bytes = (fault ≢ NoMemory) × IsFaulty fault bytes
+
+-- how many bytes at the front of a stream are a whole frame, or what is wrong with their sizes; none says nothing
+abbrev pub Fronts : Result (Option ℕ) Fault → List ℕ → Type 0
+Fronts (Ok None) stream = Unit {0}
+Fronts (Ok (Some size)) stream = (size ≤ length stream) × IsWhole (take size stream)
+Fronts (Err fault) stream = (fault ≢ NoMemory) × IsFaulty fault stream
+
+-- the bytes of a whole frame, wherever they stand
+abbrev pub bytes_of : Whole → List ℕ
+bytes_of (Lent piece) = piece.now
+bytes_of (Own bytes) = bytes.items

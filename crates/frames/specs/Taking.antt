@@ -1,10 +1,12 @@
 -- One step of feeding: bytes of a piece join the unfinished frame's.
-use Rattle.std.specs.Prelude.{◌≡◌, ◌<◌, ◌≤◌, ◌⊎◌, ℕ, List, [], ◌∷◌, ◌++◌, length, take, Result, Ok, Err}
+use Rattle.std.specs.Prelude.{◌≡◌, ◌<◌, ◌≤◌, ◌⊎◌, ℕ, List, [], ◌∷◌, ◌++◌, length, take, Option, Some, None, Result, Ok, Err}
 use Rattle.frames.specs.declared.fault.Fault.{Fault}
 use Rattle.frames.specs.declared.frame.Frame.{Frame}
+use Rattle.frames.specs.declared.whole.Whole.{Whole}
 use Rattle.frames.specs.Frames.{IsFrame}
 use Rattle.frames.specs.Faults.{IsFaulty}
 use Rattle.frames.specs.Streams.{IsUnfinished}
+use Rattle.frames.specs.Reading.{IsWhole, bytes_of}
 
 -- the frame is still unfinished, and its bytes are kept
 pub record Waits (bytes : List ℕ) (old : List Frame) (kept : List ℕ) (new : List Frame) : Type 0 where
@@ -24,3 +26,13 @@ abbrev pub Takes : List ℕ → List ℕ → List Frame → Result ℕ Fault →
 Takes unfinished piece old (Ok taken) kept new = (0 < taken) × (taken ≤ length piece) ×
     (Waits (unfinished ++ take taken piece) old kept new ⊎ Completes (unfinished ++ take taken piece) old kept new)
 Takes unfinished piece old (Err fault) kept new = (new ≡ old) × (taken : ℕ) × IsFaulty fault (unfinished ++ take taken piece)
+
+-- the bytes are unfinished, and kept, or they are a whole frame's by their sizes, and handed on
+abbrev pub Becomes : List ℕ → Option Whole → List ℕ → Type 0
+Becomes bytes None kept = (kept ≡ bytes) × IsUnfinished bytes
+Becomes bytes (Some whole) kept = (kept ≡ []) × (bytes_of whole ≡ bytes) × IsWhole bytes
+
+-- the same of the bytes alone
+abbrev pub Gathers : List ℕ → List ℕ → Result (ℕ × Option Whole) Fault → List ℕ → Type 0
+Gathers unfinished piece (Ok taken) kept = (0 < taken.0) × (taken.0 ≤ length piece) × Becomes (unfinished ++ take taken.0 piece) taken.1 kept
+Gathers unfinished piece (Err fault) kept = (taken : ℕ) × IsFaulty fault (unfinished ++ take taken piece)

@@ -9,6 +9,7 @@ mod laws;
 mod parser;
 mod plain_entry;
 mod reading;
+mod whole;
 mod writing;
 
 pub use fault::Fault;

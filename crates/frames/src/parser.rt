@@ -1,18 +1,20 @@
 ghost use Rattle.std.specs.Prelude.{◌≡◌, ◌<◌, ◌++◌, length, IfOk, IfErr, List, ℕ};
 ghost use Rattle.frames.specs.Faults.{IsFaulty};
 ghost use Rattle.frames.specs.Streams.{Adds, IsUnfinished};
-ghost use Rattle.frames.specs.Taking.{Takes};
+ghost use Rattle.frames.specs.Taking.{Takes, Gathers};
 
 use crate::fault::Fault;
 use crate::frame::Frame;
-use crate::reading::{frame_of, is_whole, needed};
+use crate::reading::{frame_of, is_whole, needed, whole_front};
+use crate::whole::Whole;
 use commands::size_at;
 use std::alloc::{AllocError, Global};
 use std::marker::Model;
 use std::mem;
 
 /// Cuts a stream of bytes into frames. Contracts see the bytes of the unfinished frame, which are
-/// all that it keeps, and the fault that ended the stream. Each frame's bytes are gathered in
+/// all that it keeps, and the fault that ended the stream. A frame that stands whole in a piece is
+/// read where it stands, and an entry gets a copy of it. The bytes of another one are gathered in
 /// memory of their own, which grows by the bytes that have come, whatever size the frame tells.
 #[derive(Drop)]
 pub struct Parser {
@@ -91,7 +93,8 @@ fn add_frames(
     Ok(unfinished)
 }
 
-/// Makes room for the frame's bytes, and moves as many as it is known to take.
+/// Takes bytes of the piece, at most as many as the unfinished frame is known to take, and adds the frame if it is whole then.
+/// Gives how many bytes it took.
 fn take_bytes(
     alloc: Global,
     unfinished: &mut Vec<u8>,
@@ -102,32 +105,40 @@ fn take_bytes(
     requires unfinished { IsUnfinished unfinished.old.items }
     ensures { Takes unfinished.old.items piece.now frames.old.items result unfinished.new.items frames.new.items }
 {
-    make_room(unfinished, piece)?;
-    move_bytes(alloc, unfinished, piece, frames)
+    let (taken, whole) = gather(alloc, unfinished, piece)?;
+    let Some(bytes) = whole else {
+        return Ok(taken);
+    };
+    let frame = frame_of(alloc, bytes)?;
+    frames.push(frame)?;
+    Ok(taken)
 }
 
-/// Moves bytes of the piece to the unfinished frame's, at most as many as it is known to take,
-/// and adds the frame if it is whole then. Gives how many bytes it took.
-fn move_bytes(
+/// Finds the frame whole at the front of the piece, or moves bytes of the piece to the unfinished frame's. Gives how many bytes
+/// it took, and those of the frame if it is whole then.
+fn gather<'a>(
     alloc: Global,
     unfinished: &mut Vec<u8>,
-    piece: &[u8],
-    frames: &mut Vec<Frame>,
-) -> Result<usize, Fault>
+    piece: &'a [u8],
+) -> Result<(usize, Option<Whole<'a>>), Fault>
     requires some { 0 < length piece.now }
     requires unfinished { IsUnfinished unfinished.old.items }
-    ensures { Takes unfinished.old.items piece.now frames.old.items result unfinished.new.items frames.new.items }
+    ensures { Gathers unfinished.old.items piece.now result unfinished.new.items }
 {
+    if unfinished.is_empty()
+        && let Some(size) = whole_front(piece)?
+    {
+        return Ok((size, Some(Whole::Lent(&piece[..size]))));
+    }
+    make_room(unfinished, piece)?;
     let missing = needed(unfinished.as_slice()) - unfinished.len();
     let taken = missing.min(piece.len());
     unfinished.extend_from_slice(&piece[..taken])?;
     if !is_whole(unfinished.as_slice())? {
-        return Ok(taken);
+        return Ok((taken, None));
     }
     let bytes = mem::replace(unfinished, Vec::new(alloc));
-    let frame = frame_of(alloc, bytes)?;
-    frames.push(frame)?;
-    Ok(taken)
+    Ok((taken, Some(Whole::Own(bytes))))
 }
 
 /// Makes room at once for those of the piece's bytes that are of the frame which begins with it: for no byte that hasn't come.

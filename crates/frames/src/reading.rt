@@ -1,11 +1,12 @@
 ghost use Rattle.std.specs.Prelude.{◌≡◌, ◌≤◌, ◌<◌, ◌+◌, length, drop};
 ghost use Rattle.commands.specs.Metadata.{size_at, entry_of};
 ghost use Rattle.frames.specs.Streams.{IsUnfinished};
-ghost use Rattle.frames.specs.Reading.{Reads, Judges, IsWhole, EndsWithin, needed, read_as_metadata, is_checksummed, send_entry_of, nothing_of, entry_behind, frame_of};
+ghost use Rattle.frames.specs.Reading.{Reads, Judges, Fronts, IsWhole, EndsWithin, bytes_of, needed, read_as_metadata, is_checksummed, send_entry_of, nothing_of, entry_behind, frame_of};
 
 use crate::fault::Fault;
 use crate::frame::{Frame, FrameEntry};
 use crate::plain_entry::PlainEntry;
+use crate::whole::Whole;
 use bytes::Bytes;
 use commands::{Command, CommandFault, MessageMeta, read_command, read_entry, size_at};
 use std::alloc::Global;
@@ -52,6 +53,26 @@ pub(crate) fn is_whole(bytes: &[u8]) -> Result<bool, Fault>
     Ok(bytes.len() == 4 + size)
 }
 
+/// The size of the frame at the front of a stream, where that is there whole. None says nothing of what is there.
+pub(crate) fn whole_front(stream: &[u8]) -> Result<Option<usize>, Fault>
+    ensures { Fronts result stream.now }
+{
+    if stream.len() < 8 {
+        return Ok(None);
+    }
+    let told = size_at(stream);
+    if told > LARGEST_SIZE {
+        return Err(Fault::TooLarge);
+    }
+    if told < 4 + size_at(&stream[4..]) {
+        return Err(Fault::BadSizes);
+    }
+    if stream.len() - 4 < told {
+        return Ok(None);
+    }
+    Ok(Some(4 + told))
+}
+
 fn entry_metadata(alloc: Global, entry: &[u8]) -> Result<MessageMeta, Fault>
     ensures { Reads result (read_as_metadata (entry_of entry.now)) }
 {
@@ -95,18 +116,19 @@ fn nothing(behind: &[u8]) -> Result<FrameEntry, Fault>
     }
 }
 
+/// What stands behind the command from `start` on. An entry is over the memory of the frame, or over a copy of it.
 #[tactic(auto, unfolding(crate::specs::Reading::entry_behind))]
 fn entry_behind(
     alloc: Global,
     command: &Command,
-    frame: Vec<u8>,
+    frame: Whole<'_>,
     start: usize,
 ) -> Result<FrameEntry, Fault>
-    requires { start ≤ length frame.items }
-    ensures { Reads result (entry_behind command.now (drop start frame.items)) }
+    requires { start ≤ length (bytes_of frame) }
+    ensures { Reads result (entry_behind command.now (drop start (bytes_of frame.entry))) }
 {
     match command {
-        Command::Send(_) => send_entry(alloc, frame, start),
+        Command::Send(_) => send_entry(alloc, frame.into_vec(alloc)?, start),
         Command::Other(_) => Ok(FrameEntry::Nothing),
         Command::Connect(_)
         | Command::Subscribe(_)
@@ -120,18 +142,19 @@ fn entry_behind(
         | Command::Pong
         | Command::RedeliverUnacknowledgedMessages(_)
         | Command::PartitionedMetadata(_)
-        | Command::Lookup(_) => nothing(&frame[start..]),
+        | Command::Lookup(_) => nothing(&frame.as_slice()[start..]),
     }
 }
 
 /// The frame of these bytes, whose sizes agree with them.
 #[tactic(auto, unfolding(crate::specs::Reading::frame_of))]
-pub(crate) fn frame_of(alloc: Global, bytes: Vec<u8>) -> Result<Frame, Fault>
-    requires { IsWhole bytes.items }
-    ensures { Reads result (frame_of bytes.items) }
+pub(crate) fn frame_of(alloc: Global, frame: Whole<'_>) -> Result<Frame, Fault>
+    requires { IsWhole (bytes_of frame) }
+    ensures { Reads result (frame_of (bytes_of frame.entry)) }
 {
+    let bytes = frame.as_slice();
     let command_size = size_at(&bytes[4..]);
     let command = read_command(alloc, &bytes[8..][..command_size])?;
-    let entry = entry_behind(alloc, &command, bytes, 8 + command_size)?;
+    let entry = entry_behind(alloc, &command, frame, 8 + command_size)?;
     Ok(Frame { command, entry })
 }
