@@ -64,7 +64,7 @@ impl Holds {
     pub fn sent_before(&self, position: u64) -> u32
         ensures { result ≡ times self.now position }
     {
-        match self.deliveries.get(&position) {
+        match delivery(&self.deliveries, position) {
             Some(delivery) => delivery.times,
             None => 0,
         }
@@ -74,10 +74,7 @@ impl Holds {
     pub fn delivery(&self, position: u64) -> Option<Delivery>
         ensures { result ≡ map.get self.now position }
     {
-        match self.deliveries.get(&position) {
-            Some(delivery) => Some(*delivery),
-            None => None,
-        }
+        delivery(&self.deliveries, position)
     }
 
     /// The position is sent to the consumer, which then holds it.
@@ -147,8 +144,24 @@ impl Holds {
 fn holder(deliveries: &BTreeMap<u64, Delivery>, position: u64) -> Option<ConsumerKey>
     ensures { result ≡ holder_in (tree.get nat_cmp deliveries.now position) }
 {
-    match deliveries.get(&position) {
+    match delivery(deliveries, position) {
         Some(delivery) => delivery.holder,
+        None => None,
+    }
+}
+
+// The position's delivery. Most positions that are asked for were never sent and stand behind the last that was: for these it isn't searched.
+fn delivery(deliveries: &BTreeMap<u64, Delivery>, position: u64) -> Option<Delivery>
+    ensures { result ≡ tree.get nat_cmp deliveries.now position }
+{
+    let Some((last, _)) = deliveries.last_key_value() else {
+        return None;
+    };
+    if position > *last {
+        return None;
+    }
+    match deliveries.get(&position) {
+        Some(delivery) => Some(*delivery),
         None => None,
     }
 }

@@ -1,3 +1,4 @@
 pub mod Apart
 pub mod Cut
 pub mod From
+pub mod At

@@ -1,7 +1,8 @@
 -- Why a consumer's hash ranges are refused, and what a consumer may get.
 use Rattle.std.specs.Prelude.{ℕ, ◌≤◌, List, [], ◌∷◌, length, nat_lt, nat_le, nat_eq, Bool, false, ◌&&◌, ◌||◌, cond, Some, None, Option, IsTrue, IsSomeAnd}
-use Rattle.std.specs.List.{list_any, AllPairs}
+use Rattle.std.specs.List.{list_any, position, AllPairs}
 use Rattle.holds.specs.Backlog.{Backlog, IsOpenIn, IsLeast, attached, in_ranges}
+use Rattle.holds.specs.Deliveries.{same_key}
 use Rattle.holds.specs.declared.consumer.Consumer.{Consumer}
 use Rattle.holds.specs.declared.consumer.ConsumerKey.{ConsumerKey}
 use Rattle.holds.specs.declared.consumer.SlotRange.{SlotRange}
@@ -38,6 +39,10 @@ sticky_refusal consumers consumer =
 -- an attached consumer may get the least open position whose slot lies in its ranges
 abbrev pub AdmitsSticky : List Consumer → Backlog → ConsumerKey → ℕ → Type 0
 AdmitsSticky consumers b key i = IsSomeAnd (attached key consumers) (λ c. IsLeast (IsOpenIn b c.ranges) i)
+
+-- the place of the consumer with this key
+abbrev pub place_of : ConsumerKey → List Consumer → Option ℕ
+place_of key consumers = position (λ c. same_key c.key key) consumers
 
 -- position i from a place on is open, and its slot lies in the ranges
 abbrev pub IsOpenFrom : Backlog → List SlotRange → ℕ → ℕ → Type 0

@@ -1,6 +1,7 @@
-ghost use Rattle.std.specs.Prelude.{◌≡◌, ℕ, [], IfSome, IfNone, IsSomeAnd};
+ghost use Rattle.std.specs.Prelude.{◌≡◌, ◌<◌, ℕ, [], length, Some, IfSome, IfNone, IsSomeAnd};
 ghost use Rattle.holds.specs.Backlog.{IsLeast, attached};
-ghost use Rattle.key_shared.specs.Ranges.{are_refused, sticky_refusal, AdmitsSticky, AreApart, IsOpenFrom};
+ghost use Rattle.holds.specs.declared.consumer.ConsumerKey.{ConsumerKey as Key};
+ghost use Rattle.key_shared.specs.Ranges.{are_refused, sticky_refusal, AdmitsSticky, AreApart, IsOpenFrom, place_of};
 
 use crate::ranges::{are_refused, in_ranges};
 use holds::{Consumer, ConsumerKey, Dispatcher, Pending, Refusal, SlotRange, attached};
@@ -32,13 +33,19 @@ impl KeySharedDispatcher {
         are_refused(&self.consumers, ranges)
     }
 
+    /// The least open position from `from` on whose slot lies in the ranges of the consumer at this place, where the one that was
+    /// attached first has the place 0. It searches for nobody.
+    pub fn pick_at<P: Pending>(&self, pending: &P, place: usize, from: u64) -> Option<u64>
+        requires { place < length self.now.consumers.items }
+        ensures some { (key : Key) → place_of key self.now.consumers.items ≡ Some place → IfSome result (λ i. IsSomeAnd (attached key self.now.consumers.items) (λ c. IsLeast (IsOpenFrom (P.backlog pending.now) c.ranges from) i)) }
+        ensures none { (key : Key) → place_of key self.now.consumers.items ≡ Some place → IfNone result ((i : ℕ) → IsSomeAnd (attached key self.now.consumers.items) (λ c. IsOpenFrom (P.backlog pending.now) c.ranges from i) → ⊥) }
+    {
+        let consumer = &self.consumers[place];
+        first_in(pending, consumer.ranges.as_slice(), from)
+    }
+
     /// The least open position from `from` on whose slot lies in the consumer's ranges. An unknown consumer has none.
-    pub fn pick_from<P: Pending>(
-        &self,
-        pending: &P,
-        consumer: ConsumerKey,
-        from: u64,
-    ) -> Option<u64>
+    fn pick_from<P: Pending>(&self, pending: &P, consumer: ConsumerKey, from: u64) -> Option<u64>
         ensures some { IfSome result (λ i. IsSomeAnd (attached consumer self.now.consumers.items) (λ c. IsLeast (IsOpenFrom (P.backlog pending.now) c.ranges from) i)) }
         ensures none { IfNone result ((i : ℕ) → IsSomeAnd (attached consumer self.now.consumers.items) (λ c. IsOpenFrom (P.backlog pending.now) c.ranges from i) → ⊥) }
     {

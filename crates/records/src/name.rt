@@ -2,23 +2,23 @@
 ghost use Rattle.std.specs.Prelude.{◌≡◌};
 ghost use Rattle.records.specs.Names.{is_subscription_name};
 
+use bytes::ByteStr;
 use names::is_name_part;
 use std::alloc::{AllocError, Global};
 use std::marker::Model;
 
-/// The name of a subscription, as bytes of UTF-8.
+/// The name of a subscription, as bytes of UTF-8. Clones share them.
 #[derive(Drop)]
 pub struct Name {
-    text: String,
+    text: ByteStr,
 }
 
 impl Model for Name {
     ghost use Rattle.std.specs.Prelude.{List, ℕ};
-    ghost use Rattle.std.specs.String.{string_bytes};
 
     ghost Value = { List ℕ };
 
-    ghost view = { λ n. string_bytes n.text };
+    ghost view = { λ n. n.text };
 }
 
 impl Clone for Name {
@@ -38,7 +38,7 @@ impl Name {
         ensures { IfOk result (λ n. n ≡ name.now) }
     {
         Ok(Name {
-            text: String::from_str(alloc, name)?,
+            text: ByteStr::copy_from_str(alloc, name)?,
         })
     }
 

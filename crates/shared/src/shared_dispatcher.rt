@@ -1,4 +1,4 @@
-ghost use Rattle.std.specs.Prelude.{◌≡◌, [], IsSome};
+ghost use Rattle.std.specs.Prelude.{◌≡◌, ℕ, [], IsSome, IfSome, IfNone};
 ghost use Rattle.holds.specs.Backlog.{IsOpen, attached, room_refusal};
 
 use holds::{Consumer, ConsumerKey, Dispatcher, Pending, Refusal, attached};
@@ -18,6 +18,14 @@ impl SharedDispatcher {
         Self {
             consumers: Vec::new(alloc),
         }
+    }
+
+    /// The position that any attached consumer may get: an open one, and none only where there is none. It searches for nobody.
+    pub fn pick_attached<P: Pending>(&self, pending: &P) -> Option<u64>
+        ensures some { IfSome result (IsOpen (P.backlog pending.now)) }
+        ensures none { IfNone result ((i : ℕ) → IsOpen (P.backlog pending.now) i → ⊥) }
+    {
+        pending.first_open(0)
     }
 }
 
@@ -45,6 +53,6 @@ impl Dispatcher for SharedDispatcher {
 
     fn pick<P: Pending>(&self, pending: &P, consumer: ConsumerKey) -> Option<u64> {
         let _attached = attached::find(&self.consumers, consumer)?;
-        pending.first_open(0)
+        self.pick_attached(pending)
     }
 }
