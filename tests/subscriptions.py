@@ -172,6 +172,11 @@ class Subscription:
                 return position
         return None
 
+    def is_quiet(self, session, committed):
+        """Whether no consumer of the session has a permit left, or nothing is open."""
+        may_ask = any(consumer.session() == session and consumer.sent < consumer.granted for consumer in self.consumers)
+        return not may_ask or not any(self.is_open(position) for position in range(committed))
+
     def send(self, key, position):
         """How often the position was sent before."""
         self.consumer(key).sent += 1
@@ -275,6 +280,9 @@ class TopicLines:
             sub.drop(lambda consumer: consumer.session() == session)
         return "done"
 
+    def quiet(self, session):
+        return truth(all(sub.is_quiet(session, self.at.committed) for sub in self.at.subs))
+
     def has(self, key):
         sub = self.at.of(key)
         return f"{truth(sub)} {truth(sub and sub.mode in SERVING_MANY)}"
@@ -376,7 +384,7 @@ def action(chance, mode):
     initial = chance.choice(("Earliest", "Latest"))
     return chance.choice(
         3 * [f"subscribe {name} {its_mode} {key} {initial} {ranges}"] + 3 * [f"grant {key} {chance.randrange(6)}"] + 8 * [f"send {key}"]
-        + 2 * [f"ack {key} {position}", f"commit {position}"]
+        + 6 * [f"quiet {key[0]}"] + 2 * [f"ack {key} {position}", f"commit {position}"]
         + [f"pick {key}", f"has {key}", f"through {key} {position // 2}", f"redeliver {key}", f"redeliver {key} {position} {chance.randrange(9)}",
            f"close {key}", f"leave {key[0]}", f"unsubscribe {key}", f"refusal {name} {its_mode} {ranges}", "statuses", "count"])
 

@@ -6,6 +6,7 @@ pub mod Sound
 pub mod Seats
 pub mod Passed
 pub mod Standing
+pub mod Numbered
 pub mod Leaving
 pub mod GivenBack
 pub mod Kept
@@ -14,4 +15,5 @@ pub mod Found
 pub mod Durable
 pub mod Told
 pub mod Lowered
+pub mod Noted
 pub mod Forgotten

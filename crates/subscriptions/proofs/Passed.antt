@@ -132,7 +132,7 @@ hint_picked known key s slots committed r same fits by_slots some none =
 -- ---- the hints stay where each consumer's open positions stay or are fewer
 
 -- a change of a subscription that frees no position
-record FreesNone (f : Subscription → Subscription) : Type 0 where
+pub record FreesNone (f : Subscription → Subscription) : Type 0 where
   pub seats : (s : Subscription) → (f s).seats ≡ s.seats
   pub opens : (s : Subscription) (i : ℕ) → Lacks (f s).acked i → holder (f s).deliveries i ≡ None → Lacks s.acked i × (holder s.deliveries i ≡ None)
 
@@ -200,7 +200,7 @@ hints_slotted t more hints all = are_hints (slotted t more) hints (hints_longer 
 
 -- ---- the calls that free no position
 
-grants : (key : ConsumerKey) (permits : ℕ) → FreesNone (granted_on key permits)
+pub grants : (key : ConsumerKey) (permits : ℕ) → FreesNone (granted_on key permits)
 grants key permits = record {
   seats = λ _. refl;
   opens = λ s i lacks free. (lacks, free);
@@ -221,7 +221,7 @@ or_second false b h = h
 was_free : (b : Bool) (x y : Option Delivery) → b ≡ false → y ≡ cond b None x → holder_in y ≡ None → holder_in x ≡ None
 was_free b x y other is free = sym (ap (λ c. holder_in (cond c None x)) other) ∙ sym (ap (λ o. holder_in o) is) ∙ free
 
-acks : (ps : List ℕ) → FreesNone (acked_on ps)
+pub acks : (ps : List ℕ) → FreesNone (acked_on ps)
 acks ps = record {
   seats = λ _. refl;
   opens = λ s i lacks free. let none = sym (has_joined s.acked ps i) ∙ lacks in
@@ -232,7 +232,7 @@ pub hints_acknowledged : (t : Subscriptions) (key : ConsumerKey) (ps : List ℕ)
 hints_acknowledged t key ps hints all =
     are_hints (acknowledged t key ps) hints (hints_changed t.slots (is_on key) (acked_on ps) (acks ps) t.subs hints all.each_one)
 
-acks_through : (p : ℕ) → FreesNone (acked_through_on p)
+pub acks_through : (p : ℕ) → FreesNone (acked_through_on p)
 acks_through p = record {
   seats = λ _. refl;
   opens = λ s i lacks free. let none = sym (has_through s.acked (p + 1) i) ∙ lacks in
@@ -247,7 +247,7 @@ free_before : (b : Bool) (key : ConsumerKey) (before x y : Option Delivery) → 
 free_before true key before x y is free = let taken : Some key ≡ None = sym (ap (λ o. holder_in o) is) ∙ free in absurd (cc)
 free_before false key before x y is free = sym (ap (λ o. holder_in o) is) ∙ free
 
-sends : (key : ConsumerKey) (p : ℕ) → FreesNone (sent_on key p)
+pub sends : (key : ConsumerKey) (p : ℕ) → FreesNone (sent_on key p)
 sends key p = record {
   seats = λ _. refl;
   opens = λ s i lacks free. (lacks, free_before (nat_eq i p) key (map.get s.deliveries p) (map.get s.deliveries i) _ (get_inserted s.deliveries p (sent_to key (map.get s.deliveries p)) i) free);

@@ -3,7 +3,7 @@ use Rattle.std.proofs.Common.{◌≡◌, ℕ, zero, suc, ◌+◌, ◌<◌, ◌�
 use Rattle.std.proofs.lemmas.Bool.{true≢false}
 use Rattle.std.proofs.lemmas.Bool.Decides.{nat_tests, leb_tells}
 use Rattle.std.proofs.lemmas.List.{take_more}
-use Rattle.std.specs.List.{list_any, find}
+use Rattle.std.specs.List.{list_any, find, position, position_or_len}
 use Rattle.std.specs.Option.{IfSome, IfNone, IsSomeAnd, is_some}
 use Rattle.std.specs.Prelude.{map as each}
 use Rattle.holds.specs.Backlog.{Backlog, IsFirst, IsLeast, IsOpenAt, IsOpenIn, attached}
@@ -15,17 +15,22 @@ use Rattle.subscriptions.specs.declared.consumer.Mode.TheVariants.{Exclusive, Fa
 use Rattle.subscriptions.specs.declared.consumer.Consumer.{Consumer}
 use Rattle.subscriptions.specs.Steps.{is_consumer, is_first, AdmitsBy, IsLeastIn}
 use Rattle.subscriptions.specs.Dispatching.{keys, leads, Gives}
-use Rattle.key_shared.specs.Ranges.{IsOpenFrom}
+use Rattle.key_shared.specs.Ranges.{IsOpenFrom, place_of}
 use Rattle.subscriptions.specs.Hints.{IsPassed}
 use Rattle.subscriptions.specs.State.{Subscription}
 use Rattle.subscriptions.specs.Freeing.{is_among}
 use Rattle.subscriptions.proofs.Sound.{among}
 use Rattle.subscriptions.proofs.Settled.{or_three}
+use Rattle.subscriptions.proofs.Standing.{behind, step, any_place, in_bounds}
 
 module _ {X : Type 0} (key_of : X → ConsumerKey) where
   pub any_key : (test : ConsumerKey → Bool) (xs : List X) → list_any test (each key_of xs) ≡ list_any (λ x. test (key_of x)) xs
   any_key test [] = refl
   any_key test (x ∷ xs) = ap (λ b. test (key_of x) || b) (any_key test xs)
+
+  pub place_key : (test : ConsumerKey → Bool) (xs : List X) → position test (each key_of xs) ≡ position (λ x. test (key_of x)) xs
+  place_key test [] = refl
+  place_key test (x ∷ xs) = step test (key_of x) (each key_of xs) ∙ ap (behind (test (key_of x))) (place_key test xs) ∙ sym (step (λ x. test (key_of x)) x xs)
 
 -- ---- what the dispatchers give, and what the modes admit
 
@@ -107,6 +112,19 @@ any_seated key seats cs seated =
 
 attached_seated : (key : ConsumerKey) (seats : List Seat) (cs : List Consumer) → seat_keys seats ≡ keys cs → list_any (is_consumer key) cs ≡ true → is_some (attached key seats) ≡ true
 attached_seated key seats cs seated on = found_is_some (λ (seat : Seat). same_key seat.key key) seats ∙ any_seated key seats cs seated ∙ on
+
+-- a consumer's seat has its place
+pub place_seated : (key : ConsumerKey) (seats : List Seat) (cs : List Consumer) → seat_keys seats ≡ keys cs → place_of key seats ≡ position (is_consumer key) cs
+place_seated key seats cs seated =
+    sym (place_key (λ (seat : Seat). seat.key) (λ k. same_key k key) seats) ∙ ap (position (λ k. same_key k key)) seated ∙ place_key (λ (c : Consumer). c.key) (λ k. same_key k key) cs
+
+-- who has a place is attached, within the list
+pub placed_attached : (key : ConsumerKey) (seats : List Seat) (place : ℕ) → place_of key seats ≡ Some place → is_some (attached key seats) ≡ true
+placed_attached key seats place at =
+    found_is_some (λ (seat : Seat). same_key seat.key key) seats ∙ sym (any_place (λ (seat : Seat). same_key seat.key key) seats) ∙ ap (λ (o : Option ℕ). is_some o) at
+
+pub placed_within : (key : ConsumerKey) (seats : List Seat) (place : ℕ) → place_of key seats ≡ Some place → place < length seats
+placed_within key seats place at = in_bounds (position_or_len (λ (seat : Seat). same_key seat.key key) seats) (length seats) place at
 
 -- what the dispatcher gives a consumer is what its mode lets it get
 pub admits_given : (mode : Mode) (key : ConsumerKey) (s : Subscription) (slots : List ℕ) (Opens : ℕ → Type 0) (i : ℕ) → seat_keys s.seats ≡ keys s.consumers

@@ -91,7 +91,7 @@ without_session who (e ∷ es) k =
 less : (n m : ℕ) → nat_lt n m ≡ true → n < m
 less n m h = grind (arith, nat_tests)
 
-in_bounds : (n m i : ℕ) → cond (nat_lt n m) (Some n) None ≡ Some i → i < m
+pub in_bounds : (n m i : ℕ) → cond (nat_lt n m) (Some n) None ≡ Some i → i < m
 in_bounds n m i = elim (nat_lt n m) as (λ b. nat_lt n m ≡ b → cond b (Some n) None ≡ Some i → i < m) [
   | true ↦ λ low is. let same : n ≡ i = cc in subst (λ k. k < m) same (less n m low)
   | false ↦ λ _ is. absurd (cc)
@@ -102,7 +102,7 @@ in_list subs places key place are is = in_bounds (position_or_len (is_on key) su
 
 -- ---- the first place in a list, element by element
 
-abbrev behind : Bool → Option ℕ → Option ℕ
+abbrev pub behind : Bool → Option ℕ → Option ℕ
 behind b o = cond b (Some 0) (option_map suc o)
 
 -- a place in what follows the first element
@@ -153,7 +153,7 @@ some_behind false None = refl
 some_behind false (Some r) = refl
 
 module _ {X : Type 0} (q : X → Bool) where
-  step : (x : X) (xs : List X) → position q (x ∷ xs) ≡ behind (q x) (position q xs)
+  pub step : (x : X) (xs : List X) → position q (x ∷ xs) ≡ behind (q x) (position q xs)
   step x xs = first_or_behind (q x) (position_or_len q xs) (length xs)
 
   -- one that passes has a place
@@ -162,7 +162,7 @@ module _ {X : Type 0} (q : X → Bool) where
   any_place (x ∷ xs) = ap (λ (o : Option ℕ). is_some o) (step x xs) ∙ some_behind (q x) (position q xs) ∙ ap (λ b. q x || b) (any_place xs)
 
   -- the test says the same of what is changed
-  same_place : (test : X → Bool) (f : X → X) → ((x : X) → q (f x) ≡ q x) → (xs : List X) → position q (first_changed test f xs) ≡ position q xs
+  pub same_place : (test : X → Bool) (f : X → X) → ((x : X) → q (f x) ≡ q x) → (xs : List X) → position q (first_changed test f xs) ≡ position q xs
   same_place test f same [] = refl
   same_place test f same (x ∷ xs) = elim (test x) as (λ b. position q (cond b (f x ∷ xs) (x ∷ first_changed test f xs)) ≡ position q (x ∷ xs)) [
     | true ↦ step (f x) xs ∙ ap (λ b. behind b (position q xs)) (same x) ∙ sym (step x xs)
@@ -190,11 +190,11 @@ joined_place q test f here (x ∷ xs) p at = elim (test x) as (λ b. behind b (p
 
 module _ {X : Type 0} (q : X → Bool) where
   -- one more, behind the others
-  beside_place : (xs : List X) (y : X) → q y ≡ false → position q (xs ++ y ∷ []) ≡ position q xs
+  pub beside_place : (xs : List X) (y : X) → q y ≡ false → position q (xs ++ y ∷ []) ≡ position q xs
   beside_place [] y other = step q y [] ∙ ap (λ b. behind b None) other
   beside_place (x ∷ xs) y other = step q x (xs ++ y ∷ []) ∙ ap (behind (q x)) (beside_place xs y other) ∙ sym (step q x xs)
 
-  pushed_place : (xs : List X) (y : X) → q y ≡ true → position q (xs ++ y ∷ []) ≡ Some (earliest (position q xs) (length xs))
+  pub pushed_place : (xs : List X) (y : X) → q y ≡ true → position q (xs ++ y ∷ []) ≡ Some (earliest (position q xs) (length xs))
   pushed_place [] y here = step q y [] ∙ ap (λ b. behind b None) here
   pushed_place (x ∷ xs) y here =
       step q x (xs ++ y ∷ []) ∙ ap (behind (q x)) (pushed_place xs y here) ∙ deeper (q x) (position q xs) (length xs) ∙ ap (λ o. Some (earliest o (suc (length xs)))) (sym (step q x xs))
@@ -228,14 +228,14 @@ module _ {X : Type 0} (q : X → Bool) where
   any_pushed [] y here = ap (λ b. b || false) here
   any_pushed (x ∷ xs) y here = ap (λ b. q x || b) (any_pushed xs y here) ∙ or_true (q x)
 
-  any_left : (keep : X → Bool) → ((x : X) → keep x ≡ false → q x ≡ false) → (xs : List X) → list_any q (filter keep xs) ≡ list_any q xs
+  pub any_left : (keep : X → Bool) → ((x : X) → keep x ≡ false → q x ≡ false) → (xs : List X) → list_any q (filter keep xs) ≡ list_any q xs
   any_left keep gone [] = refl
   any_left keep gone (x ∷ xs) = elim (keep x) as (λ b. keep x ≡ b → list_any q (cond b (x ∷ filter keep xs) (filter keep xs)) ≡ (q x || list_any q xs)) [
     | true ↦ λ _. ap (λ b. q x || b) (any_left keep gone xs)
     | false ↦ λ is. any_left keep gone xs ∙ ap (λ b. b || list_any q xs) (sym (gone x is))
   ] refl
 
-  none_left : (keep : X → Bool) → ((x : X) → keep x ≡ true → q x ≡ false) → (xs : List X) → list_any q (filter keep xs) ≡ false
+  pub none_left : (keep : X → Bool) → ((x : X) → keep x ≡ true → q x ≡ false) → (xs : List X) → list_any q (filter keep xs) ≡ false
   none_left keep gone [] = refl
   none_left keep gone (x ∷ xs) = elim (keep x) as (λ b. keep x ≡ b → list_any q (cond b (x ∷ filter keep xs) (filter keep xs)) ≡ false) [
     | true ↦ λ is. ap (λ b. b || list_any q (filter keep xs)) (gone x is) ∙ none_left keep gone xs
@@ -248,16 +248,16 @@ other_key : (a b c : ConsumerKey) → same_key a b ≡ false → same_key c a �
 other_key a b c other same = grind (arith, nat_tests)
 
 -- who is the one isn't the other
-apart : (key k : ConsumerKey) → same_key key k ≡ false → (c : Consumer) → not (is_consumer key c) ≡ false → is_consumer k c ≡ false
+pub apart : (key k : ConsumerKey) → same_key key k ≡ false → (c : Consumer) → not (is_consumer key c) ≡ false → is_consumer k c ≡ false
 apart key k other c is = other_key key k c.key other (not_false (is_consumer key c) is) where
   not_false : (b : Bool) → not b ≡ false → b ≡ true
   not_false true h = refl
   not_false false h = absurd (true≢false h)
 
-of_session : (key k : ConsumerKey) (who : ℕ) → nat_eq k.session who ≡ true → not (nat_eq key.session who) ≡ true → same_key key k ≡ false
+pub of_session : (key k : ConsumerKey) (who : ℕ) → nat_eq k.session who ≡ true → not (nat_eq key.session who) ≡ true → same_key key k ≡ false
 of_session key k who its other = grind (arith, nat_tests)
 
-of_another : (key k : ConsumerKey) (who : ℕ) → nat_eq k.session who ≡ false → not (nat_eq key.session who) ≡ false → same_key key k ≡ false
+pub of_another : (key k : ConsumerKey) (who : ℕ) → nat_eq k.session who ≡ false → not (nat_eq key.session who) ≡ false → same_key key k ≡ false
 of_another key k who its other = grind (arith, nat_tests)
 
 on_granted : (key : ConsumerKey) (permits : ℕ) (k : ConsumerKey) (s : Subscription) → is_on k (granted_on key permits s) ≡ is_on k s
@@ -313,7 +313,7 @@ pub places_redelivered : (subs : List Subscription) (places : List ((ℕ × ℕ)
 places_redelivered subs places key asked are = places_kept subs places (is_on key) (redelivered_on key asked) (λ _ _. refl) are
 
 -- one consumer's place is another, and the rest stay
-by_key : (key k : ConsumerKey) (a b c : Option ℕ) → (same_key key k ≡ true → a ≡ c) → (same_key key k ≡ false → b ≡ c) → cond (same_key key k) a b ≡ c
+pub by_key : (key k : ConsumerKey) (a b c : Option ℕ) → (same_key key k ≡ true → a ≡ c) → (same_key key k ≡ false → b ≡ c) → cond (same_key key k) a b ≡ c
 by_key key k a b c its others = elim (same_key key k) as (λ s. same_key key k ≡ s → cond s a b ≡ c) [ true ↦ λ same. its same | false ↦ λ other. others other ] refl
 
 abbrev newcomer : Seat → Consumer
@@ -344,7 +344,7 @@ places_made subs places places' name mode seat start n last says are = record {
       (λ other. are.found k ∙ sym (beside_place (is_on k) subs (attached_to mode seat (made name mode start)) (any_beside (is_consumer k) [] (newcomer seat) other)));
 }
 
-put_some : (place : Option ℕ) (n : ℕ) → put_in_place place (Some n) ≡ place
+pub put_some : (place : Option ℕ) (n : ℕ) → put_in_place place (Some n) ≡ place
 put_some None n = refl
 put_some (Some place) n = refl
 

@@ -1,12 +1,13 @@
--- Where the subscription of each consumer stands.
+-- Where each consumer stands, or its subscription does.
 use Rattle.std.specs.Prelude.{◌≡◌, ℕ, ◌-◌, min, nat_lt, cond, Option, Some, None, List, position}
 use Rattle.std.specs.BTreeMap.{is_at}
 use Rattle.std.specs.Map.{lookup}
 use Rattle.std.specs.declared.cmp.Ordering.{Ordering}
 use Rattle.std.specs.Ordering.{nat_cmp, ordering_then}
 use Rattle.holds.specs.declared.consumer.ConsumerKey.{ConsumerKey}
+use Rattle.subscriptions.specs.declared.consumer.Consumer.{Consumer}
 use Rattle.subscriptions.specs.State.{Subscription}
-use Rattle.subscriptions.specs.Steps.{is_on}
+use Rattle.subscriptions.specs.Steps.{is_consumer, is_on}
 
 abbrev pub pair_cmp : ℕ × ℕ → ℕ × ℕ → Ordering
 pair_cmp a b = ordering_then (nat_cmp a.0 b.0) (nat_cmp a.1 b.1)
@@ -18,6 +19,10 @@ place_in places key = lookup (is_at (pair_cmp (key.session, key.id))) places
 -- each consumer has the place of the first subscription that it is attached to, and nobody else has one
 pub record ArePlaces (subs : List Subscription) (places : List ((ℕ × ℕ) × ℕ)) : Type 0 where
   pub found : (key : ConsumerKey) → place_in places key ≡ position (is_on key) subs
+
+-- each consumer of a list has the place where it stands first, and nobody else has one
+pub record ArePlacesAmong (consumers : List Consumer) (places : List ((ℕ × ℕ) × ℕ)) : Type 0 where
+  pub found : (key : ConsumerKey) → place_in places key ≡ position (is_consumer key) consumers
 
 -- the first of two places
 abbrev pub earliest : Option ℕ → ℕ → ℕ
@@ -33,3 +38,13 @@ abbrev pub put_in_place : Option ℕ → Option ℕ → Option ℕ
 put_in_place None former = None
 put_in_place (Some place) None = None
 put_in_place (Some place) (Some former) = Some place
+
+-- a place before the end
+abbrev pub place_before : ℕ → Option ℕ → Option ℕ
+place_before end None = None
+place_before end (Some place) = cond (nat_lt place end) (Some place) None
+
+-- where one of a list stands has this place, if it has one; whoever else keeps its own
+abbrev pub numbered : Option ℕ → Option ℕ → Option ℕ
+numbered None former = former
+numbered (Some place) former = put_in_place (Some place) former

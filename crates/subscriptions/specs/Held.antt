@@ -7,7 +7,7 @@ abbrev pub subscription_of : Inside → Subscription
 subscription_of s = record {
   name = s.name;
   mode = mode_of s.dispatch;
-  consumers = s.consumers.items;
+  consumers = s.consumers;
   seats = seats_of s.dispatch;
   acked = s.progress.acked;
   deliveries = s.progress.deliveries;

@@ -1,4 +1,4 @@
-// Where the subscription of each consumer stands.
+// Where each consumer stands, or its subscription does.
 ghost use Rattle.std.specs.Prelude.{◌≡◌, ◌<◌, ℕ, List, cond, nat_eq, [], length, position, Some, None, OnOk, OnErr, IfSome};
 ghost use Rattle.std.specs.Option.{option_map};
 ghost use Rattle.std.specs.Prelude.{map as each};
@@ -13,7 +13,8 @@ use std::alloc::{AllocError, Global};
 use std::collections::BTreeMap;
 use std::marker::Model;
 
-/// For each attached consumer, by its session and its id there, the place of its subscription.
+/// For each attached consumer, by its session and its id there, a place: a topic's directory has that of the consumer's
+/// subscription, and a subscription's that of the consumer among the attached ones.
 #[derive(Drop)]
 pub(crate) struct Directory {
     places: BTreeMap<(u64, u64), usize>,
@@ -36,7 +37,7 @@ impl Directory {
         }
     }
 
-    /// The place of the consumer's subscription.
+    /// The place of the consumer. In a topic's directory it is that of its subscription.
     pub(crate) fn of(&self, key: ConsumerKey) -> Option<usize>
         ensures value { result ≡ place_in self.now key }
         ensures place { (subs : List State) → ArePlaces subs self.now → result ≡ position (is_on key) subs }

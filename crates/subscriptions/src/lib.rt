@@ -6,6 +6,7 @@
 
 mod backlog;
 mod consumer;
+mod consumers;
 mod directory;
 mod dispatch;
 mod hint;
@@ -13,6 +14,7 @@ mod hints;
 mod initial_position;
 mod laws;
 mod progress;
+mod quiet;
 mod status;
 mod statuses;
 mod subscription;

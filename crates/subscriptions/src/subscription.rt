@@ -9,10 +9,12 @@ ghost use Rattle.subscriptions.specs.Steps.{is_consumer, is_on, first_changed, f
 ghost use Rattle.subscriptions.specs.Dispatching.{mode_of, seats_of, keys};
 ghost use Rattle.subscriptions.specs.Hints.{IsPassed};
 ghost use Rattle.subscriptions.specs.Freeing.{freed_among};
+ghost use Rattle.subscriptions.specs.Quiet.{IsQuietOn, has_permits};
 ghost use Rattle.subscriptions.specs.Statuses.{IsStatus};
 
 use crate::backlog::Backlog;
 use crate::consumer::{Consumer, Mode, Refusal, TooManyPermits};
+use crate::consumers::Consumers;
 use crate::dispatch::Dispatch;
 use crate::progress::{Progress, lowered};
 use crate::status::SubscriptionStatus;
@@ -25,14 +27,11 @@ use std::marker::Model;
 /// How many consumers a subscription takes. Our own rule.
 const MOST_CONSUMERS: usize = 64;
 
-/// How many permits a consumer is granted in all. Our own rule.
-const MOST_PERMITS: u64 = 1 << 62;
-
 #[derive(Drop)]
 pub(crate) struct Subscription {
     name: Name,
     dispatch: Dispatch,
-    consumers: Vec<Consumer>,
+    consumers: Consumers,
     progress: Progress,
 }
 
@@ -63,7 +62,7 @@ impl Subscription {
         Subscription {
             name,
             dispatch: Dispatch::new(alloc, mode),
-            consumers: Vec::new(alloc),
+            consumers: Consumers::new(alloc),
             progress: Progress::new(alloc, start),
         }
     }
@@ -75,7 +74,7 @@ impl Subscription {
         Subscription {
             name,
             dispatch: Dispatch::new(alloc, Mode::Exclusive),
-            consumers: Vec::new(alloc),
+            consumers: Consumers::new(alloc),
             progress: Progress::opened(alloc, acked),
         }
     }
@@ -84,6 +83,13 @@ impl Subscription {
         ensures { result.now ≡ self.now.name }
     {
         self.name.as_str()
+    }
+
+    /// Its name, of which clones are shares.
+    pub(crate) fn shared_name(&self) -> &Name
+        ensures { result.now ≡ self.now.name }
+    {
+        &self.name
     }
 
     /// What is told of it.
@@ -98,7 +104,7 @@ impl Subscription {
     pub(crate) fn is_on(&self, key: ConsumerKey) -> bool
         ensures { result ≡ is_on key self.now }
     {
-        is_attached(self.consumers.as_slice(), key)
+        self.consumers.is_attached(key)
     }
 
     /// Why one more consumer is refused.
@@ -127,16 +133,21 @@ impl Subscription {
         ensures ok { OnOk result (self.new ≡ attached_to mode seat self.old) }
         ensures err { OnErr result (self.new ≡ self.old) }
     {
-        self.consumers.reserve(1)?;
         let newcomer = newcomer(seat.key);
         if self.consumers.is_empty() {
-            self.dispatch = first_one(alloc, mode, seat)?;
-            self.consumers.push(newcomer).unwrap();
+            let dispatch = first_one(alloc, mode, seat)?;
+            self.consumers.push(newcomer)?;
+            self.dispatch = dispatch;
             return Ok(());
         }
-        self.dispatch.attach(seat)?;
-        self.consumers.push(newcomer).unwrap();
-        Ok(())
+        self.consumers.push(newcomer)?;
+        match self.dispatch.attach(seat) {
+            Ok(()) => Ok(()),
+            Err(refused) => {
+                self.consumers.pop();
+                Err(refused)
+            }
+        }
     }
 
     /// Grants a consumer more permits, unless it would have more than 2^62 in all.
@@ -144,7 +155,7 @@ impl Subscription {
         ensures ok { OnOk result ((is_past permits (find (is_consumer key) self.old.consumers) ≡ false) × (self.new ≡ granted_on key permits self.old)) }
         ensures err { OnErr result ((is_past permits (find (is_consumer key) self.old.consumers) ≡ true) × (self.new ≡ self.old)) }
     {
-        grant(&mut self.consumers, key, permits)?;
+        self.consumers.grant(key, permits)?;
         Ok(())
     }
 
@@ -177,7 +188,7 @@ impl Subscription {
     pub(crate) fn has_permit(&self, key: ConsumerKey) -> bool
         ensures { result ≡ has_permit (find (is_consumer key) self.now.consumers) }
     {
-        has_permit(self.consumers.as_slice(), key)
+        self.consumers.has_permit(key)
     }
 
     /// The position that the consumer may get, its permits aside. On Key_Shared the search begins at `from`, below which
@@ -197,13 +208,31 @@ impl Subscription {
         ensures some { IfSome result (AdmitsBy self.old.mode key self.old slots.now (IsOpenAt committed self.old.acked self.old.deliveries)) }
         ensures none { IfNone result ((i : ℕ) → AdmitsBy self.old.mode key self.old slots.now (IsOpenAt committed self.old.acked self.old.deliveries) i → ⊥) }
     {
-        self.progress.settle(committed);
+        let Some(place) = self.consumers.place_of(key) else {
+            unreachable!()
+        };
+        let first = self.progress.settle(committed);
         let backlog = Backlog {
             progress: &self.progress,
             slots,
             committed,
+            first,
         };
-        self.dispatch.pick(&backlog, key, from)
+        self.dispatch.pick(&backlog, key, place, from)
+    }
+
+    /// Whether something is open, and a consumer of the session has a permit for it. What is acknowledged or held in front is
+    /// passed over once, and not by later calls.
+    pub(crate) fn may_serve(&mut self, who: u64, committed: u64) -> bool
+        requires { committed ≤ 2 ^ 62 }
+        ensures same { self.new ≡ self.old }
+        ensures quiet { result ≡ false → IsQuietOn who committed self.old }
+        ensures busy { result ≡ true → IsQuietOn who committed self.old → ⊥ }
+    {
+        if self.progress.settle(committed).is_none() {
+            return false;
+        }
+        has_permits(self.consumers.as_slice(), who)
     }
 
     /// Whether each consumer gets the entries of its ranges.
@@ -230,7 +259,7 @@ impl Subscription {
     {
         let before = self.progress.sent_before(position);
         self.progress.hold(position, key, committed)?;
-        take(&mut self.consumers, key);
+        self.consumers.take(key);
         Ok(before)
     }
 
@@ -248,7 +277,7 @@ impl Subscription {
     {
         free_all(&mut self.progress, self.consumers.as_slice(), who);
         detach_all(&mut self.dispatch, self.consumers.as_slice(), who);
-        forget_consumers(&mut self.consumers, who);
+        self.consumers.leave(who);
     }
 
     /// The consumer goes, and what it holds is free.
@@ -257,7 +286,7 @@ impl Subscription {
     {
         self.progress.give_back(key);
         self.dispatch.detach(key);
-        forget_consumer(&mut self.consumers, key);
+        self.consumers.remove(key);
     }
 
     /// The consumer gives back what it holds: the positions that are asked for, where the mode
@@ -349,14 +378,6 @@ fn newcomer(key: ConsumerKey) -> Consumer
     }
 }
 
-fn is_attached(consumers: &[Consumer], key: ConsumerKey) -> bool
-    ensures { result ≡ list_any (is_consumer key) consumers.now }
-{
-    consumers
-        .iter()
-        .any(|c| c.key.session == key.session && c.key.id == key.id)
-}
-
 /// Whether one of the consumers is of the session.
 fn has_session(consumers: &[Consumer], who: u64) -> bool
     ensures { result ≡ list_any (λ c. nat_eq c.key.session who) consumers.now }
@@ -364,62 +385,13 @@ fn has_session(consumers: &[Consumer], who: u64) -> bool
     consumers.iter().any(|c| c.key.session == who)
 }
 
-/// Where a consumer stands.
-fn place_of(consumers: &[Consumer], key: ConsumerKey) -> Option<usize>
-    ensures place { result ≡ position (is_consumer key) consumers.now }
-    ensures within { IfSome result (λ place. place < length consumers.now) }
+/// Whether a consumer of the session has a permit left.
+fn has_permits(consumers: &[Consumer], who: u64) -> bool
+    ensures { result ≡ has_permits who consumers.now }
 {
     consumers
         .iter()
-        .position(|c| c.key.session == key.session && c.key.id == key.id)
-}
-
-/// Whether a consumer is there and has a permit left.
-fn has_permit(consumers: &[Consumer], key: ConsumerKey) -> bool
-    ensures { result ≡ has_permit (find (is_consumer key) consumers.now) }
-{
-    let Some(place) = place_of(consumers, key) else {
-        return false;
-    };
-    let consumer = consumers[place];
-    consumer.sent < consumer.granted
-}
-
-/// Grants a consumer more permits, unless it would have more than 2^62 in all.
-fn grant(
-    consumers: &mut Vec<Consumer>,
-    key: ConsumerKey,
-    permits: u64,
-) -> Result<(), TooManyPermits>
-    ensures ok { OnOk result ((is_past permits (find (is_consumer key) consumers.old.items) ≡ false) × (consumers.new.items ≡ first_changed (is_consumer key) (granted_to permits) consumers.old.items)) }
-    ensures err { OnErr result ((is_past permits (find (is_consumer key) consumers.old.items) ≡ true) × (consumers.new.items ≡ consumers.old.items)) }
-{
-    let Some(place) = place_of(consumers.as_slice(), key) else {
-        return Ok(());
-    };
-    let consumer = &mut consumers[place];
-    let Some(total) = consumer.granted.checked_add(permits) else {
-        return Err(TooManyPermits);
-    };
-    if total > MOST_PERMITS {
-        return Err(TooManyPermits);
-    }
-    consumer.granted = total;
-    Ok(())
-}
-
-/// A consumer that has a permit left takes one.
-fn take(consumers: &mut Vec<Consumer>, key: ConsumerKey)
-    requires { has_permit (find (is_consumer key) consumers.old.items) ≡ true }
-    ensures { consumers.new.items ≡ first_changed (is_consumer key) (λ c. sent_one c) consumers.old.items }
-{
-    let Some(place) = place_of(consumers.as_slice(), key) else {
-        return;
-    };
-    let consumer = &mut consumers[place];
-    let has_permit = consumer.sent < consumer.granted;
-    prove!(has_permit);
-    consumer.sent += 1;
+        .any(|c| c.key.session == who && c.sent < c.granted)
 }
 
 /// What the consumers of the session hold is free.
@@ -461,20 +433,6 @@ fn asked_from(mode: Mode, asked: Option<&[u64]>) -> u64
         return 0;
     }
     lowered(u64::MAX, positions)
-}
-
-/// Drops the consumers of the session.
-fn forget_consumers(consumers: &mut Vec<Consumer>, who: u64)
-    ensures { consumers.new.items ≡ filter (λ c. not (nat_eq c.key.session who)) consumers.old.items }
-{
-    consumers.retain(|c| c.key.session != who);
-}
-
-/// Drops the consumer.
-fn forget_consumer(consumers: &mut Vec<Consumer>, key: ConsumerKey)
-    ensures { consumers.new.items ≡ filter (λ c. not (is_consumer key c)) consumers.old.items }
-{
-    consumers.retain(|c| c.key != key);
 }
 
 /// The dispatcher lets the session's consumers go.

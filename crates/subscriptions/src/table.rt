@@ -1,11 +1,12 @@
-ghost use Rattle.std.specs.Prelude.{◌≡◌, ◌+◌, ◌^◌, ◌<◌, ◌≤◌, ◌++◌, ◌∷◌, [], ℕ, List, All, IfOk, IfNone, IfSome, OnOk, OnErr, Some, None, true, false, drop, length, nat_le, position, map as each};
+ghost use Rattle.std.specs.Prelude.{◌≡◌, ◌+◌, ◌^◌, ◌<◌, ◌≤◌, ◌++◌, ◌∷◌, [], ℕ, List, All, IfOk, IfNone, IfSome, OnOk, OnErr, Some, None, true, false, drop, take, length, nat_le, position, vec_len, vec_capacity, map as each};
 ghost use Rattle.std.specs.List.{AllByRecursion, IsDistinct, find};
 ghost use Rattle.std.specs.Str.{bytes_eq};
 ghost use Rattle.records.specs.declared.kept_cursor.KeptCursor.{KeptCursor};
-ghost use Rattle.records.specs.declared.record.Record.TheVariants.{Acknowledged as acknowledged_change};
+ghost use Rattle.records.specs.declared.record.Record.TheVariants.{Acknowledged as acknowledged_change, Made as made_of};
 ghost use Rattle.subscriptions.specs.Steps.{none_yet, opened_one, opened_all, first_changed, is_on, is_named, has_consumer, first_standing, making_refusals, subscribe_refusals, attach_refusals, refuses_ranges, attached_to, attached, attached_at, start_of, made, granted, granted_on, is_past_on, grants_too_many, acknowledged, acked_on, acknowledged_through, acked_through_on, is_shared, unsubscribe_refusals, unsubscribed, Admits, AdmitsAt, AdmitsOn, sent, sent_on, sent_before, times_at, left, left_on, detached, detached_on, redelivered, redelivered_on, shares, is_among_many, settled, slotted};
 ghost use Rattle.std.specs.Option.{option_copied};
 ghost use Rattle.subscriptions.specs.Hints.{AreHintsOf, AreHintsOn};
+ghost use Rattle.subscriptions.specs.Quiet.{IsQuiet};
 ghost use Rattle.subscriptions.specs.Statuses.{AreStatuses};
 ghost use Rattle.holds.specs.declared.consumer.ConsumerKey.{ConsumerKey as Key};
 
@@ -14,6 +15,7 @@ use crate::directory::Directory;
 use crate::hint::Hint;
 use crate::hints::Hints;
 use crate::initial_position::InitialPosition;
+use crate::quiet::Quiet;
 use crate::status::SubscriptionStatus;
 use crate::statuses::{sort_by_name, statuses_of};
 use crate::subscription::{Subscription, is_key_shared};
@@ -29,8 +31,12 @@ const MOST_SUBSCRIPTIONS: usize = 64;
 /// How many changes wait for a flush. Our own rule.
 const MOST_CHANGES: usize = 65_536;
 
+/// For how many changes a list without one keeps its room. Our own rule.
+const KEPT_ROOM: usize = 1_024;
+
 /// The subscriptions of one topic, each with the hints of its consumers at the same place, a directory
-/// that finds a consumer's subscription however many there are, and the changes that aren't durable yet.
+/// that finds a consumer's subscription however many there are, the sessions for which nothing was found, and the changes that
+/// aren't durable yet.
 #[derive(Drop)]
 pub struct Subscriptions {
     alloc: Global,
@@ -39,6 +45,7 @@ pub struct Subscriptions {
     slots: Vec<u16>,
     hints: Vec<Hints>,
     directory: Directory,
+    quiet: Quiet,
 }
 
 impl Model for Subscriptions {
@@ -54,10 +61,11 @@ impl Model for Subscriptions {
 
     ghost use Rattle.subscriptions.specs.Hints.{AreHints};
     ghost use Rattle.subscriptions.specs.Directory.{ArePlaces};
+    ghost use Rattle.subscriptions.specs.Quiet.{AreQuiet};
 
     ghost view = { λ t. record { subs = t.subs.items; changes = t.changes.items; slots = t.slots.items } };
 
-    ghost invariant = { λ t. HasLimits (record { subs = t.subs.items; changes = t.changes.items; slots = t.slots.items }) × AreHints (record { subs = t.subs.items; changes = t.changes.items; slots = t.slots.items }) t.hints.items × ArePlaces t.subs.items t.directory };
+    ghost invariant = { λ t. HasLimits (record { subs = t.subs.items; changes = t.changes.items; slots = t.slots.items }) × AreHints (record { subs = t.subs.items; changes = t.changes.items; slots = t.slots.items }) t.hints.items × ArePlaces t.subs.items t.directory × AreQuiet t.subs.items t.quiet };
 }
 
 impl Subscriptions {
@@ -72,6 +80,7 @@ impl Subscriptions {
             slots: Vec::new(alloc),
             hints: Vec::new(alloc),
             directory: Directory::new(alloc),
+            quiet: Quiet::new(),
         }
     }
 
@@ -93,6 +102,7 @@ impl Subscriptions {
             slots,
             hints,
             directory: Directory::new(alloc),
+            quiet: Quiet::new(),
         })
     }
 
@@ -169,21 +179,7 @@ impl Subscriptions {
         ensures err { OnErr result (self.new ≡ self.old) }
     {
         let Some(place) = place_named(self.subs.as_slice(), name) else {
-            let start = start_of(initial, committed);
-            let key = seat.key;
-            let sub = new_subscription(self.alloc, name, mode, seat, start)?;
-            let change = Record::Made {
-                name: Name::new(self.alloc, name)?,
-                start,
-            };
-            self.changes.reserve(1)?;
-            self.subs.reserve(1)?;
-            self.hints.reserve(1)?;
-            self.directory.add(key, self.subs.len())?;
-            self.changes.push(change).unwrap();
-            self.subs.push(sub).unwrap();
-            self.hints.push(Hints::new(self.alloc)).unwrap();
-            return Ok(());
+            return self.make(name, mode, seat, start_of(initial, committed));
         };
         let key = seat.key;
         let former = self.directory.of(key);
@@ -202,6 +198,25 @@ impl Subscriptions {
         }
     }
 
+    /// A subscription of a name that isn't there yet is made, with its first consumer.
+    fn make(&mut self, name: &str, mode: Mode, seat: Consumer, start: u64) -> Result<(), AllocError>
+        requires fits { start ≤ 2 ^ 62 }
+        requires absent { position (is_named name.now) self.old.subs ≡ None }
+        requires allowed { first_standing (subscribe_refusals self.old name.now mode seat.ranges) ≡ None }
+        ensures ok { OnOk result (self.new ≡ attached self.old name.now mode seat start) }
+        ensures err { OnErr result (self.new ≡ self.old) }
+    {
+        let key = seat.key;
+        reserve_one(&mut self.changes, &mut self.subs, &mut self.hints)?;
+        let sub = new_subscription(self.alloc, name, mode, seat, start)?;
+        let change = made_change(self.alloc, name, start)?;
+        self.directory.add(key, self.subs.len())?;
+        self.changes.push(change).unwrap();
+        self.subs.push(sub).unwrap();
+        self.hints.push(Hints::new(self.alloc)).unwrap();
+        Ok(())
+    }
+
     /// FLOW: the consumer has so many permits more, unless it would have more than 2^62 in all. An
     /// unknown consumer changes nothing.
     pub fn grant(&mut self, key: ConsumerKey, permits: u64) -> Result<(), TooManyPermits>
@@ -213,6 +228,7 @@ impl Subscriptions {
         };
         let sub = &mut self.subs[place];
         sub.grant(key, permits)?;
+        self.quiet.forget(key.session);
         Ok(())
     }
 
@@ -228,10 +244,12 @@ impl Subscriptions {
             return Ok(());
         };
         let sub = &mut self.subs[place];
-        let mut added = acknowledgements(self.alloc, sub.name(), positions)?;
-        self.changes.reserve(positions.len())?;
-        sub.acknowledge(positions)?;
-        self.changes.append(&mut added).unwrap();
+        let before = self.changes.len();
+        add_acknowledgements(&mut self.changes, sub.shared_name(), positions)?;
+        if let Err(refused) = sub.acknowledge(positions) {
+            self.changes.truncate(before);
+            return Err(refused);
+        }
         Ok(())
     }
 
@@ -248,7 +266,7 @@ impl Subscriptions {
         };
         let sub = &mut self.subs[place];
         let change = Record::AcknowledgedThrough {
-            name: Name::new(self.alloc, sub.name())?,
+            name: sub.shared_name().clone()?,
             position,
         };
         self.changes.push(change)?;
@@ -280,7 +298,7 @@ impl Subscriptions {
             return Ok(());
         };
         let sub = &self.subs[place];
-        let name = Name::new(self.alloc, sub.name())?;
+        let name = sub.shared_name().clone()?;
         self.changes.push(Record::Removed { name })?;
         let _ = self.subs.remove(place);
         let _ = self.hints.remove(place);
@@ -317,6 +335,26 @@ impl Subscriptions {
         picked
     }
 
+    /// Whether nothing is for the session's consumers: where one of them has a permit, nothing is open on its subscription. What
+    /// was found is remembered until something may change it, as far as memory goes, so that asking again costs the same however
+    /// many consumers there are.
+    pub fn is_quiet(&mut self, who: u64, committed: u64) -> bool
+        requires fits { committed ≤ 2 ^ 62 }
+        ensures same { self.new ≡ self.old }
+        ensures quiet { result ≡ true → IsQuiet who committed self.old.subs }
+        ensures busy { result ≡ false → IsQuiet who committed self.old.subs → ⊥ }
+        ensures none { result ≡ true → (id i : ℕ) → Admits self.old (record { session = who; id = id }) committed i → ⊥ }
+    {
+        if self.quiet.is_noted(who, committed) {
+            return true;
+        }
+        if may_serve(&mut self.subs, who, committed) {
+            return false;
+        }
+        self.quiet.note(who, committed);
+        true
+    }
+
     /// MESSAGE: the consumer holds a position that it may get, and has one permit less. The answer
     /// is how often that was sent before. A refusal changes nothing.
     pub fn send(
@@ -345,6 +383,7 @@ impl Subscriptions {
     {
         leave_all(&mut self.subs, &mut self.hints, who);
         self.directory.leave(who);
+        self.quiet.clear();
     }
 
     /// CLOSE_CONSUMER: the consumer goes, and what it holds is free. An unknown consumer changes
@@ -361,6 +400,7 @@ impl Subscriptions {
         hints.clear();
         let next = place_of(self.subs.as_slice(), key);
         self.directory.set(key, next);
+        self.quiet.clear();
     }
 
     /// REDELIVER: the consumer gives back what it holds: the positions that are asked for, where
@@ -377,6 +417,7 @@ impl Subscriptions {
         sub.redeliver(key, asked);
         let hints = &mut self.hints[place];
         hints.lower(from);
+        self.quiet.clear();
     }
 
     /// Whether the consumer is attached to a subscription of which the mode serves many.
@@ -400,7 +441,7 @@ impl Subscriptions {
         requires { count ≤ length self.old.changes }
         ensures { self.new ≡ settled self.old count }
     {
-        drop_first(&mut self.changes, count);
+        drop_first(self.alloc, &mut self.changes, count);
     }
 }
 
@@ -431,6 +472,28 @@ fn new_subscription(
     let mut sub = Subscription::new(alloc, Name::new(alloc, name)?, mode, start);
     sub.attach(alloc, mode, seat)?;
     Ok(sub)
+}
+
+/// The change that tells of a new subscription.
+fn made_change(alloc: Global, name: &str, start: u64) -> Result<Record, AllocError>
+    ensures { IfOk result (λ change. change ≡ made_of name.now start) }
+{
+    let name = Name::new(alloc, name)?;
+    Ok(Record::Made { name, start })
+}
+
+/// Room for a subscription more, its change and its hints.
+fn reserve_one(
+    changes: &mut Vec<Record>,
+    subs: &mut Vec<Subscription>,
+    hints: &mut Vec<Hints>,
+) -> Result<(), AllocError>
+    ensures same { (changes.new.items ≡ changes.old.items) × (subs.new.items ≡ subs.old.items) × (hints.new.items ≡ hints.old.items) }
+    ensures room { OnOk result ((vec_len changes.new < vec_capacity changes.new) × (vec_len subs.new < vec_capacity subs.new) × (vec_len hints.new < vec_capacity hints.new)) }
+{
+    changes.reserve(1)?;
+    subs.reserve(1)?;
+    hints.reserve(1)
 }
 
 /// Durable subscriptions, without consumers and deliveries.
@@ -496,18 +559,56 @@ fn is_among_many(subs: &[Subscription], place: Option<usize>) -> bool
     sub.shares()
 }
 
-/// A change for each position.
-fn acknowledgements(alloc: Global, name: &str, positions: &[u64]) -> Result<Vec<Record>, AllocError>
-    ensures { IfOk result (λ changes. changes.items ≡ each (λ p. acknowledged_change name.now p) positions.now) }
+/// Whether something is for the session's consumers on one of the subscriptions.
+fn may_serve(subs: &mut Vec<Subscription>, who: u64, committed: u64) -> bool
+    requires { committed ≤ 2 ^ 62 }
+    ensures same { subs.new.items ≡ subs.old.items }
+    ensures quiet { result ≡ false → IsQuiet who committed subs.old.items }
+    ensures busy { result ≡ true → IsQuiet who committed subs.old.items → ⊥ }
 {
-    let mut changes = Vec::new(alloc);
+    for i in 0..subs.len() {
+        let sub = &mut subs[i];
+        if sub.may_serve(who, committed) {
+            return true;
+        }
+    }
+    false
+}
+
+/// Adds a change for each position, with a share of the name. A refusal changes nothing.
+fn add_acknowledgements(
+    changes: &mut Vec<Record>,
+    name: &Name,
+    positions: &[u64],
+) -> Result<(), AllocError>
+    ensures ok { OnOk result (changes.new.items ≡ changes.old.items ++ each (λ p. acknowledged_change name.now p) positions.now) }
+    ensures err { OnErr result (changes.new.items ≡ changes.old.items) }
+{
+    let before = changes.len();
+    changes.reserve(positions.len())?;
+    if let Err(refused) = push_acknowledgements(changes, name, positions) {
+        changes.truncate(before);
+        return Err(refused);
+    }
+    Ok(())
+}
+
+/// Adds a change for each position. A refusal may leave some of them behind what was there.
+fn push_acknowledgements(
+    changes: &mut Vec<Record>,
+    name: &Name,
+    positions: &[u64],
+) -> Result<(), AllocError>
+    ensures ok { OnOk result (changes.new.items ≡ changes.old.items ++ each (λ p. acknowledged_change name.now p) positions.now) }
+    ensures err { OnErr result (take (length changes.old.items) changes.new.items ≡ changes.old.items) }
+{
     for position in positions {
         changes.push(Record::Acknowledged {
-            name: Name::new(alloc, name)?,
+            name: name.clone()?,
             position: *position,
         })?;
     }
-    Ok(changes)
+    Ok(())
 }
 
 /// The session leaves each subscription.
@@ -535,12 +636,15 @@ fn leave_one(sub: &mut Subscription, hints: &mut Hints, who: u64)
     hints.clear();
 }
 
-/// Drops the first changes.
-fn drop_first(changes: &mut Vec<Record>, count: usize)
+/// Drops the first changes. Where none is left, a list that took much room gives it back.
+fn drop_first(alloc: Global, changes: &mut Vec<Record>, count: usize)
     requires { count ≤ length changes.old.items }
     ensures { changes.new.items ≡ drop count changes.old.items }
 {
     let left = changes.len() - count;
     changes.rotate_left(count);
     changes.truncate(left);
+    if left == 0 && changes.capacity() > KEPT_ROOM {
+        *changes = Vec::new(alloc);
+    }
 }

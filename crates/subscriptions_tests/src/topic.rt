@@ -98,6 +98,12 @@ fn settle(subs: &mut Subscriptions, count: usize) -> Result<(), Error> {
     Ok(())
 }
 
+/// Whether nothing is for a session's consumers.
+fn quiet(topic: &mut Topic, who: u64) -> Result<String, Error> {
+    let is_quiet = topic.subs.is_quiet(who, u64::from(topic.committed));
+    Ok(format!(in topic.alloc; "{is_quiet}")?)
+}
+
 /// A word with one number behind it.
 fn counted(topic: &mut Topic, word: &str, asked: &[&str]) -> Result<String, Error> {
     let [number, ..] = asked else {
@@ -107,6 +113,7 @@ fn counted(topic: &mut Topic, word: &str, asked: &[&str]) -> Result<String, Erro
         "commit" => topic.committed = number.parse()?,
         "leave" => topic.subs.leave(number.parse()?),
         "settle" => settle(&mut topic.subs, number.parse()?)?,
+        "quiet" => return quiet(topic, number.parse()?),
         _ => {
             let has_room = topic.subs.has_room(number.parse()?);
             return Ok(format!(in topic.alloc; "{has_room}")?);
@@ -129,7 +136,7 @@ pub(crate) fn answer(topic: &mut Topic, word: &str, asked: &str) -> Result<Strin
     let asked = asked.as_slice();
     match word {
         "topic" | "slots" => changed(topic, word, asked),
-        "commit" | "leave" | "settle" | "room" => counted(topic, word, asked),
+        "commit" | "leave" | "settle" | "quiet" | "room" => counted(topic, word, asked),
         "subscribe" => subscribe(topic, asked),
         "refusal" => refusal(topic, asked),
         "changes" => told::changes(topic.alloc, &topic.subs),

@@ -10,10 +10,10 @@ pub invariant_of-self : goal.invariant_of-self
 invariant_of-self c =
     let s = subscription_of c.self.inside in
     let given : c.give_back.new.self.deliveries ≡ each_delivery (λ i d. given_back c.args.key d) s.deliveries = each_by (λ i d. given_back c.args.key d) s.deliveries _ c.give_back.ensures.deliveries in
-    rw (c.forget_consumer.ensures, c.detach.ensures.mode, c.detach.ensures.seats, c.give_back.ensures.acked, given) (sound_detached c.args.key s c.self.invariant)
+    rw (c.remove.ensures, c.detach.ensures.mode, c.detach.ensures.seats, c.give_back.ensures.acked, given) (sound_detached c.args.key s c.self.invariant)
 
 pub returns : goal.returns
 returns c =
     let s = subscription_of c.self.inside in
     let given : c.give_back.new.self.deliveries ≡ each_delivery (λ i d. given_back c.args.key d) s.deliveries = each_by (λ i d. given_back c.args.key d) s.deliveries _ c.give_back.ensures.deliveries in
-    rw (c.forget_consumer.ensures, c.detach.ensures.mode, c.detach.ensures.seats, c.give_back.ensures.acked, given) (ap (detached_on c.args.key) c.self.view_is)
+    rw (c.remove.ensures, c.detach.ensures.mode, c.detach.ensures.seats, c.give_back.ensures.acked, given) (ap (detached_on c.args.key) c.self.view_is)

@@ -9,5 +9,5 @@ use Rattle.subscriptions.proofs.subscription.Subscription.has_session.Goals as g
 
 pub returns-clause-none : goal.returns-clause-none
 returns-clause-none c =
-    let known = ap (λ (cs : List Consumer). list_any (λ k. nat_eq k.key.session c.args.who) cs) (sym c.as_slice.ensures.value) ∙ sym c.has_session.ensures in
+    let known = ap (λ (cs : List Consumer). list_any (λ k. nat_eq k.key.session c.args.who) cs) (sym c.as_slice.ensures) ∙ sym c.has_session.ensures in
     λ none. subst (λ (s : Subscription). left_on c.args.who s ≡ s) c.self.view_is (stays_left c.args.who (subscription_of c.self.inside) c.self.invariant (known ∙ none))

@@ -12,12 +12,12 @@ pub invariant_of-self : goal.invariant_of-self
 invariant_of-self c =
     let s = subscription_of c.self.inside in
     let freed : c.free_all.new.progress.deliveries ≡ freed_by c.args.who s.deliveries = freed_by_all c.args.who s c.free_all.new.progress.deliveries c.self.invariant
-    (λ q. c.free_all.ensures.freed q ∙ ap (λ (cs : List Consumer). option_map (freed_among c.args.who cs) (map.get s.deliveries q)) c.as_slice.ensures.value) in
-    rw (c.forget_consumers.ensures, c.detach_all.ensures.mode, c.detach_all.ensures.seats, c.free_all.ensures.acked, freed) (sound_left c.args.who s c.self.invariant)
+    (λ q. c.free_all.ensures.freed q ∙ ap (λ (cs : List Consumer). option_map (freed_among c.args.who cs) (map.get s.deliveries q)) c.as_slice.ensures) in
+    rw (c.leave.ensures, c.detach_all.ensures.mode, c.detach_all.ensures.seats, c.free_all.ensures.acked, freed) (sound_left c.args.who s c.self.invariant)
 
 pub returns : goal.returns
 returns c =
     let s = subscription_of c.self.inside in
     let freed : c.free_all.new.progress.deliveries ≡ freed_by c.args.who s.deliveries = freed_by_all c.args.who s c.free_all.new.progress.deliveries c.self.invariant
-    (λ q. c.free_all.ensures.freed q ∙ ap (λ (cs : List Consumer). option_map (freed_among c.args.who cs) (map.get s.deliveries q)) c.as_slice.ensures.value) in
-    rw (c.forget_consumers.ensures, c.detach_all.ensures.mode, c.detach_all.ensures.seats, c.free_all.ensures.acked, freed) (ap (left_on c.args.who) c.self.view_is)
+    (λ q. c.free_all.ensures.freed q ∙ ap (λ (cs : List Consumer). option_map (freed_among c.args.who cs) (map.get s.deliveries q)) c.as_slice.ensures) in
+    rw (c.leave.ensures, c.detach_all.ensures.mode, c.detach_all.ensures.seats, c.free_all.ensures.acked, freed) (ap (left_on c.args.who) c.self.view_is)

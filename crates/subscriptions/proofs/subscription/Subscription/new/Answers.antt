@@ -4,5 +4,5 @@ use Rattle.subscriptions.proofs.subscription.Subscription.new.Goals as goal
 
 pub invariant_of-result : goal.invariant_of-result
 invariant_of-result c =
-    let nobody : c.new-2.result.items ≡ [] = search rules in
+    let nobody : c.new-2.result ≡ [] = search rules in
     rw (nobody, c.new.ensures.mode, c.new.ensures.seats, c.new-3.ensures.acked, c.new-3.ensures.deliveries) (sound_made c.args.name c.args.mode c.args.start)

@@ -7,6 +7,7 @@ use Rattle.subscriptions.proofs.Limits.{limits_changed}
 use Rattle.subscriptions.proofs.Found.{changes_at, stays_at}
 use Rattle.subscriptions.proofs.Passed.{hints_cleared}
 use Rattle.subscriptions.proofs.Standing.{places_detached}
+use Rattle.subscriptions.proofs.Noted.{notes_none}
 use Rattle.subscriptions.proofs.table.Subscriptions.detach.Goals as goal
 
 pub returns-in_default : goal.returns-in_default
@@ -25,6 +26,7 @@ invariant_of-self c =
       rw new (limits_changed t (is_on c.args.key) (detached_on c.args.key) (λ _. refl) c.self.invariant.0),
       hints_cleared t c.self.inside.hints.items c.in-Some.place c.detach.new.self c.clear.new.self c.self.invariant.1 c.clear.ensures,
       rw new (places_detached t.subs c.self.inside.directory c.set.new.self c.args.key c.in-Some.place c.place_of-next.result at (found ∙ ap (position (is_on c.args.key)) new) c.set.ensures c.self.invariant.2),
+      notes_none (set c.self.inside.subs.items c.in-Some.place c.detach.new.self) c.clear-2.new.self c.clear-2.ensures,
     )
 
 pub returns : goal.returns

@@ -7,6 +7,7 @@ use Rattle.subscriptions.proofs.Limits.{limits_changed}
 use Rattle.subscriptions.proofs.Found.{on_err, grants_none, grants_at, changes_at}
 use Rattle.subscriptions.proofs.Passed.{hints_granted}
 use Rattle.subscriptions.proofs.Standing.{places_granted}
+use Rattle.subscriptions.proofs.Noted.{notes_granted}
 use Rattle.subscriptions.proofs.table.Subscriptions.grant.Goals as goal
 
 pub returns-in_default-clause-ok : goal.returns-in_default-clause-ok
@@ -21,7 +22,7 @@ invariant_of-self-2 c =
     let at : position (is_on c.args.key) c.self.inside.subs.items ≡ Some c.in-Some.place = search rules in
     let new : set c.self.inside.subs.items c.in-Some.place c.grant.new.self ≡ first_changed (is_on c.args.key) (granted_on c.args.key c.args.permits) c.self.inside.subs.items =
     changes (is_on c.args.key) (granted_on c.args.key c.args.permits) c.self.inside.subs.items c.in-Some.place c.index_mut-sub.result.now c.grant.new.self at c.index_mut-sub.ensures.value c.in_ok-grant.ensures.ok.1 in
-    rw new (limits_changed t (is_on c.args.key) (granted_on c.args.key c.args.permits) (λ _. refl) c.self.invariant.0, hints_granted t c.args.key c.args.permits c.self.inside.hints.items c.self.invariant.1, places_granted t.subs c.self.inside.directory c.args.key c.args.permits c.self.invariant.2)
+    rw new (limits_changed t (is_on c.args.key) (granted_on c.args.key c.args.permits) (λ _. refl) c.self.invariant.0, hints_granted t c.args.key c.args.permits c.self.inside.hints.items c.self.invariant.1, places_granted t.subs c.self.inside.directory c.args.key c.args.permits c.self.invariant.2, notes_granted t.subs c.self.inside.quiet c.forget.new.self c.args.key c.args.permits c.forget.ensures c.self.invariant.3)
 
 pub returns-clause-ok : goal.returns-clause-ok
 returns-clause-ok c =

@@ -55,6 +55,7 @@ invariant_of-self-then-is_key_shared c =
       hints_noted t c.self.inside.hints.items c.in-Some.place c.index_mut-sub.result.now c.index_mut-hints.result.now c.note.new.self c.self.invariant.1 low
           c.index_mut-sub.ensures.value c.index_mut-hints.ensures.value (λ known. c.note.ensures t.slots c.index_mut-sub.result.now known noted),
       c.self.invariant.2,
+      c.self.invariant.3,
     )
 
 pub returns-then-is_key_shared-clause-some : goal.returns-then-is_key_shared-clause-some

@@ -8,6 +8,7 @@ use Rattle.subscriptions.proofs.Limits.{limits_changed}
 use Rattle.subscriptions.proofs.Found.{changes_at, stays_at}
 use Rattle.subscriptions.proofs.GivenBack.{hints_lowered}
 use Rattle.subscriptions.proofs.Standing.{places_redelivered}
+use Rattle.subscriptions.proofs.Noted.{notes_none}
 use Rattle.subscriptions.proofs.table.Subscriptions.redeliver.Goals as goal
 
 pub returns-in_default : goal.returns-in_default
@@ -27,6 +28,7 @@ invariant_of-self c =
       hints_lowered t c.self.inside.hints.items c.args.key (option_copied c.args.asked) c.in-Some.place c.asked_from-from.result c.index_mut-sub.result.now c.redeliver.new.self c.index_mut-hints.result.now c.lower.new.self c.self.invariant.1 low
           c.index_mut-sub.ensures.value c.index_mut-hints.ensures.value c.asked_from-from.ensures c.redeliver.ensures c.lower.ensures,
       rw new (places_redelivered t.subs c.self.inside.directory c.args.key (option_copied c.args.asked) c.self.invariant.2),
+      notes_none (set c.self.inside.subs.items c.in-Some.place c.redeliver.new.self) c.clear.new.self c.clear.ensures,
     )
 
 pub returns : goal.returns

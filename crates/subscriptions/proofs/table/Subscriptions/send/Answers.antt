@@ -9,6 +9,7 @@ use Rattle.holds.specs.Backlog.{IsOpenAt}
 use Rattle.subscriptions.proofs.Sound.{opens_of}
 use Rattle.subscriptions.proofs.Passed.{hints_sent}
 use Rattle.subscriptions.proofs.Standing.{places_sent}
+use Rattle.subscriptions.proofs.Noted.{notes_sent}
 use Rattle.subscriptions.proofs.table.Subscriptions.send.Goals as goal
 
 pub unreachable-requires : goal.unreachable-requires
@@ -39,7 +40,7 @@ invariant_of-self-2 c =
     let at : position (is_on c.args.key) c.self.inside.subs.items ≡ Some c.in-Some.place = search rules in
     let new : set c.self.inside.subs.items c.in-Some.place c.send.new.self ≡ first_changed (is_on c.args.key) (sent_on c.args.key c.args.position) c.self.inside.subs.items =
     changes (is_on c.args.key) (sent_on c.args.key c.args.position) c.self.inside.subs.items c.in-Some.place c.index_mut-sub.result.now c.send.new.self at c.index_mut-sub.ensures.value c.in_ok-before.ensures.ok in
-    rw new (limits_changed t (is_on c.args.key) (sent_on c.args.key c.args.position) (λ _. refl) c.self.invariant.0, hints_sent t c.args.key c.args.position c.self.inside.hints.items c.self.invariant.1, places_sent t.subs c.self.inside.directory c.args.key c.args.position c.self.invariant.2)
+    rw new (limits_changed t (is_on c.args.key) (sent_on c.args.key c.args.position) (λ _. refl) c.self.invariant.0, hints_sent t c.args.key c.args.position c.self.inside.hints.items c.self.invariant.1, places_sent t.subs c.self.inside.directory c.args.key c.args.position c.self.invariant.2, notes_sent t.subs c.self.inside.quiet c.args.key c.args.position c.self.invariant.3)
 
 pub returns-clause-ok : goal.returns-clause-ok
 returns-clause-ok c =

@@ -1,0 +1,208 @@
+// The consumers of a subscription.
+ghost use Rattle.std.specs.Prelude.{◌≡◌, ◌<◌, ◌++◌, ◌∷◌, [], List, IfSome, OnOk, OnErr, Some, None, true, false, filter, length, nat_eq, nat_lt, not, position};
+ghost use Rattle.std.specs.List.{find, list_any};
+ghost use Rattle.holds.specs.declared.consumer.ConsumerKey.{ConsumerKey as Key};
+ghost use Rattle.subscriptions.specs.declared.consumer.Consumer.{Consumer as TheConsumer};
+ghost use Rattle.subscriptions.specs.Directory.{place_in, place_before, numbered};
+ghost use Rattle.subscriptions.specs.Steps.{is_consumer, first_changed, granted_to, has_permit, has_some, is_past, sent_one};
+
+use crate::consumer::{Consumer, TooManyPermits};
+use crate::directory::Directory;
+use holds::ConsumerKey;
+use std::alloc::{AllocError, Global};
+use std::marker::Model;
+
+/// How many permits a consumer is granted in all. Our own rule.
+const MOST_PERMITS: u64 = 1 << 62;
+
+/// The attached consumers in order of attachment, and a directory that finds one of them however many there are.
+#[derive(Drop)]
+pub(crate) struct Consumers {
+    list: Vec<Consumer>,
+    places: Directory,
+}
+
+impl Model for Consumers {
+    ghost use Rattle.std.specs.Prelude.{List};
+    ghost use Rattle.subscriptions.specs.declared.consumer.Consumer.{Consumer};
+    ghost use Rattle.subscriptions.specs.Directory.{ArePlacesAmong};
+
+    ghost Value = { List Consumer };
+
+    ghost view = { λ c. c.list.items };
+
+    ghost invariant = { λ c. ArePlacesAmong c.list.items c.places };
+}
+
+impl Consumers {
+    pub(crate) fn new(alloc: Global) -> Consumers
+        ensures { result ≡ [] }
+    {
+        Consumers {
+            list: Vec::new(alloc),
+            places: Directory::new(alloc),
+        }
+    }
+
+    pub(crate) fn as_slice(&self) -> &[Consumer]
+        ensures { result.now ≡ self.now }
+    {
+        self.list.as_slice()
+    }
+
+    pub(crate) fn len(&self) -> usize
+        ensures { result ≡ length self.now }
+    {
+        self.list.len()
+    }
+
+    pub(crate) fn is_empty(&self) -> bool
+        ensures { result ≡ not (has_some self.now) }
+    {
+        self.list.is_empty()
+    }
+
+    /// Where the consumer stands first.
+    pub(crate) fn place_of(&self, key: ConsumerKey) -> Option<usize>
+        ensures place { result ≡ position (is_consumer key) self.now }
+        ensures within { IfSome result (λ place. place < length self.now) }
+    {
+        self.places.of(key)
+    }
+
+    pub(crate) fn is_attached(&self, key: ConsumerKey) -> bool
+        ensures { result ≡ list_any (is_consumer key) self.now }
+    {
+        self.places.of(key).is_some()
+    }
+
+    /// Whether the consumer is there and has a permit left.
+    pub(crate) fn has_permit(&self, key: ConsumerKey) -> bool
+        ensures { result ≡ has_permit (find (is_consumer key) self.now) }
+    {
+        let Some(place) = self.place_of(key) else {
+            return false;
+        };
+        let consumer = self.list[place];
+        consumer.sent < consumer.granted
+    }
+
+    /// Grants the consumer more permits, unless it would have more than 2^62 in all.
+    pub(crate) fn grant(&mut self, key: ConsumerKey, permits: u64) -> Result<(), TooManyPermits>
+        ensures ok { OnOk result ((is_past permits (find (is_consumer key) self.old) ≡ false) × (self.new ≡ first_changed (is_consumer key) (granted_to permits) self.old)) }
+        ensures err { OnErr result ((is_past permits (find (is_consumer key) self.old) ≡ true) × (self.new ≡ self.old)) }
+    {
+        let Some(place) = self.place_of(key) else {
+            return Ok(());
+        };
+        grant(&mut self.list, place, permits)?;
+        Ok(())
+    }
+
+    /// A consumer that has a permit left takes one.
+    pub(crate) fn take(&mut self, key: ConsumerKey)
+        requires { has_permit (find (is_consumer key) self.old) ≡ true }
+        ensures { self.new ≡ first_changed (is_consumer key) (λ c. sent_one c) self.old }
+    {
+        let Some(place) = self.place_of(key) else {
+            return;
+        };
+        let consumer = &mut self.list[place];
+        let has_permit = consumer.sent < consumer.granted;
+        prove!(has_permit);
+        consumer.sent += 1;
+    }
+
+    /// Puts a consumer behind the others. A refusal changes nothing.
+    pub(crate) fn push(&mut self, consumer: Consumer) -> Result<(), AllocError>
+        ensures ok { OnOk result (self.new ≡ self.old ++ consumer ∷ []) }
+        ensures err { OnErr result (self.new ≡ self.old) }
+    {
+        self.list.reserve(1)?;
+        self.places.add(consumer.key, self.list.len())?;
+        self.list.push(consumer).unwrap();
+        Ok(())
+    }
+
+    /// Drops the last consumer. Takes no memory.
+    pub(crate) fn pop(&mut self)
+        ensures { (kept : List TheConsumer) (last : TheConsumer) → self.old ≡ kept ++ last ∷ [] → self.new ≡ kept }
+    {
+        let Some(last) = self.list.pop() else {
+            return;
+        };
+        let earlier = place_before(self.list.len(), self.places.of(last.key));
+        self.places.set(last.key, earlier);
+    }
+
+    /// Drops the session's consumers. Takes no memory.
+    pub(crate) fn leave(&mut self, who: u64)
+        ensures { self.new ≡ filter (λ c. not (nat_eq c.key.session who)) self.old }
+    {
+        forget_session(&mut self.list, who);
+        self.places.leave(who);
+        number(&mut self.places, self.list.as_slice());
+    }
+
+    /// Drops the consumer. Takes no memory.
+    pub(crate) fn remove(&mut self, key: ConsumerKey)
+        ensures { self.new ≡ filter (λ c. not (is_consumer key c)) self.old }
+    {
+        forget_consumer(&mut self.list, key);
+        self.places.set(key, None);
+        number(&mut self.places, self.list.as_slice());
+    }
+}
+
+/// Grants the consumer at this place more permits, unless it would have more than 2^62 in all.
+fn grant(consumers: &mut Vec<Consumer>, place: usize, permits: u64) -> Result<(), TooManyPermits>
+    requires { place < length consumers.old.items }
+    ensures ok { OnOk result ((key : Key) → position (is_consumer key) consumers.old.items ≡ Some place → (is_past permits (find (is_consumer key) consumers.old.items) ≡ false) × (consumers.new.items ≡ first_changed (is_consumer key) (granted_to permits) consumers.old.items)) }
+    ensures err { OnErr result ((key : Key) → position (is_consumer key) consumers.old.items ≡ Some place → (is_past permits (find (is_consumer key) consumers.old.items) ≡ true) × (consumers.new.items ≡ consumers.old.items)) }
+{
+    let consumer = &mut consumers[place];
+    let Some(total) = consumer.granted.checked_add(permits) else {
+        return Err(TooManyPermits);
+    };
+    if total > MOST_PERMITS {
+        return Err(TooManyPermits);
+    }
+    consumer.granted = total;
+    Ok(())
+}
+
+/// A place, if it is before the end.
+fn place_before(end: usize, place: Option<usize>) -> Option<usize>
+    ensures { result ≡ place_before end place }
+{
+    match place {
+        Some(place) if place < end => Some(place),
+        _ => None,
+    }
+}
+
+/// Drops the consumers of the session.
+fn forget_session(consumers: &mut Vec<Consumer>, who: u64)
+    ensures { consumers.new.items ≡ filter (λ c. not (nat_eq c.key.session who)) consumers.old.items }
+{
+    consumers.retain(|c| c.key.session != who);
+}
+
+/// Drops the consumer.
+fn forget_consumer(consumers: &mut Vec<Consumer>, key: ConsumerKey)
+    ensures { consumers.new.items ≡ filter (λ c. not (is_consumer key c)) consumers.old.items }
+{
+    consumers.retain(|c| c.key != key);
+}
+
+/// Each consumer that has a place has the one where it stands first from now on.
+fn number(places: &mut Directory, consumers: &[Consumer])
+    ensures { (k : Key) → place_in places.new k ≡ numbered (position (is_consumer k) consumers.now) (place_in places.old k) }
+{
+    let mut place = consumers.len();
+    while place > 0 {
+        place -= 1;
+        let consumer = consumers[place];
+        places.set(consumer.key, Some(place));
+    }
+}
