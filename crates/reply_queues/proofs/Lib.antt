@@ -1,3 +1,4 @@
+pub mod Distinct
 pub mod Lists
 pub mod Places
 pub mod Sessions

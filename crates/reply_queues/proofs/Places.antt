@@ -15,11 +15,11 @@ use Rattle.reply_queues.specs.Replies.{SessionReplies, is_for, due_to, with_pend
 abbrev pub made : ℕ → Reply → SessionReplies
 made who r = record { session = who; due = []; pending = r ∷ []; handed_on = 0 }
 
-or_first : (a b : Bool) → (a || b) ≡ false → a ≡ false
+pub or_first : (a b : Bool) → (a || b) ≡ false → a ≡ false
 or_first true b h = h
 or_first false b h = refl
 
-or_rest : (a b : Bool) → (a || b) ≡ false → b ≡ false
+pub or_rest : (a b : Bool) → (a || b) ≡ false → b ≡ false
 or_rest true b h = absurd (true≢false h)
 or_rest false b h = h
 

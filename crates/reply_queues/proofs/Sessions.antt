@@ -1,11 +1,12 @@
 -- The numbers of the sessions, beside their queues.
-use Rattle.std.proofs.Common.{◌≡◌, ℕ, zero, suc, ◌+◌, ◌-◌, ◌<◌, Bool, true, false, cond, ◌||◌, not, nat_eq, nat_lt, Option, Some, None, List, [], ◌∷◌, ◌++◌, length, take, map, filter, get_or, set, refl, ap, sym, ◌∙◌, arith}
+use Rattle.std.proofs.Common.{◌≡◌, ℕ, zero, suc, ◌+◌, ◌-◌, Bool, true, false, cond, ◌||◌, not, nat_eq, nat_lt, Option, Some, None, List, [], ◌∷◌, ◌++◌, length, take, map, filter, get_or, set, refl, ap, sym, ◌∙◌, arith}
 use Rattle.std.specs.Prelude.{OnOk, IfNone, IfSome, Result, Ok, Err}
-use Rattle.std.specs.List.{list_any, position, position_or_len}
+use Rattle.std.specs.List.{IsDistinct, list_any, position, position_or_len}
 use Rattle.std.proofs.lemmas.List.{length-map}
 use Rattle.commands.specs.declared.reply.Reply.{Reply}
 use Rattle.reply_queues.specs.Replies.{SessionReplies, is_for, due_to, with_pending, queued, without_first, collected_from}
 use Rattle.std.specs.declared.alloc.AllocError.{AllocError}
+use Rattle.reply_queues.proofs.Distinct.{distinct-more}
 use Rattle.reply_queues.proofs.Places.{IsPlace, is_place, queued-at}
 
 -- of each queue
@@ -26,6 +27,10 @@ pub place-among : (who : ℕ) (qs : List SessionReplies) → position (λ s. nat
 place-among who qs =
     ap (λ n. cond (nat_lt n (length (sessions_of qs))) (Some n) None) (or_len who qs)
     ∙ ap (λ n. cond (nat_lt (position_or_len (is_for who) qs) n) (Some (position_or_len (is_for who) qs)) None) (length-map qs (λ q. q.session))
+
+pub any-among : (who : ℕ) (qs : List SessionReplies) → list_any (λ s. nat_eq s who) (sessions_of qs) ≡ list_any (is_for who) qs
+any-among who [] = refl
+any-among who (q ∷ qs) = ap (λ b. is_for who q || b) (any-among who qs)
 
 pub sessions-collected : (who : ℕ) (qs : List SessionReplies) → sessions_of (collected_from who qs) ≡ sessions_of qs
 sessions-collected who [] = refl
@@ -59,6 +64,12 @@ sessions-take zero qs = refl
 sessions-take (suc n) [] = refl
 sessions-take (suc n) (q ∷ qs) = ap (λ ss. q.session ∷ ss) (sessions-take n qs)
 
+-- without the last of them
+pub sessions-front : (n m : ℕ) (ss ss' : List ℕ) (qs qs' : List SessionReplies) → n ≡ length ss → m ≡ length qs → ss ≡ sessions_of qs → ss' ≡ take (n - 1) ss → qs' ≡ take (m - 1) qs → ss' ≡ sessions_of qs'
+sessions-front n m ss ss' qs qs' numbers queues is front rest =
+    let same : n ≡ m = numbers ∙ ap length is ∙ length-map qs (λ q. q.session) ∙ sym queues in
+    front ∙ ap (λ k. take (k - 1) ss) same ∙ ap (λ xs. take (m - 1) xs) is ∙ sessions-take (m - 1) qs ∙ ap (λ xs. sessions_of xs) (sym rest)
+
 pub sessions-without : (who : ℕ) (qs : List SessionReplies) → filter (λ s. not (nat_eq s who)) (sessions_of qs) ≡ sessions_of (filter (λ q. not (is_for who q)) qs)
 sessions-without who [] = refl
 sessions-without who (q ∷ qs) = elim (nat_eq q.session who) as (λ b. cond (not b) (q.session ∷ filter (λ s. not (nat_eq s who)) (sessions_of qs)) (filter (λ s. not (nat_eq s who)) (sessions_of qs))
@@ -78,6 +89,14 @@ found-any who qs i found = let d : SessionReplies = record { session = 0; due = 
 pub sessions-one-more : (qs : List SessionReplies) (q : SessionReplies) → sessions_of (qs ++ q ∷ []) ≡ sessions_of qs ++ q.session ∷ []
 sessions-one-more [] q = refl
 sessions-one-more (x ∷ qs) q = ap (λ ss. x.session ∷ ss) (sessions-one-more qs q)
+
+-- one more session, that had no queue
+pub one-more : (ss : List ℕ) (qs : List SessionReplies) (q : SessionReplies) (who : ℕ) → (ss ≡ sessions_of qs) × IsDistinct nat_eq ss → q.session ≡ who → list_any (is_for who) qs ≡ false
+    → (ss ++ who ∷ [] ≡ sessions_of (qs ++ q ∷ [])) × IsDistinct nat_eq (ss ++ who ∷ [])
+one-more ss qs q who holds its none = (
+  ap (λ xs. xs ++ who ∷ []) holds.0 ∙ ap (λ s. sessions_of qs ++ s ∷ []) (sym its) ∙ sym (sessions-one-more qs q),
+  distinct-more ss who holds.1 (ap (λ xs. list_any (λ s. nat_eq s who) xs) holds.0 ∙ any-among who qs ∙ none),
+)
 
 pub pushed-at : (who : ℕ) (r : Reply) (qs : List SessionReplies) (i : ℕ) (q new : SessionReplies) (result : Result (Unit {0}) AllocError) → position (is_for who) qs ≡ Some i → q ≡ get_or qs i q
     → OnOk result (new ≡ with_pending r q) → OnOk result (set qs i new ≡ queued who r qs)

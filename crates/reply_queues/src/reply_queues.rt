@@ -1,6 +1,6 @@
 // The queues of all sessions.
-ghost use Rattle.std.specs.Prelude.{◌≡◌, ◌<◌, ◌≤◌, ℕ, List, [], ◌∷◌, length, map, filter, position, not, nat_eq, true, Some, IfOk, IfNone, IfSome, OnOk, OnErr};
-ghost use Rattle.std.specs.List.{AllByRecursion, list_all, list_any};
+ghost use Rattle.std.specs.Prelude.{◌≡◌, ◌<◌, ◌≤◌, ℕ, List, [], ◌∷◌, get_or, length, map, filter, position, not, nat_eq, true, Some, IfOk, IfNone, IfSome, OnOk, OnErr};
+ghost use Rattle.std.specs.List.{AllByRecursion, IsDistinct, list_all, list_any};
 ghost use Rattle.commands.specs.declared.reply.Reply.{Reply};
 ghost use Rattle.reply_queues.specs.Replies.{SessionReplies, is_for, due_to, queued, collected_from, hand_on, make_due, take_back, refuse_pending};
 
@@ -10,23 +10,25 @@ use std::alloc::{AllocError, Global};
 use std::marker::Model;
 
 /// What a topic owes to its sessions, in the order in which each was first owed something. Beside the queues stand their sessions'
-/// numbers alone, since these are looked for with each reply.
+/// numbers alone, since these are looked for with each reply, and for 64 of them where they were last found.
 #[derive(Drop)]
 pub struct ReplyQueues {
     alloc: Global,
     sessions: Vec<u64>,
+    hints: [usize; 64],
     queues: Vec<ReplyQueue>,
 }
 
 impl Model for ReplyQueues {
-    ghost use Rattle.std.specs.Prelude.{◌≡◌, List, map};
+    ghost use Rattle.std.specs.Prelude.{◌≡◌, List, map, nat_eq};
+    ghost use Rattle.std.specs.List.{IsDistinct};
     ghost use Rattle.reply_queues.specs.Replies.{SessionReplies};
 
     ghost Value = { List SessionReplies };
 
     ghost view = { λ q. q.queues.items };
 
-    ghost invariant = { λ q. q.sessions.items ≡ map (λ r. r.session) q.queues.items };
+    ghost invariant = { λ q. (q.sessions.items ≡ map (λ r. r.session) q.queues.items) × IsDistinct nat_eq q.sessions.items };
 }
 
 impl ReplyQueues {
@@ -37,6 +39,7 @@ impl ReplyQueues {
         ReplyQueues {
             alloc,
             sessions: Vec::new(alloc),
+            hints: [0; 64],
             queues: Vec::new(alloc),
         }
     }
@@ -47,7 +50,7 @@ impl ReplyQueues {
         ensures made { IfOk result (λ made. made ≡ not (list_any (is_for who) self.old)) }
         ensures err { OnErr result (self.new ≡ self.old) }
     {
-        let Some(place) = place_of(self.sessions.as_slice(), who) else {
+        let Some(place) = place_of(self.sessions.as_slice(), &mut self.hints, who) else {
             let queue = ReplyQueue::with_reply(self.alloc, who, reply)?;
             self.sessions.reserve(1)?;
             self.queues.push(queue)?;
@@ -68,7 +71,7 @@ impl ReplyQueues {
             let _ = self.sessions.pop();
             return;
         }
-        let Some(place) = place_of(self.sessions.as_slice(), who) else {
+        let Some(place) = place_of(self.sessions.as_slice(), &mut self.hints, who) else {
             return;
         };
         drop_last_at(&mut self.queues, place);
@@ -79,7 +82,7 @@ impl ReplyQueues {
         ensures none { IfNone result ((due_to who self.old ≡ []) × (self.new ≡ self.old)) }
         ensures some { IfSome result (λ reply. (due_to who self.old ≡ reply ∷ due_to who self.new) × (self.new ≡ collected_from who self.old)) }
     {
-        let place = place_of(self.sessions.as_slice(), who)?;
+        let place = place_of(self.sessions.as_slice(), &mut self.hints, who)?;
         take_at(&mut self.queues, place)
     }
 
@@ -127,11 +130,33 @@ impl ReplyQueues {
     }
 }
 
-/// Where the queue of a session stands.
-fn place_of(sessions: &[u64], who: u64) -> Option<usize>
+/// Whether a session's number stands here.
+fn is_at(sessions: &[u64], place: usize, who: u64) -> bool
+    ensures { result ≡ true → (place < length sessions.now) × (get_or sessions.now place 0 ≡ who) }
+{
+    place < sessions.len() && sessions[place] == who
+}
+
+/// Where a session's number stands among all.
+fn find(sessions: &[u64], who: u64) -> Option<usize>
     ensures { result ≡ position (λ session. nat_eq session who) sessions.now }
 {
     sessions.iter().position(|session| *session == who)
+}
+
+/// Where the queue of a session stands. It is looked for first where one of its slot was last found.
+fn place_of(sessions: &[u64], hints: &mut [usize; 64], who: u64) -> Option<usize>
+    requires { IsDistinct nat_eq sessions.now }
+    ensures { result ≡ position (λ session. nat_eq session who) sessions.now }
+{
+    let slot = (who % 64) as usize;
+    let hint = hints[slot];
+    if is_at(sessions, hint, who) {
+        return Some(hint);
+    }
+    let place = find(sessions, who)?;
+    hints[slot] = place;
+    Some(place)
 }
 
 /// One more reply awaits a flush, in the queue that stands here.

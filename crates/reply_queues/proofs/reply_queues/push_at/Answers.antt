@@ -1,7 +1,3 @@
-use Rattle.std.proofs.Common.{◌≡◌, ◌∙◌, ap, sym, set, Some, Ok, Err}
-use Rattle.std.specs.Result.{OnOk}
-use Rattle.reply_queues.specs.Replies.{with_pending, queued}
-use Rattle.reply_queues.proofs.Places.{queued-at, is_place}
 use Rattle.reply_queues.proofs.Sessions.{pushed-at}
 use Rattle.reply_queues.proofs.reply_queues.push_at.Goals as goal
 

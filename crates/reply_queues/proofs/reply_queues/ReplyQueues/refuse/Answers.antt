@@ -4,4 +4,4 @@ use Rattle.reply_queues.proofs.Sessions.{sessions_of, sessions-each}
 use Rattle.reply_queues.proofs.reply_queues.ReplyQueues.refuse.Goals as goal
 
 pub invariant_of-self : goal.invariant_of-self
-invariant_of-self c = c.self.invariant ∙ sym (sessions-each (λ q. refuse_pending q) (λ q. refl) c.self.inside.queues.items) ∙ ap (λ qs. sessions_of qs) (sym c.refuse_all.ensures)
+invariant_of-self c = (c.self.invariant.0 ∙ sym (sessions-each (λ q. refuse_pending q) (λ q. refl) c.self.inside.queues.items) ∙ ap (λ qs. sessions_of qs) (sym c.refuse_all.ensures), c.self.invariant.1)
