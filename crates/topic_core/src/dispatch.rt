@@ -1,4 +1,4 @@
-ghost use Rattle.std.specs.Prelude.{◌≡◌, ◌⊎◌, ◌<◌, ◌≤◌, ℕ, IfNone, Some, false, length, slice_get, Ok, IfOk, IfErr, IfSome, OnOk, OnErr, IsErr, IsErrOf};
+ghost use Rattle.std.specs.Prelude.{◌≡◌, ◌⊎◌, ◌<◌, ◌≤◌, ℕ, IfNone, Some, false, true, length, slice_get, Ok, IfOk, IfErr, IfSome, OnOk, OnErr, IsErr, IsErrOf};
 ghost use Rattle.disk.specs.Disk.{Same, Leaves, Kept, Failed};
 ghost use Rattle.gated_log.specs.declared.read_error.ReadError.TheVariants.{Device, NoMemory};
 ghost use Rattle.commands.specs.declared.reply.Reply.TheVariants.{Message};
@@ -38,6 +38,15 @@ pub enum AtHand {
 }
 
 impl TopicCore {
+    /// Whether there is no message for any consumer of a session. Changes nothing.
+    pub fn is_quiet(&mut self, who: u64) -> bool
+        ensures same { self.new ≡ self.old }
+        ensures none { result ≡ true → (id i : ℕ) → Admits self.old (key_of who id) i → ⊥ }
+        ensures goes_on { GoesOn self.old self.new }
+    {
+        self.failed || self.subs.is_quiet(who, self.committed)
+    }
+
     /// The position whose entry is a consumer's next message: one exactly where it may get one, which a dispatch then gives it.
     /// Changes nothing.
     fn pick(&mut self, who: u64, consumer_id: u64) -> Option<u64>
