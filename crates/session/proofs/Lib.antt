@@ -7,11 +7,14 @@ pub mod Causes
 pub mod Ends
 pub mod Leaving
 pub mod Names
+pub mod Noting
+pub mod Ordered
 pub mod Places
 pub mod Plays
 pub mod Reading
 pub mod Refusals
 pub mod Rising
+pub mod Searched
 pub mod Serving
 pub mod Speaking
 pub mod Unknown

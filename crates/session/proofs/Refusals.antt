@@ -33,12 +33,16 @@ producer_topic producers asked none =
     let third = none-rest (nat_le 64 (length producers)) TooManyRequests _ second in
     turned _ (none-first (not (is_topic_name asked.topic)) InvalidTopicName _ third)
 
+-- a SUBSCRIBE is of an id that isn't in use
+pub subscribe_fresh : (consumers : List Entry) (asked : Subscribe) → first_standing (own_refusals consumers asked) ≡ None → has_entry consumers asked.consumer_id ≡ false
+subscribe_fresh consumers asked none = none-first (has_entry consumers asked.consumer_id) NotAllowedError _ none
+
 -- what stands behind the first two refusals of a SUBSCRIBE
 third_row : (consumers : List Entry) (asked : Subscribe) (o : Option ServerError) →
     cond (has_entry consumers asked.consumer_id) (Some NotAllowedError) (cond (nat_le 64 (length consumers)) (Some TooManyRequests) o) ≡ None → o ≡ None
 third_row consumers asked o none = none-rest (nat_le 64 (length consumers)) TooManyRequests o (none-rest (has_entry consumers asked.consumer_id) NotAllowedError _ none)
 
--- so is a SUBSCRIBE
+-- and for a topic's name
 pub subscribe_topic : (consumers : List Entry) (asked : Subscribe) → first_standing (own_refusals consumers asked) ≡ None → is_topic_name asked.topic ≡ true
 subscribe_topic consumers asked none = turned _ (none-first (not (is_topic_name asked.topic)) InvalidTopicName _ (third_row consumers asked _ none))
 

@@ -1,15 +1,17 @@
 -- How serving one consumer ends.
-use Rattle.std.proofs.Common.{◌≡◌, inl, inr, ◌<◌, ◌≤◌, ℕ, suc, ◌+◌, ◌-◌, List, [], ◌∷◌, ◌++◌, length, take, drop, get_or, refl, sym, ap, ◌∙◌, subst, ◌⊎◌, Bool, true, false, Option, Some, None, Result, Ok, Err, arith}
-use Rattle.std.specs.Prelude.{nat_lt}
+use Rattle.std.proofs.Common.{◌≡◌, inl, inr, ◌<◌, ◌≤◌, ℕ, suc, ◌+◌, ◌-◌, List, [], ◌∷◌, ◌++◌, length, take, drop, get_or, refl, sym, ap, ◌∙◌, subst, ◌⊎◌, Bool, true, false, Option, Some, None, Result, Ok, Err, IfErr, arith}
+use Rattle.std.specs.Prelude.{nat_lt, Contains}
 use Rattle.std.proofs.Math.Seq.{take-suc, drop-cons}
 use Rattle.std.proofs.lemmas.List.{take-append-drop}
+use Rattle.std.proofs.lemmas.List.Elements.{All-head, All-tail, All-contains}
 use Rattle.session.specs.declared.fault.Fault.{Fault}
 use Rattle.gated_log.specs.declared.read_error.ReadError.{ReadError}
 use Rattle.gated_log.specs.declared.read_error.ReadError.TheVariants as read
 use Rattle.session.specs.declared.entry.Entry.{Entry}
-use Rattle.session.specs.Broker.{Broker}
+use Rattle.session.specs.Broker.{Broker, IsQuiet}
 use Rattle.session.specs.Client.{Client, Play, play, left_if}
-use Rattle.session.specs.Pumping.{Collects, HasNothingDue, pump_result, AdmitsNothing, Sends, IsTold, FindsNoMemory, SendsNothing, Serves, ServesEach, ServesUntil, ServesEachUntil, ServesAll, ServesIf, PumpIn, PumpStep}
+use Rattle.session.specs.Noting.{AreNoted, AreQuiet}
+use Rattle.session.specs.Pumping.{Collects, HasNothingDue, pump_result, AdmitsNothing, Sends, IsTold, FindsNoMemory, SendsNothing, Serves, ServesEach, ServesUntil, ServesEachUntil, ServesOne, ServesAll, ServesIf, PumpIn, PumpStep}
 use Rattle.session.specs.declared.pumping.PumpFault.{PumpFault}
 use Rattle.session.specs.declared.pumping.PumpFault.TheVariants.{Ended, Device, Damaged}
 use Rattle.session.specs.declared.pumping.More.{More}
@@ -44,7 +46,15 @@ module _ (R S : ReadError → Type 0) (more : (why : ReadError) → R why → S 
   pub serves_until-more : (consumer : Entry) (most : ℕ) (why : PumpFault) (a b : Play) → ServesUntil R consumer most why a b → ServesUntil S consumer most why a b
   serves_until-more consumer most why a b h = record { count = h.count; sends = h.sends; within = h.within; goes_on = h.goes_on; device = h.device; refused = more read.Device h.refused }
 
-  serves_all-more : (consumers : List Entry) (most : ℕ) (result : Result ℕ PumpFault) (a b : Play) → ServesAll R consumers most result a b → ServesAll S consumers most result a b
+  pub serves_one-more : (consumer : Entry) (most : ℕ) (result : Result ℕ PumpFault) (a b : Play) → ServesOne R consumer most result a b → ServesOne S consumer most result a b
+  serves_one-more consumer most (Ok n) a b h = serves-more consumer most n a b h
+  serves_one-more consumer most (Err why) a b h = serves_until-more consumer most why a b h
+
+  pub told-more : (result : Result ℕ PumpFault) → IfErr result (λ why. IsTold R why) → IfErr result (λ why. IsTold S why)
+  told-more (Ok n) h = tt
+  told-more (Err why) h = is_told-more why h
+
+  pub serves_all-more : (consumers : List Entry) (most : ℕ) (result : Result ℕ PumpFault) (a b : Play) → ServesAll R consumers most result a b → ServesAll S consumers most result a b
   serves_all-more consumers most (Ok n) a b h = serves_each-more consumers most n a b h
   serves_all-more consumers most (Err why) a b h = record {
     before = h.before;
@@ -113,6 +123,23 @@ module _ (Refused : ReadError → Type 0) where
     all = λ none few i a. admits-absent p.broker consumer.topic _ i h a;
   }
 
+  -- that is passed over, since its topic has nothing for the session
+  pub serves-passed : (consumer : Entry) (most : ℕ) (v : Client) (b b' : Broker) (out : List ℕ) → b' ≡ b → IsQuiet b consumer.topic v.number → Serves Refused consumer most 0 (play v b out) (play v b' out)
+  serves-passed consumer most v b b' out same quiet =
+      let nothing : Serves Refused consumer most 0 (play v b out) (play v b out) = record {
+        sent = play v b out;
+        sends = refl;
+        within = omega arith;
+        stops = inl refl;
+        all = λ none few i a. quiet consumer.id i a;
+      } in
+      subst (λ x. Serves Refused consumer most 0 (play v b out) (play v x out)) (sym same) nothing
+
+  -- by a broker that was only asked before
+  pub serves-asked : (consumer : Entry) (most : ℕ) (result : Result ℕ PumpFault) (v : Client) (b b' : Broker) (out : List ℕ) (new : Play) → b' ≡ b → ServesOne Refused consumer most result (play v b' out) new →
+      ServesOne Refused consumer most result (play v b out) new
+  serves-asked consumer most result v b b' out new same h = subst (λ x. ServesOne Refused consumer most result (play v x out) new) same h
+
   -- without a message more
   pub serves-stopped : (consumer : Entry) (most n : ℕ) (a m b : Play) → n ≤ most → Sends consumer n a m → SendsNothing Refused consumer m b → Serves Refused consumer most n a b
   serves-stopped consumer most n a m b within sends (inl nothing) = record {
@@ -150,6 +177,27 @@ module _ (Refused : ReadError → Type 0) where
     device = stops.0;
     refused = subst (IsTold Refused) stops.0 told;
   }
+
+  -- consumers of topics that are quiet are passed over
+  pub serves_each-quiet : (consumers : List Entry) (topics : List ℕ) (most : ℕ) (v : Client) (b : Broker) (out : List ℕ) → AreQuiet b v.number topics → AreNoted topics consumers →
+      ServesEach Refused consumers most 0 (play v b out) (play v b out)
+  serves_each-quiet [] topics most v b out quiet noted = (refl, refl)
+  serves_each-quiet (c ∷ cs) topics most v b out quiet noted =
+      let P : Entry → Type 0 = λ e. Contains topics e.topic in
+      let Q : ℕ → Type 0 = λ n. ServesEach Refused cs n 0 (play v b out) (play v b out) in
+      let first : IsQuiet b c.topic v.number = All-contains (λ t. IsQuiet b t v.number) topics c.topic quiet (All-head P c cs noted) in
+      (0, 0, play v b out, serves-passed c most v b b out refl first, subst Q (omega arith) (serves_each-quiet cs topics most v b out quiet (All-tail P c cs noted)), omega arith)
+
+  -- each consumer is passed over where each topic is quiet
+  pub serves_all-quiet : (consumers : List Entry) (topics : List ℕ) (most : ℕ) (v : Client) (b b' : Broker) (out : List ℕ) → b' ≡ b → AreQuiet b v.number topics → AreNoted topics consumers →
+      ServesEach Refused consumers most 0 (play v b out) (play v b' out)
+  serves_all-quiet consumers topics most v b b' out same quiet noted =
+      subst (λ x. ServesEach Refused consumers most 0 (play v b out) (play v x out)) (sym same) (serves_each-quiet consumers topics most v b out quiet noted)
+
+  -- by a broker that was only asked before
+  pub serves_all-asked : (consumers : List Entry) (most : ℕ) (result : Result ℕ PumpFault) (v : Client) (b b' : Broker) (out : List ℕ) (new : Play) → b' ≡ b → ServesAll Refused consumers most result (play v b' out) new →
+      ServesAll Refused consumers most result (play v b out) new
+  serves_all-asked consumers most result v b b' out new same h = subst (λ x. ServesAll Refused consumers most result (play v x out) new) same h
 
   -- the consumer at the next place is served
   pub serves_each-next : (consumers : List Entry) (place most n k : ℕ) (a m b : Play) (consumer other : Entry) → place < length consumers → consumer ≡ get_or consumers place other →

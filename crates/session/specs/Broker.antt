@@ -11,8 +11,8 @@ use Rattle.gated_log.specs.declared.read_error.ReadError.{ReadError}
 use Rattle.subscriptions.specs.declared.consumer.TooManyPermits.{TooManyPermits}
 use Rattle.topic_core.specs.State.{Topic, opened}
 use Rattle.reply_queues.specs.Replies.{due_to}
-use Rattle.topic_core.specs.Steps.{TopicStep, GrantStep, collected, left}
-use Rattle.topic_core.specs.Dispatch.{DispatchStep}
+use Rattle.topic_core.specs.Steps.{TopicStep, GrantStep, key_of, collected, left}
+use Rattle.topic_core.specs.Dispatch.{Admits, DispatchStep}
 use Rattle.session.specs.declared.port.Found.{Found}
 use Rattle.session.specs.declared.port.Found.TheVariants as found
 
@@ -106,6 +106,10 @@ pub record GrantAt (old : Broker) (number who id permits : ℕ) (result : Result
 pub record DispatchAt (old : Broker) (number who id : ℕ) (result : Result (Option Outgoing) ReadError) (new : Broker) : Type 0 where
   pub step : DispatchStep (topic_at old number) who id result (topic_at new number)
   pub others : new ≡ with_topic old number (topic_at new number)
+
+-- a topic admits no position for any consumer of a session
+abbrev pub IsQuiet : Broker → ℕ → ℕ → Type 0
+IsQuiet b number who = (id i : ℕ) → Admits (topic_at b number) (key_of who id) i → ⊥
 
 -- it is a MESSAGE for this consumer
 abbrev pub IsMessageFor : ℕ → Reply → Type 0

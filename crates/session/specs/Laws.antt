@@ -1,5 +1,5 @@
 -- What holds of every step of a session.
-use Rattle.std.specs.Prelude.{◌≡◌, ◌<◌, ℕ, ◌+◌, Bool, true, false, None, Some, List, [], ◌∷◌, Result, Ok, Err}
+use Rattle.std.specs.Prelude.{◌≡◌, ℕ, ◌+◌, Bool, true, false, None, Some, List, [], Result, Ok, Err}
 use Rattle.std.specs.List.{AllByRecursion}
 use Rattle.commands.specs.declared.command.Command.{Command}
 use Rattle.commands.specs.declared.command.Command.TheVariants as command
@@ -16,7 +16,7 @@ use Rattle.session.specs.Client.{Play, new_client, plain, Says, frames_of, AreBo
 use Rattle.session.specs.GivingBack.{CloseConsumerStep, RedeliverStep}
 use Rattle.session.specs.Working.{FrameStep, FeedStep}
 use Rattle.session.specs.Pumping.{HasNothingDue, AdmitsNothing, PumpStep}
-use Rattle.session.specs.declared.entry.Entry.{Entry}
+pub use Rattle.session.specs.Table.{AreRising}
 use Rattle.session.specs.declared.fault.Fault.{Fault}
 use Rattle.session.specs.declared.fault.Fault.TheVariants.{NoMemory}
 use Rattle.session.specs.declared.pumping.More.{More}
@@ -54,12 +54,7 @@ PumpsFinish = (old new : Play) → AnyPump old (Ok No) new → HasNothingDue new
 abbrev pub PumpsServe : Type 0
 PumpsServe = (old new : Play) → AnyPump old (Ok No) new → AllByRecursion (λ consumer. AdmitsNothing consumer new) new.client.consumers
 
--- the ids of the session's consumers rise
-abbrev pub AreRising : List Entry → Type 0
-AreRising [] = Unit {0}
-AreRising (entry ∷ entries) = AllByRecursion (λ other. entry.id < other.id) entries × AreRising entries
-
--- so a pump serves them in rising id
+-- the ids of the session's consumers rise, so a pump serves them in rising id
 pub record ConsumersRise : Type 0 where
   pub start : (number : ℕ) → AreRising (new_client number).consumers
   pub feed : (old : Play) (bytes : List ℕ) (result : Result (Unit {0}) Fault) (new : Play) → AnyFeed old bytes result new → AreRising old.client.consumers → AreRising new.client.consumers

@@ -8,5 +8,7 @@ pub mod Consuming
 pub mod GivingBack
 pub mod Lookup
 pub mod Working
+pub mod Asking
+pub mod Noting
 pub mod Pumping
 pub mod Laws

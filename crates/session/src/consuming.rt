@@ -1,20 +1,22 @@
-ghost use Rattle.std.specs.Prelude.{◌≡◌, ◌<◌, ◌≤◌, filter, nat_lt, position, Some, IsSome, IfSome, IfNone, OnOk, OnErr, vec_len, vec_capacity, length};
+ghost use Rattle.std.specs.Prelude.{◌≡◌, ◌<◌, List, ℕ, nat_lt, Some, true, false, IfSome, IfNone, OnOk, OnErr, length};
 ghost use Rattle.std.specs.List.{position_or_len};
 ghost use Rattle.commands.specs.declared.reply.Reply.TheVariants.{Error};
 ghost use Rattle.session.specs.declared.port.Found.TheVariants.{Topic};
 ghost use Rattle.topic_core.specs.Steps.{first_standing};
+ghost use Rattle.session.specs.declared.entry.Entry.{Entry as TheEntry};
 ghost use Rattle.session.specs.Broker.{Broker};
 ghost use Rattle.session.specs.Client.{Client, Play, play, plain, Says, Speaks};
 ghost use Rattle.session.specs.HashRanges.{ranges_of};
-ghost use Rattle.session.specs.Table.{topic_of, IsUnknown};
-ghost use Rattle.session.specs.Consuming.{is_live, mode_of, own_refusals, IsNamed, subscribe_command, is_later, with_entry, Subscribes, FoundStep, SubscribeOf, SubscribeStep, granting, FlowStep, RefusesAck, AckStep, UnsubscribeStep};
+ghost use Rattle.session.specs.Table.{has_entry, topic_of, IsUnknown};
+ghost use Rattle.session.specs.Consuming.{mode_of, own_refusals, IsNamed, subscribe_command, is_later, with_entry, Subscribes, FoundStep, SubscribeOf, SubscribeStep, granting, FlowStep, RefusesAck, AckStep, UnsubscribeStep};
 
+use crate::consumers::Consumers;
 use crate::entry::Entry;
 use crate::fault::Fault;
 use crate::hash_ranges::ranges_of;
 use crate::port::{Found, Port};
 use crate::session::Session;
-use crate::table::{has_entry, known_topic};
+use crate::table::{has_entry, if_there};
 use crate::topic_name::read_name;
 use commands::{Ack, Flow, Reply, ServerError, Subscribe, SubscriptionType, Unsubscribe};
 use holds::SlotRanges;
@@ -35,7 +37,7 @@ impl Session {
         ensures speaks { Speaks self.old out.old.items self.new out.new.items }
         ensures works { P.works port.old port.new }
     {
-        forget_dead(&mut self.consumers, self.number, port);
+        self.consumers.forget_dead(self.number, port);
         self.subscribe_new(asked, port, out)
     }
 
@@ -86,6 +88,7 @@ impl Session {
         out: &mut Vec<u8>,
     )
         requires there { topic < P.count port.old }
+        requires fresh { has_entry self.old.consumers asked.consumer_id ≡ false }
         requires named { IsNamed asked }
         ensures step { P.sole port.old → FoundStep (P.fails port.old port.new) (play self.old (P.broker port.old) out.old.items) asked (Topic topic)
             (play self.new (P.broker port.new) out.new.items) }
@@ -106,6 +109,7 @@ impl Session {
         out: &mut Vec<u8>,
     ) -> Result<(), AllocError>
         requires there { topic < P.count port.old }
+        requires fresh { has_entry self.old.consumers asked.consumer_id ≡ false }
         requires named { IsNamed asked }
         ensures ok { OnOk result (P.sole port.old → Subscribes (play self.old (P.broker port.old) out.old.items) topic asked
             (play self.new (P.broker port.new) out.new.items)) }
@@ -114,15 +118,14 @@ impl Session {
         ensures speaks { Speaks self.old out.old.items self.new out.new.items }
         ensures passes { P.passes port.old port.new }
     {
-        self.consumers.reserve(1)?;
-        let consumer_id = asked.consumer_id;
         let ranges = ranges_of(
             self.alloc,
             asked.subscription_type,
             asked.key_shared_meta.as_ref(),
         )?;
+        let place = self.consumers.insert(asked.consumer_id, topic)?;
         let answer = port.command(topic, self.number, subscribe_command(asked, ranges));
-        keep(&mut self.consumers, is_later(&answer), consumer_id, topic);
+        keep_if(&mut self.consumers, is_later(&answer), place);
         self.answer(&answer, out);
         Ok(())
     }
@@ -133,7 +136,7 @@ impl Session {
         ensures there { IfSome result (λ topic. topic < P.count port.now) }
         ensures unknown { IfNone result (IsUnknown self.now.consumers consumer_id (P.count port.now)) }
     {
-        known_topic(self.consumers.as_slice(), consumer_id, port)
+        if_there(self.consumers.topic_of(consumer_id), port)
     }
 
     /// Works FLOW ("PulsarApi.proto, CommandFlow").
@@ -218,23 +221,6 @@ impl Session {
     }
 }
 
-/// Whether the session still has this consumer on its topic.
-fn is_live<P: Port>(port: &P, who: u64, entry: &Entry) -> bool
-    ensures { P.sole port.now → result ≡ is_live (P.broker port.now) who entry.now }
-{
-    if entry.topic >= port.topics() {
-        return false;
-    }
-    port.has_consumer(entry.topic, who, entry.id)
-}
-
-/// Drops the consumers that the session doesn't have any more.
-fn forget_dead<P: Port>(consumers: &mut Vec<Entry>, who: u64, port: &P)
-    ensures { P.sole port.now → consumers.new.items ≡ filter (is_live (P.broker port.now) who) consumers.old.items }
-{
-    consumers.retain(|entry| is_live(port, who, entry));
-}
-
 fn mode_of(kind: SubscriptionType) -> Mode
     ensures { result ≡ mode_of kind }
 {
@@ -292,37 +278,13 @@ fn is_later(answer: &Answer) -> bool
     }
 }
 
-/// Keeps the topic of a consumer that was accepted, for which there is room, behind those with a smaller id.
-fn keep(consumers: &mut Vec<Entry>, accepted: bool, consumer_id: u64, topic: u64)
-    requires { vec_len consumers.old < vec_capacity consumers.old }
-    ensures { consumers.new.items ≡ with_entry consumers.old.items accepted consumer_id topic }
+/// Drops the consumer that was put at this place, where it wasn't accepted.
+fn keep_if(consumers: &mut Consumers, accepted: bool, place: usize)
+    requires { place < length consumers.old }
+    ensures { (earlier : List TheEntry) (id topic : ℕ) → place ≡ position_or_len (λ entry. nat_lt id entry.id) earlier → consumers.old ≡ with_entry earlier true id topic →
+        consumers.new ≡ with_entry earlier accepted id topic }
 {
-    if accepted {
-        let place = place_of(consumers.as_slice(), consumer_id);
-        consumers
-            .insert(
-                place,
-                Entry {
-                    id: consumer_id,
-                    topic,
-                },
-            )
-            .unwrap();
+    if !accepted {
+        consumers.remove(place);
     }
-}
-
-/// How many of the first consumers have no greater id.
-fn place_of(consumers: &[Entry], consumer_id: u64) -> usize
-    ensures place { result ≡ position_or_len (λ entry. nat_lt consumer_id entry.id) consumers.now }
-    ensures within { result ≤ length consumers.now }
-{
-    first_behind(consumers, consumer_id).unwrap_or(consumers.len())
-}
-
-/// Where the first consumer with a greater id stands.
-fn first_behind(consumers: &[Entry], consumer_id: u64) -> Option<usize>
-    ensures place { result ≡ position (λ entry. nat_lt consumer_id entry.id) consumers.now }
-    ensures within { IfSome result (λ place. place < length consumers.now) }
-{
-    consumers.iter().position(|entry| consumer_id < entry.id)
 }

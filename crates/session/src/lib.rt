@@ -4,6 +4,8 @@
 //! until none is left, and then hands out messages for its consumers until none is admitted, each up to a bound.
 #![tactic(auto)]
 
+mod asked;
+mod consumers;
 mod consuming;
 mod entry;
 mod fault;

@@ -1,7 +1,7 @@
-ghost use Rattle.std.specs.Prelude.{◌≡◌, ◌<◌, ◌≤◌, ℕ, length, IfSome, IfErr};
+ghost use Rattle.std.specs.Prelude.{◌≡◌, ◌<◌, ◌≤◌, ℕ, true, length, IfSome, IfErr};
 ghost use Rattle.gated_log.specs.declared.read_error.ReadError.{ReadError};
 ghost use Rattle.topic_core.specs.Steps.{has_producer, has_consumer, Fits};
-ghost use Rattle.session.specs.Broker.{Broker, topic_at, FindStep, IfFound, IfFailed, CommandStep, GrantAt, DispatchAt, SendsTo, PassesOver, CollectedAt, left_at};
+ghost use Rattle.session.specs.Broker.{Broker, topic_at, FindStep, IfFound, IfFailed, CommandStep, GrantAt, DispatchAt, SendsTo, IsQuiet, PassesOver, CollectedAt, left_at};
 
 use commands::Reply;
 use names::TopicName;
@@ -100,6 +100,13 @@ pub trait Port {
         ensures step { sole self.old → DispatchAt (broker self.old) topic who consumer_id result (broker self.new) }
         ensures sends { SendsTo consumer_id result }
         ensures refused { IfErr result (λ why. refuses self.old why self.new) }
+        ensures passes { passes self.old self.new };
+
+    /// Whether a topic has nothing for the consumers of a session. Changes nothing.
+    fn is_quiet(&mut self, topic: u64, who: u64) -> bool
+        requires { topic < count self.old }
+        ensures same { sole self.old → broker self.new ≡ broker self.old }
+        ensures none { sole self.old → result ≡ true → IsQuiet (broker self.old) topic who }
         ensures passes { passes self.old self.new };
 
     /// The first topic from this number on that may have something due to the session. Those that are passed over have nothing.

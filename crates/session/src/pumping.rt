@@ -1,9 +1,11 @@
 ghost use Rattle.std.specs.Prelude.{◌≡◌, ◌≢◌, ◌<◌, ◌≤◌, ℕ, true, false, None, Ok, [], IfSome, IfOk, IfErr};
 ghost use Rattle.session.specs.declared.pumping.PumpFault.TheVariants.{Device};
 ghost use Rattle.session.specs.Broker.{due_at, topic_at};
+ghost use Rattle.session.specs.Asking.{Knows};
 ghost use Rattle.session.specs.Client.{Client, Play, play, Speaks, Writes};
 ghost use Rattle.session.specs.Pumping.{CollectsFrom, CollectsNothing, CollectsAt, Collects, HasNothingDue, SendsOne, SendsNothing, ServesOne, ServesAll, ServesIf, PumpStep, IsTold, ended_by, pumped_fault};
 
+use crate::asked::{Asked, ask, first_busy};
 use crate::entry::Entry;
 use crate::fault::Fault;
 use crate::port::Port;
@@ -154,14 +156,35 @@ impl Session {
         ensures passes { P.passes port.old port.new }
     {
         if goes_on {
-            self.serve_each(port, out)
+            self.serve_all(port, out)
         } else {
             Ok(0)
         }
     }
 
-    /// Serves the session's consumers in rising id, and gives how many messages they got.
-    fn serve_each<P: Port>(&mut self, port: &mut P, out: &mut Vec<u8>) -> Result<usize, PumpFault>
+    /// Serves the session's consumers, unless each of their topics has nothing for them. Gives how many messages they got.
+    fn serve_all<P: Port>(&mut self, port: &mut P, out: &mut Vec<u8>) -> Result<usize, PumpFault>
+        ensures serves { P.sole port.old → ServesAll (λ why. P.refuses port.old why port.new) self.old.consumers 64 result (play self.old (P.broker port.old) out.old.items)
+            (play self.new (P.broker port.new) out.new.items) }
+        ensures refused { IfErr result (λ why. ended_by why ≡ None) }
+        ensures told { IfErr result (λ fault. IsTold (λ why. P.refuses port.old why port.new) fault) }
+        ensures speaks { Speaks self.old out.old.items self.new out.new.items }
+        ensures passes { P.passes port.old port.new }
+    {
+        let Some(busy) = first_busy(self.consumers.topics(), self.number, port) else {
+            return Ok(0);
+        };
+        self.serve_each(busy, port, out)
+    }
+
+    /// Serves the session's consumers in rising id, and gives how many messages they got. The topic that was asked last
+    /// may have something for them.
+    fn serve_each<P: Port>(
+        &mut self,
+        busy: u64,
+        port: &mut P,
+        out: &mut Vec<u8>,
+    ) -> Result<usize, PumpFault>
         ensures serves { P.sole port.old → ServesAll (λ why. P.refuses port.old why port.new) self.old.consumers 64 result (play self.old (P.broker port.old) out.old.items)
             (play self.new (P.broker port.new) out.new.items) }
         ensures refused { IfErr result (λ why. ended_by why ≡ None) }
@@ -170,11 +193,45 @@ impl Session {
         ensures passes { P.passes port.old port.new }
     {
         let mut count = 0;
+        let mut last = Some(Asked {
+            topic: busy,
+            is_quiet: false,
+        });
         for place in 0..self.consumers.len() {
-            let consumer = self.consumers[place];
-            count += self.serve(consumer, MOST_MESSAGES - count, port, out)?;
+            let consumer = self.consumers.at(place);
+            let room = MOST_MESSAGES - count;
+            count += self.serve_or_pass(consumer, &mut last, room, port, out)?;
         }
         Ok(count)
+    }
+
+    /// Passes a consumer over where its topic has nothing for the session's consumers, and serves it elsewhere. A topic that
+    /// isn't the one that was asked last is asked.
+    fn serve_or_pass<P: Port>(
+        &mut self,
+        consumer: Entry,
+        last: &mut Option<Asked>,
+        room: usize,
+        port: &mut P,
+        out: &mut Vec<u8>,
+    ) -> Result<usize, PumpFault>
+        ensures knows { P.sole port.old → Knows self.old.number (P.broker port.old) last.old → Knows self.new.number (P.broker port.new) last.new }
+        ensures most { IfOk result (λ count. count ≤ room) }
+        ensures serves { P.sole port.old → Knows self.old.number (P.broker port.old) last.old →
+            ServesOne (λ why. P.refuses port.old why port.new) consumer room result (play self.old (P.broker port.old) out.old.items)
+            (play self.new (P.broker port.new) out.new.items) }
+        ensures refused { IfErr result (λ why. ended_by why ≡ None) }
+        ensures told { IfErr result (λ fault. IsTold (λ why. P.refuses port.old why port.new) fault) }
+        ensures consumers { self.new.consumers ≡ self.old.consumers }
+        ensures speaks { Speaks self.old out.old.items self.new out.new.items }
+        ensures passes { P.passes port.old port.new }
+    {
+        let asked = ask(consumer.topic, self.number(), *last, port);
+        *last = Some(asked);
+        if asked.is_quiet {
+            return Ok(0);
+        }
+        self.serve(consumer, room, port, out)
     }
 
     /// Sends messages to a consumer, at most so many, and gives how many.

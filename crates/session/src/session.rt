@@ -2,6 +2,7 @@ ghost use Rattle.std.specs.Prelude.{◌≡◌, ◌<◌, ◌≤◌, is_some, leng
 ghost use Rattle.session.specs.Broker.{left_all};
 ghost use Rattle.session.specs.Client.{Client, new_client, ended, left_if, plain, Says, Answered, Speaks};
 
+use crate::consumers::Consumers;
 use crate::entry::Entry;
 use crate::fault::Fault;
 use crate::port::Port;
@@ -20,7 +21,7 @@ pub struct Session {
     pub(crate) parser: Parser,
     pub(crate) connected: bool,
     pub(crate) producers: Vec<Entry>,
-    pub(crate) consumers: Vec<Entry>,
+    pub(crate) consumers: Consumers,
     pub(crate) fault: Option<Fault>,
 }
 
@@ -29,7 +30,7 @@ impl Model for Session {
 
     ghost Value = { Client };
 
-    ghost view = { λ s. record { number = s.number; progress = s.parser; connected = s.connected; producers = s.producers.items; consumers = s.consumers.items; fault = s.fault } };
+    ghost view = { λ s. record { number = s.number; progress = s.parser; connected = s.connected; producers = s.producers.items; consumers = s.consumers; fault = s.fault } };
 }
 
 impl Session {
@@ -43,7 +44,7 @@ impl Session {
             parser: Parser::new(alloc),
             connected: false,
             producers: Vec::new(alloc),
-            consumers: Vec::new(alloc),
+            consumers: Consumers::new(alloc),
             fault: None,
         }
     }

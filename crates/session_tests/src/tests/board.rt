@@ -35,6 +35,8 @@ pub struct Board {
     pub due: Option<Reply>,
     /// What the next dispatches answer, the last one first: a message, or why there is none. Behind them there is no message.
     pub dispatches: Vec<Option<PumpFault>>,
+    /// How often it was asked whether a topic is quiet.
+    pub questions: u32,
     /// The session that left last.
     pub left: Option<u64>,
 }
@@ -47,6 +49,7 @@ impl Board {
             outage: None,
             due: None,
             dispatches: Vec::new(alloc),
+            questions: 0,
             left: None,
         }
     }
@@ -209,6 +212,11 @@ impl Port for Board {
             }
             Some(Some(PumpFault::Ended(_))) => Err(ReadError::NoMemory),
         }
+    }
+
+    fn is_quiet(&mut self, _topic: u64, _who: u64) -> bool {
+        self.questions = self.questions.saturating_add(1);
+        self.dispatches.is_empty()
     }
 
     fn next_due(&self, _who: u64, from: u64) -> Option<u64> {

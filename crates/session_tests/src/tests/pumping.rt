@@ -148,3 +148,23 @@ fn a_pump_sends_sixty_four_messages(rt: HostRuntime) -> Result<(), Fail> {
     assert_eq!(rt; went?, ([Ok(More::Yes), Ok(More::No)], [64 * 34, 1], true));
     Ok(())
 }
+
+// How two pumps went for two consumers of a topic that has one message, how many questions had come after each, and what the first
+// one handed out.
+fn asks(stage: &mut Stage) -> Result<([Result<More, PumpFault>; 2], [u32; 2], bool), Fault> {
+    stage.begin(&[SUBSCRIBE, SUBSCRIBE_NEXT], &[None])?;
+    let first = stage.pumped()?;
+    let handed_out = stage.out.as_slice() == MESSAGE;
+    let once = stage.board.questions;
+    let second = stage.pumped()?;
+    Ok(([first, second], [once, stage.board.questions], handed_out))
+}
+
+#[test]
+fn a_pump_asks_the_topic_of_two_consumers_once(rt: HostRuntime) -> Result<(), Fail> {
+    let mut stage = Stage::new(rt.alloc());
+    let went = asks(&mut stage);
+    drop(stage);
+    assert_eq!(rt; went?, ([Ok(More::No); 2], [1, 2], true));
+    Ok(())
+}

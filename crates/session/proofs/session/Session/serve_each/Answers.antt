@@ -11,23 +11,24 @@ use Rattle.session.proofs.session.Session.serve_each.Goals as goal
 pub loop-place-preserved : goal.loop-place-preserved
 loop-place-preserved g c =
     let i = c.loop-place.invariant in
-    let e = c.serve.ensures in
+    let e = c.serve_or_pass.ensures in
     let place = c.loop-place.place in
-    let one = c.index-consumer.result.now in
+    let one = c.at-consumer.result in
     let port = g.met.P.Port in
-    let Told : ReadError → Type 0 = λ why. g.P.Port.refuses c.args.port.now why c.serve.new.port in
-    let earlier : (why : ReadError) → g.P.Port.refuses c.args.port.now why c.loop-place.port → Told why = λ why h. port.refuses_within c.args.port.now c.args.port.now c.loop-place.port c.serve.new.port why (port.passes_nothing c.args.port.now) i.passes e.passes h in
-    let later : (why : ReadError) → g.P.Port.refuses c.loop-place.port why c.serve.new.port → Told why = λ why h. port.refuses_within c.args.port.now c.loop-place.port c.serve.new.port c.serve.new.port why i.passes e.passes (port.passes_nothing c.serve.new.port) h in
+    let Told : ReadError → Type 0 = λ why. g.P.Port.refuses c.args.port.now why c.serve_or_pass.new.port in
+    let earlier : (why : ReadError) → g.P.Port.refuses c.args.port.now why c.loop-place.port → Told why = λ why h. port.refuses_within c.args.port.now c.args.port.now c.loop-place.port c.serve_or_pass.new.port why (port.passes_nothing c.args.port.now) i.passes e.passes h in
+    let later : (why : ReadError) → g.P.Port.refuses c.loop-place.port why c.serve_or_pass.new.port → Told why = λ why h. port.refuses_within c.args.port.now c.loop-place.port c.serve_or_pass.new.port c.serve_or_pass.new.port why i.passes e.passes (port.passes_nothing c.serve_or_pass.new.port) h in
     record {
       most = omega (arith, c.in_ok-count.ensures.most);
       serves = λ s.
           let within : place < length c.args.self.now.consumers =
           omega (arith, c.loop-place-test.true, c.len-place-end.ensures, ap (λ (v : Client). length v.consumers) c.self.view_is) in
           let is : one ≡ get_or c.args.self.now.consumers place one =
-          c.index-consumer.ensures ∙ ap (λ (xs : List Entry). get_or xs place one) (ap (λ (v : Client). v.consumers) c.self-in-loop-place.view_is ∙ i.consumers) in
+          c.at-consumer.ensures ∙ ap (λ (xs : List Entry). get_or xs place one) (ap (λ (v : Client). v.consumers) c.self-in-loop-place.view_is ∙ i.consumers) in
           rw add-one (serves_each-next Told c.args.self.now.consumers place 64 c.loop-place.count c.in_ok-count.field-0 _ _ _ one one within is
-          (serves_each-more _ Told earlier _ _ _ _ _ (i.serves s)) (serves-more _ Told later _ _ _ _ _ (c.in_ok-count.ensures.serves (port.passes_sole _ _ i.passes s))));
+          (serves_each-more _ Told earlier _ _ _ _ _ (i.serves s)) (serves-more _ Told later _ _ _ _ _ (c.in_ok-count.ensures.serves (port.passes_sole _ _ i.passes s) (i.knows s))));
       consumers = e.consumers ∙ i.consumers;
+      knows = λ s. e.knows (port.passes_sole _ _ i.passes s) (i.knows s);
       speaks = speaks_both _ _ _ _ _ _ i.speaks e.speaks;
       passes = g.met.P.Port.passes_both _ _ _ i.passes e.passes;
     }
@@ -36,22 +37,22 @@ pub returns-in_err-count-clause-serves : goal.returns-in_err-count-clause-serves
 returns-in_err-count-clause-serves g c = λ s.
     let i = c.loop-place.invariant in
     let place = c.loop-place.place in
-    let one = c.index-consumer.result.now in
+    let one = c.at-consumer.result in
     let within : place < length c.args.self.now.consumers =
     omega (arith, c.loop-place-test.true, c.len-place-end.ensures, ap (λ (v : Client). length v.consumers) c.self.view_is) in
     let is : one ≡ get_or c.args.self.now.consumers place one =
-    c.index-consumer.ensures ∙ ap (λ (xs : List Entry). get_or xs place one) (ap (λ (v : Client). v.consumers) c.self-in-loop-place.view_is ∙ i.consumers) in
+    c.at-consumer.ensures ∙ ap (λ (xs : List Entry). get_or xs place one) (ap (λ (v : Client). v.consumers) c.self-in-loop-place.view_is ∙ i.consumers) in
     let p = err_from_is_err_and c.from_residual.result c.from_residual.ensures.1 in
     let port = g.met.P.Port in
-    let e = c.serve.ensures in
-    let Told : ReadError → Type 0 = λ why. g.P.Port.refuses c.args.port.now why c.serve.new.port in
-    let earlier : (why : ReadError) → g.P.Port.refuses c.args.port.now why c.loop-place.port → Told why = λ why h. port.refuses_within c.args.port.now c.args.port.now c.loop-place.port c.serve.new.port why (port.passes_nothing c.args.port.now) i.passes e.passes h in
-    let later : (why : ReadError) → g.P.Port.refuses c.loop-place.port why c.serve.new.port → Told why = λ why h. port.refuses_within c.args.port.now c.loop-place.port c.serve.new.port c.serve.new.port why i.passes e.passes (port.passes_nothing c.serve.new.port) h in
+    let e = c.serve_or_pass.ensures in
+    let Told : ReadError → Type 0 = λ why. g.P.Port.refuses c.args.port.now why c.serve_or_pass.new.port in
+    let earlier : (why : ReadError) → g.P.Port.refuses c.args.port.now why c.loop-place.port → Told why = λ why h. port.refuses_within c.args.port.now c.args.port.now c.loop-place.port c.serve_or_pass.new.port why (port.passes_nothing c.args.port.now) i.passes e.passes h in
+    let later : (why : ReadError) → g.P.Port.refuses c.loop-place.port why c.serve_or_pass.new.port → Told why = λ why h. port.refuses_within c.args.port.now c.loop-place.port c.serve_or_pass.new.port c.serve_or_pass.new.port why i.passes e.passes (port.passes_nothing c.serve_or_pass.new.port) h in
     rw (p.1, p.2) (serves_each-refused Told c.args.self.now.consumers place 64 c.loop-place.count _ _ _ _ one one within is
-    (serves_each-more _ Told earlier _ _ _ _ _ (i.serves s)) (serves_until-more _ Told later _ _ _ _ _ (c.in_err-count.ensures.serves (port.passes_sole _ _ i.passes s))))
+    (serves_each-more _ Told earlier _ _ _ _ _ (i.serves s)) (serves_until-more _ Told later _ _ _ _ _ (c.in_err-count.ensures.serves (port.passes_sole _ _ i.passes s) (i.knows s))))
 
 pub returns-in_err-count-clause-speaks : goal.returns-in_err-count-clause-speaks
-returns-in_err-count-clause-speaks g c = speaks_both _ _ _ _ _ _ c.loop-place.invariant.speaks c.serve.ensures.speaks
+returns-in_err-count-clause-speaks g c = speaks_both _ _ _ _ _ _ c.loop-place.invariant.speaks c.serve_or_pass.ensures.speaks
 
 pub returns-clause-serves : goal.returns-clause-serves
 returns-clause-serves g c = λ s.

@@ -1,10 +1,13 @@
 use Rattle.std.proofs.Common.{◌∙◌, sym, refl, inl, rules}
 use Rattle.session.specs.declared.port.Found.TheVariants.{Topic, TooMany, NoMemory, Failed}
-use Rattle.session.proofs.Refusals.{subscribe_topic, subscribe_named}
+use Rattle.session.proofs.Refusals.{subscribe_fresh, subscribe_topic, subscribe_named}
 use Rattle.session.proofs.session.Session.subscribe_new.Goals as goal
 
 pub read_name-requires : goal.read_name-requires
 read_name-requires g c = rw c.as_str.ensures (subscribe_topic c.args.self.now.consumers c.args.asked (sym c.own_consumer_refusal.ensures ∙ c.in_default.is))
+
+pub subscribe_on-requires-clause-fresh : goal.subscribe_on-requires-clause-fresh
+subscribe_on-requires-clause-fresh g c = subscribe_fresh c.args.self.now.consumers c.args.asked (sym c.own_consumer_refusal.ensures ∙ c.in_default.is)
 
 pub subscribe_on-requires-clause-named : goal.subscribe_on-requires-clause-named
 subscribe_on-requires-clause-named g c = subscribe_named c.args.self.now.consumers c.args.asked (sym c.own_consumer_refusal.ensures ∙ c.in_default.is)
