@@ -22,7 +22,7 @@ use Rattle.catalog.specs.Laws.{own_file, holds_stands}
 use Rattle.session.specs.Broker.{Broker, fresh, topic_at, sure, doubting, made}
 use Rattle.node.specs.declared.held.Held.{Held}
 use Rattle.node.specs.declared.topics.Topics.{Topics}
-use Rattle.node.specs.declared.uses.Uses.{Uses}
+use Rattle.node.specs.Uses.{Uses}
 use Rattle.node.specs.State.{Stage, Resting, stage_in}
 use Rattle.node.specs.Flights.{stage_of}
 use Rattle.node.specs.Numbers.{AreNumbered, IsNumbered}

@@ -14,8 +14,7 @@ use Rattle.session.specs.Broker.{Broker, fresh, PassesOver}
 use Rattle.session.proofs.Absent.{due_at-absent}
 use Rattle.topic_core.specs.State.{Topic}
 use Rattle.node.specs.declared.held.Held.{Held}
-use Rattle.node.specs.declared.uses.Uses.{Uses}
-use Rattle.node.specs.Uses.{is_used}
+use Rattle.node.specs.Uses.{Uses, is_used}
 use Rattle.node.specs.Lists.{get_push, get_at, at_map}
 use Rattle.node.specs.Opening.{AreJustOpened}
 use Rattle.node.specs.Passing.{each_with}

@@ -13,9 +13,9 @@ use Rattle.topic_core.specs.declared.command.TopicCommand.{TopicCommand}
 use Rattle.topic_core.specs.declared.command.Answer.{Answer}
 use Rattle.topic_core.specs.declared.dispatch.Outgoing.{Outgoing}
 use Rattle.topic_core.specs.State.{Topic}
-use Rattle.topic_core.specs.Dispatch.{DispatchStep}
-use Rattle.topic_core.specs.Steps.{TopicStep, Collects, GrantStep, left, collected}
-use Rattle.session.specs.Broker.{Broker, CommandStep, GrantAt, DispatchAt, CollectedAt, topic_at, with_topic, left_at}
+use Rattle.topic_core.specs.Dispatch.{Admits, DispatchStep}
+use Rattle.topic_core.specs.Steps.{TopicStep, Collects, GrantStep, key_of, left, collected}
+use Rattle.session.specs.Broker.{Broker, CommandStep, GrantAt, DispatchAt, IsQuiet, CollectedAt, topic_at, with_topic, left_at}
 use Rattle.node.specs.State.{Stage, Resting, Taken, Written, MayRefuse, MayRefuseOf, stage_in}
 use Rattle.node.specs.Flights.{phase_at}
 use Rattle.node.proofs.Frames.{same_topic}
@@ -41,6 +41,12 @@ module _ (old new : Broker) (number : ℕ) (t u : Topic) (was : topic_at old num
 
   pub dispatches : (who id : ℕ) (result : Result (Option Outgoing) ReadError) → DispatchStep t who id result u → DispatchAt old number who id result new
   dispatches who id result step = record { step = of_both (λ x y. DispatchStep x who id result y) step; others = others }
+
+  pub stays : u ≡ t → new ≡ old
+  stays same = becomes_as (λ x. x) same ∙ same_topic old number
+
+  pub quiet : (who : ℕ) → ((id i : ℕ) → Admits t (key_of who id) i → ⊥) → IsQuiet old number who
+  quiet who none = subst (λ x. (id i : ℕ) → Admits x (key_of who id) i → ⊥) (sym was) none
 
   pub collects : (who : ℕ) (result : Option Reply) → Collects t who result u → CollectedAt old number who result new
   collects who None step = (of_both (λ x y. due_to who x.queues ≡ []) step.0, becomes_as (λ x. x) step.1 ∙ same_topic old number)

@@ -1,13 +1,15 @@
 -- Where a session's entry stands among those of all, and what is used behind a change of it.
 use Rattle.std.proofs.Common.{◌≡◌, ◌≢◌, ◌⊎◌, inl, inr, ⊎_elim, ◌∙◌, ℕ, zero, suc, ◌<◌, ◌≤◌, Bool, true, false, cond, not, ◌||◌, nat_eq, nat_lt, Option, Some, None, List, [], ◌∷◌, ◌++◌, length, filter, get_or, set, refl, sym, ap, subst, arith}
 use Rattle.std.specs.Prelude.{IfSome}
-use Rattle.std.specs.List.{position, position_or_len, list_any}
+use Rattle.std.specs.List.{AllByRecursion, IsDistinct, position, position_or_len, list_any}
+use Rattle.std.proofs.lemmas.Bool.Decides.{nat_tests}
 use Rattle.std.proofs.lemmas.Bool.{true≢false, ltb-false, eqb-true, eq-eqb, cases_eq}
 use Rattle.std.proofs.lemmas.List.{get_or-set_same}
 use Rattle.std.proofs.lemmas.List.Quantifiers.{position-Some}
-use Rattle.std.proofs.lemmas.List.Sums.{fails_before_first}
+use Rattle.std.proofs.lemmas.List.Sums.{fails_before_first, position_or_len_is}
+use Rattle.std.proofs.lemmas.Map.Keys.{IsDistinct-head, IsDistinct-tail, IsDistinct-cons, apart_from_distinct}
 use Rattle.node.specs.declared.uses.SessionUse.{SessionUse}
-use Rattle.node.specs.Uses.{is_of, used_in}
+use Rattle.node.specs.Uses.{is_of, is_of_one, used_in}
 
 -- the session's entry stands at a place
 pub record IsPlace (who : ℕ) (us : List SessionUse) (i : ℕ) (d : SessionUse) : Type 0 where
@@ -141,6 +143,62 @@ set_fewer (x ∷ xs) zero zero is = absurd (true≢false (sym is))
 set_fewer (x ∷ xs) zero (suc at) is = is
 set_fewer (x ∷ xs) (suc k) zero is = is
 set_fewer (x ∷ xs) (suc k) (suc at) is = set_fewer xs k at is
+
+-- ---- each session has one entry
+
+-- where its entry stands it stands first
+pub place_here : (who : ℕ) (us : List SessionUse) (i : ℕ) (d : SessionUse) → IsDistinct is_of_one us → i < length us → (get_or us i d).session ≡ who → position (is_of who) us ≡ Some i
+place_here who us i d distinct low here =
+    let first : position_or_len (is_of who) us ≡ i = position_or_len_is (is_of who) us i d (omega (arith, low))
+    (λ k before. ap (λ w. nat_eq (get_or us k d).session w) (sym here) ∙ apart_from_distinct is_of_one us k i d distinct before low) (λ _. ap (λ s. nat_eq s who) here ∙ eq-eqb who who refl) in
+    let within : nat_lt i (length us) ≡ true = grind (arith, nat_tests, low) in
+    ap (λ n. cond (nat_lt n (length us)) (Some n) None) first ∙ ap (λ b. cond b (Some i) None) within
+
+pub distinct_none : IsDistinct is_of_one []
+unfolding IsDistinct
+distinct_none = tt
+
+-- its first entry is added
+all_added : (P : SessionUse → Type 0) (us : List SessionUse) (new : SessionUse) → AllByRecursion P us → P new → AllByRecursion P (us ++ new ∷ [])
+all_added P [] new all one = (one, tt)
+all_added P (u ∷ us) new all one = (all.0, all_added P us new all.1 one)
+
+pub distinct_added : (us : List SessionUse) (new : SessionUse) → IsDistinct is_of_one us → HasNone new.session us → IsDistinct is_of_one (us ++ new ∷ [])
+distinct_added [] new distinct none = IsDistinct-cons is_of_one new [] tt distinct_none
+distinct_added (u ∷ us) new distinct none = IsDistinct-cons is_of_one u (us ++ new ∷ [])
+    (all_added (λ x. is_of_one u x ≡ false) us new (IsDistinct-head is_of_one u us distinct) (none zero u (omega arith)))
+    (distinct_added us new (IsDistinct-tail is_of_one u us distinct) (rest_none new.session u us none))
+
+-- another entry of a session at its place
+all_set : (P : SessionUse → Type 0) (us : List SessionUse) (i : ℕ) (d new : SessionUse) → AllByRecursion P us → (P (get_or us i d) → P new) → AllByRecursion P (set us i new)
+all_set P [] i d new all to = tt
+all_set P (u ∷ us) zero d new all to = (to all.0, all.1)
+all_set P (u ∷ us) (suc i) d new all to = (all.0, all_set P us i d new all.1 to)
+
+pub distinct_set : (us : List SessionUse) (i : ℕ) (d new : SessionUse) → d ≡ get_or us i d → new.session ≡ d.session → IsDistinct is_of_one us → IsDistinct is_of_one (set us i new)
+distinct_set [] i d new read same distinct = distinct
+distinct_set (u ∷ us) zero d new read same distinct =
+    let its : new.session ≡ u.session = same ∙ ap (λ (x : SessionUse). x.session) read in
+    IsDistinct-cons is_of_one new us (subst (λ n. AllByRecursion (λ (x : SessionUse). nat_eq n x.session ≡ false) us) (sym its) (IsDistinct-head is_of_one u us distinct)) (IsDistinct-tail is_of_one u us distinct)
+distinct_set (u ∷ us) (suc i) d new read same distinct =
+    let its : new.session ≡ (get_or us i d).session = same ∙ ap (λ (x : SessionUse). x.session) read in
+    IsDistinct-cons is_of_one u (set us i new) (all_set (λ x. is_of_one u x ≡ false) us i d new (IsDistinct-head is_of_one u us distinct) (λ apart. ap (λ n. nat_eq u.session n) its ∙ apart))
+    (distinct_set us i d new read same (IsDistinct-tail is_of_one u us distinct))
+
+-- a session's entries go
+all_without : (P : SessionUse → Type 0) (test : SessionUse → Bool) (us : List SessionUse) → AllByRecursion P us → AllByRecursion P (filter test us)
+all_without P test [] all = all
+all_without P test (u ∷ us) all = elim (test u) as (λ b. AllByRecursion P (cond b (u ∷ filter test us) (filter test us))) [
+  | true ↦ (all.0, all_without P test us all.1)
+  | false ↦ all_without P test us all.1
+]
+
+pub distinct_without : (test : SessionUse → Bool) (us : List SessionUse) → IsDistinct is_of_one us → IsDistinct is_of_one (filter test us)
+distinct_without test [] distinct = distinct
+distinct_without test (u ∷ us) distinct = elim (test u) as (λ b. IsDistinct is_of_one (cond b (u ∷ filter test us) (filter test us))) [
+  | true ↦ IsDistinct-cons is_of_one u (filter test us) (all_without (λ x. is_of_one u x ≡ false) test us (IsDistinct-head is_of_one u us distinct)) (distinct_without test us (IsDistinct-tail is_of_one u us distinct))
+  | false ↦ distinct_without test us (IsDistinct-tail is_of_one u us distinct)
+]
 
 -- ---- a mark is set, or taken away
 

@@ -19,10 +19,9 @@ use Rattle.session.specs.Broker.{Broker, topic_at}
 use Rattle.node.specs.State.{State, Stage, MayRefuse, stage_in}
 use Rattle.node.specs.Naming.{IsFormed, Gains, Grows}
 use Rattle.node.specs.Flights.{stage_of, phase_at}
-use Rattle.node.specs.Uses.{is_used}
+use Rattle.node.specs.Uses.{Uses, is_used}
 use Rattle.node.specs.declared.held.Held.{Held}
 use Rattle.node.specs.declared.topics.Topics.{Topics}
-use Rattle.node.specs.declared.uses.Uses.{Uses}
 use Rattle.node.specs.declared.node.Node.{Node}
 
 -- The catalog's file stands for the broker's names; where a name is in doubt, for these or for that one too, and the files of its

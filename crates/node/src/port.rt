@@ -72,6 +72,10 @@ impl<T: TopicStore, S: Shelf> Port for Topics<T, S> {
         self.held[topic as usize].dispatch(&mut self.shelf, who, consumer_id)
     }
 
+    fn is_quiet(&mut self, topic: u64, who: u64) -> bool {
+        self.held[topic as usize].is_quiet(who)
+    }
+
     fn next_due(&self, who: u64, from: u64) -> Option<u64> {
         self.uses.next(who, from, self.count())
     }

@@ -1,9 +1,9 @@
 // What sessions ask of one topic of a node.
-ghost use Rattle.std.specs.Prelude.{◌≡◌, true, false, IfOk, IfErr, IfSome, IsErr};
+ghost use Rattle.std.specs.Prelude.{◌≡◌, ℕ, true, false, IfOk, IfErr, IfSome, IsErr};
 ghost use Rattle.disk.specs.Disk.{Same, Leaves, Kept};
 ghost use Rattle.topic_core.specs.Standing.{GoesOn};
-ghost use Rattle.topic_core.specs.Steps.{TopicStep, GrantStep, Collects, Fits, left};
-ghost use Rattle.topic_core.specs.Dispatch.{DispatchStep};
+ghost use Rattle.topic_core.specs.Steps.{TopicStep, GrantStep, Collects, Fits, key_of, left};
+ghost use Rattle.topic_core.specs.Dispatch.{Admits, DispatchStep};
 ghost use Rattle.session.specs.Broker.{SendsTo};
 ghost use Rattle.node.specs.Flights.{stage_of};
 ghost use Rattle.node.specs.State.{MayRefuseOf};
@@ -56,6 +56,16 @@ impl<T: TopicStore> Held<T> {
         ensures kept { Kept (S.disk shelf.old) (S.disk shelf.new) }
     {
         self.core.dispatch(&self.stores, shelf, who, consumer_id)
+    }
+
+    /// Whether there is no message for any consumer of a session. Changes nothing.
+    pub(crate) fn is_quiet(&mut self, who: u64) -> bool
+        ensures same { self.new.core ≡ self.old.core }
+        ensures none { result ≡ true → (id i : ℕ) → Admits self.old.core (key_of who id) i → ⊥ }
+        ensures goes_on { GoesOn self.old.core self.new.core }
+        ensures rest { (self.new.stores ≡ self.old.stores) × (self.new.flight ≡ self.old.flight) }
+    {
+        self.core.is_quiet(who)
     }
 
     /// Takes the first reply that is due to a session.

@@ -1,10 +1,10 @@
 // A topic with its shares.
-ghost use Rattle.std.specs.Prelude.{◌≡◌, ◌+◌, ◌<◌, ◌≤◌, false, true, length, IfOk, IfErr, IfSome, IsErr, IsErrOf};
+ghost use Rattle.std.specs.Prelude.{◌≡◌, ◌+◌, ◌<◌, ◌≤◌, ℕ, false, true, length, IfOk, IfErr, IfSome, IsErr, IsErrOf};
 ghost use Rattle.disk.specs.Disk.{Same, Leaves, Kept, Failed};
 ghost use Rattle.gated_log.specs.declared.read_error.ReadError.TheVariants.{Device};
 ghost use Rattle.topic_core.specs.State.{CountsStay};
 ghost use Rattle.topic_core.specs.Steps.{TopicStep, Collects, GrantStep, Fits, key_of, left, has_producer, has_consumer};
-ghost use Rattle.topic_core.specs.Dispatch.{DispatchStep, AtHandStep, IsAtHandFor, IsMessageTo};
+ghost use Rattle.topic_core.specs.Dispatch.{Admits, DispatchStep, AtHandStep, IsAtHandFor, IsMessageTo};
 ghost use Rattle.topic_core.specs.Soundness.{IsSound};
 ghost use Rattle.topic_core.specs.Standing.{GoesOn, Phase, Standing};
 ghost use Rattle.topic_lock.specs.Counting.{sends_of, receipts_collected, is_send, is_later};
@@ -173,6 +173,16 @@ impl<K: Tallies> CountedTopic<K> {
     {
         let CountedTopic { core, .. } = self;
         core.grant(who, consumer_id, permits)
+    }
+
+    /// Whether there is no message for any consumer of a session. Changes nothing.
+    pub fn is_quiet(&mut self, who: u64) -> bool
+        ensures same { self.new.core ≡ self.old.core }
+        ensures none { result ≡ true → (id i : ℕ) → Admits self.old.core (key_of who id) i → ⊥ }
+        ensures goes_on { GoesOn self.old.core self.new.core }
+    {
+        let CountedTopic { core, .. } = self;
+        core.is_quiet(who)
     }
 
     /// A message for a consumer, which holds it from then on, where its entry stands in memory. A refusal changes nothing.

@@ -77,6 +77,16 @@ impl<'t, T: TopicStore, S: Shelf + Drop, K: Tallies> Hold<'t, T, S, K> {
         answer
     }
 
+    /// Whether the topic has no message for any consumer of the session at this place, whose writer is woken when there may be one.
+    pub(crate) fn is_quiet(&mut self, place: u8, who: u64) -> bool {
+        let Hold { topic, .. } = self;
+        let is_quiet = topic.is_quiet(who);
+        if is_quiet {
+            topic.waiting.starve(place);
+        }
+        is_quiet
+    }
+
     /// What the topic has for a consumer of the connection at this place, whose writer is woken when there may be a message where there
     /// is none. An entry that isn't at hand is read only with the stores' lock.
     pub(crate) fn dispatch(

@@ -320,6 +320,13 @@ impl<'p, 'a, T: TopicStore, S: Shelf + Drop, K: Tallies, R: Wait> Port
         sent
     }
 
+    fn is_quiet(&mut self, topic: u64, who: u64) -> bool {
+        let mut hold = self.hold(topic, None);
+        let is_quiet = hold.is_quiet(self.seat.place, who);
+        self.keep(hold);
+        is_quiet
+    }
+
     fn next_due(&self, _who: u64, from: u64) -> Option<u64> {
         let topic = self.seat.first_used(from)?;
         if topic < self.topics() {

@@ -129,6 +129,10 @@ impl Port for Desk {
         Ok(None)
     }
 
+    fn is_quiet(&mut self, _topic: u64, _who: u64) -> bool {
+        true
+    }
+
     fn next_due(&self, _who: u64, from: u64) -> Option<u64> {
         if from == 0 && self.due > 0 {
             Some(0)

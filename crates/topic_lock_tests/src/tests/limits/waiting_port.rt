@@ -77,6 +77,11 @@ impl<'g, P: Port> Port for WaitingPort<'g, P> {
         port.dispatch(topic, who, consumer_id)
     }
 
+    fn is_quiet(&mut self, topic: u64, who: u64) -> bool {
+        let WaitingPort { port, .. } = self;
+        port.is_quiet(topic, who)
+    }
+
     fn next_due(&self, who: u64, from: u64) -> Option<u64> {
         self.port.next_due(who, from)
     }
