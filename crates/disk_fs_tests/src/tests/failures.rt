@@ -1,145 +1,101 @@
 // Calls of the system that fail, are interrupted, or move few bytes.
-use super::watched::{Call, Plan, Watched};
-use super::{FILE, OTHER, contents, empty_folder};
-use disk::{DeviceError, FileId, Shelf};
-use disk_fs::FsShelf;
+use super::steps::{Ask, Step};
+use super::watched::Call;
+use super::{FILE, OTHER, follow_by_plan};
 use std::io::ErrorKind;
 use std::test::Fail;
 
-// Whether each call of the shelf fails, on either file, and asks nothing of the system.
-fn has_given_up(shelf: &mut impl Shelf, plan: &Plan) -> bool {
-    let before = plan.total();
-    let mut buffer = [0; 1];
-    for file in [FILE, OTHER] {
-        if shelf.read(file, 0, &mut buffer) != Err(DeviceError)
-            || shelf.write_at(file, 0, b"a") != Err(DeviceError)
-            || shelf.cut(file, 0) != Err(DeviceError)
-            || shelf.sync(file) != Err(DeviceError)
-            || shelf.length(file) != Err(DeviceError)
-        {
-            return false;
-        }
-    }
-    plan.total() == before
-}
+const FAILED_SYNC: [Step; 4] = [
+    Step::Works(&[FILE], Ask::Write(0, b"abc")),
+    Step::Order(Call::SyncFile, 1, ErrorKind::Other),
+    Step::Fails(&[FILE], Ask::Sync),
+    Step::HasGivenUp,
+];
+
+const SYNCED_ANEW: [Step; 3] = [
+    Step::Works(&[FILE], Ask::Sync),
+    Step::Works(&[FILE], Ask::Length(3)),
+    Step::Works(&[FILE], Ask::Read(0, 3, *b"abc------")),
+];
 
 #[test]
 fn after_a_sync_that_failed_all_fails(rt: HostRuntime) -> Result<(), Fail> {
-    let plan = Plan::new();
-    let watched = Watched {
-        rt: &rt,
-        plan: &plan,
-    };
-    let folder = empty_folder(&rt, "disk_fs_sync")?;
-    let mut shelf = FsShelf::new(watched, rt.alloc(), folder.clone()?);
-    shelf.write_at(FILE, 0, b"abc")?;
-    plan.fail(Some(Call::SyncFile), 1, ErrorKind::Other);
-    assert_eq!(rt; shelf.sync(FILE), Err(DeviceError));
-    assert!(rt; has_given_up(&mut shelf, &plan));
-    drop(shelf);
-    let mut shelf = FsShelf::new(watched, rt.alloc(), folder);
-    shelf.sync(FILE)?;
-    assert_eq!(rt;
-        contents(rt.alloc(), &mut shelf, FILE)?.as_slice(),
-        b"abc".as_slice()
-    );
-    Ok(())
+    follow_by_plan(&rt, "disk_fs_sync", &[&FAILED_SYNC, &SYNCED_ANEW])
 }
+
+const FAILED_FOLDER_SYNC: [Step; 4] = [
+    Step::Order(Call::SyncFolder, 1, ErrorKind::Other),
+    Step::Fails(&[FILE], Ask::Write(0, b"abc")),
+    Step::HasFailed,
+    Step::HasGivenUp,
+];
+
+const WRITTEN_ANEW: [Step; 2] = [
+    Step::Works(&[FILE], Ask::Write(0, b"abc")),
+    Step::Works(&[FILE], Ask::Sync),
+];
 
 #[test]
 fn after_a_folder_sync_that_failed_all_fails(rt: HostRuntime) -> Result<(), Fail> {
-    let plan = Plan::new();
-    let watched = Watched {
-        rt: &rt,
-        plan: &plan,
-    };
-    let folder = empty_folder(&rt, "disk_fs_folder_sync")?;
-    let mut shelf = FsShelf::new(watched, rt.alloc(), folder.clone()?);
-    plan.fail(Some(Call::SyncFolder), 1, ErrorKind::Other);
-    assert_eq!(rt; shelf.write_at(FILE, 0, b"abc"), Err(DeviceError));
-    plan.has_failed()?;
-    assert!(rt; has_given_up(&mut shelf, &plan));
-    drop(shelf);
-    let mut shelf = FsShelf::new(watched, rt.alloc(), folder);
-    shelf.write_at(FILE, 0, b"abc")?;
-    shelf.sync(FILE)?;
-    Ok(())
+    follow_by_plan(
+        &rt,
+        "disk_fs_folder_sync",
+        &[&FAILED_FOLDER_SYNC, &WRITTEN_ANEW],
+    )
 }
+
+const FAILED_SYNC_BEFORE_A_CLOSE: [Step; 6] = [
+    Step::Works(&[FILE], Ask::Write(0, b"abc")),
+    Step::Works(&[4, 5, 6, 7, 8, 9, 10], Ask::Write(0, b"a")),
+    Step::Order(Call::SyncFile, 1, ErrorKind::StorageFull),
+    Step::Fails(&[OTHER], Ask::Write(0, b"a")),
+    Step::HasFailed,
+    Step::HasGivenUp,
+];
 
 #[test]
 fn after_a_sync_before_a_close_that_failed_all_fails(rt: HostRuntime) -> Result<(), Fail> {
-    let plan = Plan::new();
-    let watched = Watched {
-        rt: &rt,
-        plan: &plan,
-    };
-    let folder = empty_folder(&rt, "disk_fs_close_sync")?;
-    let mut shelf = FsShelf::new(watched, rt.alloc(), folder);
-    shelf.write_at(FILE, 0, b"abc")?;
-    for topic in 4..11 {
-        shelf.write_at(FileId::Segment { topic, number: 0 }, 0, b"a")?;
-    }
-    plan.fail(Some(Call::SyncFile), 1, ErrorKind::StorageFull);
-    assert_eq!(rt; shelf.write_at(OTHER, 0, b"a"), Err(DeviceError));
-    plan.has_failed()?;
-    assert!(rt; has_given_up(&mut shelf, &plan));
-    Ok(())
+    follow_by_plan(&rt, "disk_fs_close_sync", &[&FAILED_SYNC_BEFORE_A_CLOSE])
 }
+
+const OTHER_FAILURES: [Step; 16] = [
+    Step::Works(&[FILE], Ask::Write(0, b"abc")),
+    Step::Order(Call::Read, 1, ErrorKind::Other),
+    Step::Fails(&[FILE], Ask::Read(0, 3, *b"abc------")),
+    Step::Order(Call::Write, 1, ErrorKind::StorageFull),
+    Step::Fails(&[FILE], Ask::Write(3, b"d")),
+    Step::Order(Call::Length, 1, ErrorKind::Other),
+    Step::Fails(&[FILE], Ask::Length(3)),
+    Step::Order(Call::Length, 1, ErrorKind::Other),
+    Step::Fails(&[FILE], Ask::Cut(1)),
+    Step::Order(Call::SetLength, 1, ErrorKind::Other),
+    Step::Fails(&[FILE], Ask::Cut(1)),
+    Step::Order(Call::Open, 1, ErrorKind::PermissionDenied),
+    Step::Fails(&[OTHER], Ask::Length(0)),
+    Step::HasFailed,
+    Step::Works(&[FILE], Ask::Length(3)),
+    Step::Works(&[FILE], Ask::Read(0, 3, *b"abc------")),
+];
 
 #[test]
 fn any_other_failure_is_of_one_call(rt: HostRuntime) -> Result<(), Fail> {
-    let plan = Plan::new();
-    let watched = Watched {
-        rt: &rt,
-        plan: &plan,
-    };
-    let folder = empty_folder(&rt, "disk_fs_one")?;
-    let mut shelf = FsShelf::new(watched, rt.alloc(), folder);
-    shelf.write_at(FILE, 0, b"abc")?;
-    let mut buffer = [0; 3];
-    plan.fail(Some(Call::Read), 1, ErrorKind::Other);
-    assert_eq!(rt; shelf.read(FILE, 0, &mut buffer), Err(DeviceError));
-    plan.fail(Some(Call::Write), 1, ErrorKind::StorageFull);
-    assert_eq!(rt; shelf.write_at(FILE, 3, b"d"), Err(DeviceError));
-    plan.fail(Some(Call::Length), 1, ErrorKind::Other);
-    assert_eq!(rt; shelf.length(FILE), Err(DeviceError));
-    plan.fail(Some(Call::Length), 1, ErrorKind::Other);
-    assert_eq!(rt; shelf.cut(FILE, 1), Err(DeviceError));
-    plan.fail(Some(Call::SetLength), 1, ErrorKind::Other);
-    assert_eq!(rt; shelf.cut(FILE, 1), Err(DeviceError));
-    plan.fail(Some(Call::Open), 1, ErrorKind::PermissionDenied);
-    assert_eq!(rt; shelf.length(OTHER), Err(DeviceError));
-    plan.has_failed()?;
-    assert_eq!(rt;
-        contents(rt.alloc(), &mut shelf, FILE)?.as_slice(),
-        b"abc".as_slice()
-    );
-    Ok(())
+    follow_by_plan(&rt, "disk_fs_one", &[&OTHER_FAILURES])
 }
+
+// The read makes five calls: three of two bytes, one that is interrupted, and the end.
+const FEW_BYTES: [Step; 9] = [
+    Step::MoveAtMost(2),
+    Step::Order(Call::Write, 2, ErrorKind::Interrupted),
+    Step::Works(&[FILE], Ask::Write(0, b"abcdefg")),
+    Step::IsSpent,
+    Step::Made(Call::Write, 5),
+    Step::Order(Call::Read, 3, ErrorKind::Interrupted),
+    Step::Works(&[FILE], Ask::Read(1, 6, *b"bcdefg---")),
+    Step::IsSpent,
+    Step::Made(Call::Read, 5),
+];
 
 #[test]
 fn few_bytes_at_a_time_and_signals_change_nothing(rt: HostRuntime) -> Result<(), Fail> {
-    let plan = Plan::new();
-    let watched = Watched {
-        rt: &rt,
-        plan: &plan,
-    };
-    let folder = empty_folder(&rt, "disk_fs_few")?;
-    let mut shelf = FsShelf::new(watched, rt.alloc(), folder);
-    plan.move_at_most(2);
-    plan.fail(Some(Call::Write), 2, ErrorKind::Interrupted);
-    shelf.write_at(FILE, 0, b"abcdefg")?;
-    assert!(rt; !plan.is_armed());
-    assert_eq!(rt; plan.count(Call::Write), 5);
-    let mut buffer = [b'-'; 9];
-    plan.fail(Some(Call::Read), 3, ErrorKind::Interrupted);
-    assert_eq!(rt; shelf.read(FILE, 1, &mut buffer)?, 6);
-    assert!(rt; !plan.is_armed());
-    assert_eq!(rt;
-        plan.count(Call::Read),
-        5,
-        "three of two bytes, one interrupted, and the end"
-    );
-    assert_eq!(rt; buffer, *b"bcdefg---");
-    Ok(())
+    follow_by_plan(&rt, "disk_fs_few", &[&FEW_BYTES])
 }

@@ -1,140 +1,136 @@
 // Real files, and what isn't one.
-use super::{FILE, OTHER, contents, empty_folder};
-use disk::{DeviceError, Shelf, persist};
-use disk_fs::FsShelf;
+use super::steps::{Ask, Step};
+use super::{FILE, OTHER, empty_folder, follow_in_a_new_one, follow_over_files};
 use std::fs;
 use std::io::Read;
-use std::marker::Send;
 use std::test::Fail;
 
-fn is_sent<S: Send>(shelf: S) -> S {
-    shelf
-}
+const EACH_CALL: [Step; 11] = [
+    Step::Works(&[FILE], Ask::Length(0)),
+    Step::Works(&[FILE], Ask::Write(0, b"abcd")),
+    Step::Works(&[FILE], Ask::Cut(3)),
+    Step::Works(&[FILE], Ask::Sync),
+    Step::Works(&[FILE], Ask::Persist(1, b"xyz")),
+    Step::Works(&[FILE], Ask::Read(0, 4, *b"axyz-----")),
+    Step::Works(&[FILE], Ask::Read(1, 3, *b"xyz------")),
+    Step::Works(&[FILE], Ask::Read(4, 0, *b"---------")),
+    Step::Works(&[FILE], Ask::Read(9, 0, *b"---------")),
+    Step::Works(&[OTHER], Ask::Read(0, 0, *b"---------")),
+    Step::Works(&[FILE], Ask::Length(4)),
+];
 
 #[test]
 fn each_call_answers(rt: HostRuntime) -> Result<(), Fail> {
-    let folder = empty_folder(&rt, "disk_fs_answers")?;
-    let mut shelf = is_sent(FsShelf::new(&rt, rt.alloc(), folder));
-    assert_eq!(rt; shelf.length(FILE)?, 0);
-    shelf.write_at(FILE, 0, b"abcd")?;
-    shelf.cut(FILE, 3)?;
-    shelf.sync(FILE)?;
-    persist(&mut shelf, FILE, 1, b"xyz")?;
-    let mut buffer = [b'-'; 5];
-    assert_eq!(rt; shelf.read(FILE, 1, &mut buffer)?, 3);
-    assert_eq!(rt; buffer, *b"xyz--");
-    assert_eq!(rt; shelf.read(FILE, 4, &mut buffer)?, 0);
-    assert_eq!(rt; shelf.read(FILE, 9, &mut buffer)?, 0);
-    assert_eq!(rt; shelf.read(OTHER, 0, &mut buffer)?, 0);
-    assert_eq!(rt; buffer, *b"xyz--");
-    assert_eq!(rt; shelf.length(FILE)?, 4);
-    Ok(())
+    follow_in_a_new_one(&rt, "disk_fs_answers", &EACH_CALL)
 }
+
+const WRITTEN: [Step; 1] = [Step::Works(&[FILE], Ask::Persist(0, b"abc"))];
+
+const FOUND: [Step; 2] = [
+    Step::Works(&[FILE], Ask::Length(3)),
+    Step::Works(&[FILE], Ask::Read(0, 3, *b"abc------")),
+];
 
 #[test]
 fn a_file_stands_by_its_name_and_is_found_again(rt: HostRuntime) -> Result<(), Fail> {
-    let folder = empty_folder(&rt, "disk_fs_again")?;
-    let mut shelf = FsShelf::new(&rt, rt.alloc(), folder.clone()?);
-    persist(&mut shelf, FILE, 0, b"abc")?;
-    drop(shelf);
+    follow_in_a_new_one(&rt, "disk_fs_again", &WRITTEN)?;
     let mut file = fs::open(&rt, "disk_fs_again/t00003-e00000012.dat")?;
     let mut text = [b'-'; 4];
     assert_eq!(rt; file.read(&mut text)?, 3);
     assert_eq!(rt; text, *b"abc-");
-    let mut shelf = FsShelf::new(&rt, rt.alloc(), folder);
-    assert_eq!(rt;
-        contents(rt.alloc(), &mut shelf, FILE)?.as_slice(),
-        b"abc".as_slice()
-    );
-    Ok(())
+    follow_over_files(&rt, "disk_fs_again", &FOUND)
 }
+
+const OF_A_MISSING_FILE: [Step; 9] = [
+    Step::Works(&[FILE], Ask::Cut(0)),
+    Step::Works(&[FILE], Ask::Cut(7)),
+    Step::Works(&[FILE], Ask::Sync),
+    Step::Works(&[FILE], Ask::Length(0)),
+    Step::Works(&[FILE], Ask::Read(0, 0, *b"---------")),
+    Step::Stands("disk_fs_missing/t00003-e00000012.dat", false),
+    Step::Works(&[FILE], Ask::Write(0, b"")),
+    Step::Stands("disk_fs_missing/t00003-e00000012.dat", true),
+    Step::Works(&[FILE], Ask::Length(0)),
+];
 
 #[test]
 fn a_file_that_is_not_there_is_an_empty_one(rt: HostRuntime) -> Result<(), Fail> {
-    let folder = empty_folder(&rt, "disk_fs_missing")?;
-    let mut shelf = FsShelf::new(&rt, rt.alloc(), folder);
-    shelf.cut(FILE, 0)?;
-    shelf.cut(FILE, 7)?;
-    shelf.sync(FILE)?;
-    assert_eq!(rt; contents(rt.alloc(), &mut shelf, FILE)?.len(), 0);
-    assert!(rt; !fs::exists(&rt, "disk_fs_missing/t00003-e00000012.dat")?);
-    shelf.write_at(FILE, 0, b"")?;
-    assert!(rt; fs::exists(&rt, "disk_fs_missing/t00003-e00000012.dat")?);
-    assert_eq!(rt; shelf.length(FILE)?, 0);
-    Ok(())
+    follow_in_a_new_one(&rt, "disk_fs_missing", &OF_A_MISSING_FILE)
 }
+
+const CUTS: [Step; 6] = [
+    Step::Works(&[FILE], Ask::Write(0, b"abc")),
+    Step::Works(&[FILE], Ask::Cut(4)),
+    Step::Works(&[FILE], Ask::Cut(u64::MAX)),
+    Step::Works(&[FILE], Ask::Length(3)),
+    Step::Works(&[FILE], Ask::Cut(0)),
+    Step::Works(&[FILE], Ask::Length(0)),
+];
 
 #[test]
 fn a_cut_makes_no_file_longer(rt: HostRuntime) -> Result<(), Fail> {
-    let folder = empty_folder(&rt, "disk_fs_cut")?;
-    let mut shelf = FsShelf::new(&rt, rt.alloc(), folder);
-    shelf.write_at(FILE, 0, b"abc")?;
-    shelf.cut(FILE, 4)?;
-    shelf.cut(FILE, u64::MAX)?;
-    assert_eq!(rt; shelf.length(FILE)?, 3);
-    shelf.cut(FILE, 0)?;
-    assert_eq!(rt; shelf.length(FILE)?, 0);
-    Ok(())
+    follow_in_a_new_one(&rt, "disk_fs_cut", &CUTS)
 }
+
+const LONG: [Step; 5] = [
+    Step::Fails(&[FILE], Ask::Write(1 << 62, b"a")),
+    Step::Fails(&[FILE], Ask::Write(u64::MAX, b"ab")),
+    Step::Works(&[FILE], Ask::Length(0)),
+    Step::Works(&[FILE], Ask::Write(0, b"a")),
+    Step::Works(&[FILE], Ask::Length(1)),
+];
 
 #[test]
 fn no_file_gets_longer_than_it_may(rt: HostRuntime) -> Result<(), Fail> {
-    let folder = empty_folder(&rt, "disk_fs_long")?;
-    let mut shelf = FsShelf::new(&rt, rt.alloc(), folder);
-    assert_eq!(rt; shelf.write_at(FILE, 1 << 62, b"a"), Err(DeviceError));
-    assert_eq!(rt; shelf.write_at(FILE, u64::MAX, b"ab"), Err(DeviceError));
-    assert_eq!(rt; shelf.length(FILE)?, 0);
-    shelf.write_at(FILE, 0, b"a")?;
-    assert_eq!(rt; shelf.length(FILE)?, 1);
-    Ok(())
+    follow_in_a_new_one(&rt, "disk_fs_long", &LONG)
 }
+
+const NOWHERE: [Step; 3] = [
+    Step::Works(&[FILE], Ask::Length(0)),
+    Step::Fails(&[FILE], Ask::Write(0, b"a")),
+    Step::Works(&[FILE], Ask::Length(0)),
+];
 
 #[test]
 fn in_a_folder_that_is_not_there_writes_fail(rt: HostRuntime) -> Result<(), Fail> {
-    let folder = String::from_str(rt.alloc(), "disk_fs_no_such_folder")?;
-    let mut shelf = FsShelf::new(&rt, rt.alloc(), folder);
-    assert_eq!(rt; shelf.length(FILE)?, 0);
-    assert_eq!(rt; shelf.write_at(FILE, 0, b"a"), Err(DeviceError));
-    assert_eq!(rt; shelf.length(FILE)?, 0);
-    Ok(())
+    follow_over_files(&rt, "disk_fs_no_such_folder", &NOWHERE)
 }
 
-// Each call of the shelf fails.
-fn fails(shelf: &mut impl Shelf) -> bool {
-    let mut buffer = [0; 1];
-    shelf.read(FILE, 0, &mut buffer).is_err()
-        && shelf.write_at(FILE, 0, b"a").is_err()
-        && shelf.cut(FILE, 0).is_err()
-        && shelf.sync(FILE).is_err()
-        && shelf.length(FILE).is_err()
-}
+const ALL_FAIL: [Step; 5] = [
+    Step::Fails(&[FILE], Ask::Read(0, 0, *b"---------")),
+    Step::Fails(&[FILE], Ask::Write(0, b"a")),
+    Step::Fails(&[FILE], Ask::Cut(0)),
+    Step::Fails(&[FILE], Ask::Sync),
+    Step::Fails(&[FILE], Ask::Length(0)),
+];
+
+const ALL_FAIL_ON_ONE: [Step; 7] = [
+    Step::Fails(&[FILE], Ask::Read(0, 0, *b"---------")),
+    Step::Fails(&[FILE], Ask::Write(0, b"a")),
+    Step::Fails(&[FILE], Ask::Cut(0)),
+    Step::Fails(&[FILE], Ask::Sync),
+    Step::Fails(&[FILE], Ask::Length(0)),
+    Step::Works(&[OTHER], Ask::Write(0, b"a")),
+    Step::Works(&[OTHER], Ask::Length(1)),
+];
 
 #[test]
 fn a_folder_in_the_place_of_a_file_fails(rt: HostRuntime) -> Result<(), Fail> {
-    let folder = empty_folder(&rt, "disk_fs_folder")?;
+    empty_folder(&rt, "disk_fs_folder")?;
     fs::create_dir(&rt, "disk_fs_folder/t00003-e00000012.dat")?;
-    let mut shelf = FsShelf::new(&rt, rt.alloc(), folder);
-    assert!(rt; fails(&mut shelf));
-    shelf.write_at(OTHER, 0, b"a")?;
-    assert_eq!(rt; shelf.length(OTHER)?, 1);
-    Ok(())
+    follow_over_files(&rt, "disk_fs_folder", &ALL_FAIL_ON_ONE)
 }
 
 #[test]
 fn a_file_in_the_place_of_the_folder_fails(rt: HostRuntime) -> Result<(), Fail> {
-    let folder = empty_folder(&rt, "disk_fs_file")?;
+    empty_folder(&rt, "disk_fs_file")?;
     fs::write(&rt, "disk_fs_file/a", "text")?;
-    drop(folder);
-    let path = String::from_str(rt.alloc(), "disk_fs_file/a")?;
-    let mut shelf = FsShelf::new(&rt, rt.alloc(), path);
-    assert!(rt; fails(&mut shelf));
-    Ok(())
+    follow_over_files(&rt, "disk_fs_file/a", &ALL_FAIL)
 }
 
 #[test]
 fn an_empty_path_names_no_folder(rt: HostRuntime) -> Result<(), Fail> {
-    let mut shelf = FsShelf::new(&rt, rt.alloc(), String::new(rt.alloc()));
-    assert!(rt; fails(&mut shelf));
+    follow_over_files(&rt, "", &ALL_FAIL)?;
     assert!(rt; !fs::exists(&rt, "/t00003-e00000012.dat")?);
     Ok(())
 }

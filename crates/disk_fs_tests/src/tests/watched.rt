@@ -1,5 +1,5 @@
 // Real files, whose calls are counted, and of which one call can be told to fail.
-use std::alloc::{AllocError, Allocator};
+use std::alloc::Allocator;
 use std::cell::Cell;
 use std::fs::{Metadata, OpenFile, OpenOptions};
 use std::io;
@@ -71,14 +71,6 @@ impl Plan {
     /// Whether a failure is still to come.
     pub(crate) fn is_armed(&self) -> bool {
         self.failure.get().is_some()
-    }
-
-    /// An error where the ordered failure hasn't come. Then memory was refused before it.
-    pub(crate) fn has_failed(&self) -> Result<(), AllocError> {
-        if self.is_armed() {
-            return Err(AllocError);
-        }
-        Ok(())
     }
 
     /// From now on a read or a write moves so many bytes at most.

@@ -1,7 +1,9 @@
 // Which slot counts, and the first fault.
-use super::{Found, ONE, ZERO, found, lay, roomy};
+use super::steps::{Step, Tried};
+use super::{Found, ONE, ZERO, are_right};
 use disk::FileId;
 use gated_log::Refusal;
+use std::alloc::Global;
 use std::test::Fail;
 
 // An open header of a generation, so many empty bodies of three, and a closed gate.
@@ -35,9 +37,41 @@ fn damaged(file: FileId, offset: u64) -> Found {
 // A gate of the log is open, and no whole batch stands behind it.
 const HUGE: usize = 20;
 
+// Whether an opening finds this where these are the bytes of slots 0 and 1.
+fn finds<'a>(
+    tried: &mut Tried,
+    zero: &'a [u8],
+    one: &'a [u8],
+    expected: Found,
+) -> Result<bool, Refusal> {
+    let steps = [
+        Step::Lay(ZERO, zero),
+        Step::Lay(ONE, one),
+        Step::Finds(expected),
+    ];
+    Ok(tried.first_wrong(&steps)?.is_none())
+}
+
+// Both slots, and what an opening finds.
+type Case = ([u8; 32], [u8; 32], Found);
+
+fn is_right_in(tried: &mut Tried, case: &Case) -> Result<bool, Refusal> {
+    finds(tried, case.0.as_slice(), case.1.as_slice(), case.2)
+}
+
+// The first case in which it finds something else, by its number.
+fn first_case(alloc: Global, cases: &[Case]) -> Result<Option<usize>, Refusal> {
+    let mut tried = Tried::new(alloc)?;
+    for index in 0..cases.len() {
+        if !is_right_in(&mut tried, &cases[index])? {
+            return Ok(Some(index));
+        }
+    }
+    Ok(None)
+}
+
 #[test]
 fn the_greater_generation_counts(rt: HostRuntime) -> Result<(), Fail> {
-    let mut shelf = roomy(rt.alloc())?;
     let cases = [
         (log(1, 1), with(log(2, 2), 0, 0), Ok(1)),
         (with(log(3, 1), 0, 0), log(2, 2), Ok(2)),
@@ -46,17 +80,11 @@ fn the_greater_generation_counts(rt: HostRuntime) -> Result<(), Fail> {
         (log(3, 1), with(log(2, 2), HUGE, 0x7f), Ok(1)),
         (with(log(3, 1), HUGE, 0x7f), log(4, 2), Ok(2)),
     ];
-    for (zero, one, expected) in cases {
-        lay(&mut shelf, ZERO, &zero)?;
-        lay(&mut shelf, ONE, &one)?;
-        assert_eq!(rt; found(rt.alloc(), &mut shelf)?, expected);
-    }
-    Ok(())
+    are_right(first_case(rt.alloc(), &cases))
 }
 
 #[test]
 fn the_first_fault_is_told(rt: HostRuntime) -> Result<(), Fail> {
-    let mut shelf = roomy(rt.alloc())?;
     let closed = with(log(9, 1), 0, 0);
     let bad = with(log(3, 1), HUGE, 0x7f);
     let cases = [
@@ -79,25 +107,39 @@ fn the_first_fault_is_told(rt: HostRuntime) -> Result<(), Fail> {
         (closed, with(log(3, 1), 7, 2), Err(Refusal::Version)),
         (closed, bad, damaged(ONE, 16)),
     ];
-    for (zero, one, expected) in cases {
-        lay(&mut shelf, ZERO, &zero)?;
-        lay(&mut shelf, ONE, &one)?;
-        assert_eq!(rt; found(rt.alloc(), &mut shelf)?, expected);
+    are_right(first_case(rt.alloc(), &cases))
+}
+
+// How much of slot 1 stands, beside a slot 0 of one body, and what an opening finds.
+const CUT_SHORT: [(usize, Found); 4] = [
+    (0, Ok(1)),
+    (15, Ok(1)),
+    (
+        16,
+        Err(Refusal::Damaged {
+            file: ONE,
+            offset: 0,
+        }),
+    ),
+    (17, Ok(0)),
+];
+
+// The first length at which it finds something else.
+fn first_length(alloc: Global) -> Result<Option<usize>, Refusal> {
+    let mut tried = Tried::new(alloc)?;
+    for (len, expected) in CUT_SHORT {
+        let head = log(2, 0);
+        let one = head.get(..len).unwrap_or(&[]);
+        if !finds(&mut tried, &log(1, 1), one, expected)? {
+            return Ok(Some(len));
+        }
     }
-    Ok(())
+    Ok(None)
 }
 
 #[test]
 fn a_header_cut_short_is_closed(rt: HostRuntime) -> Result<(), Fail> {
-    let mut shelf = roomy(rt.alloc())?;
-    let bytes = log(2, 0);
-    let cases = [(0, Ok(1)), (15, Ok(1)), (16, damaged(ONE, 0)), (17, Ok(0))];
-    for (len, expected) in cases {
-        lay(&mut shelf, ZERO, &log(1, 1))?;
-        lay(&mut shelf, ONE, bytes.get(..len).unwrap_or(&[]))?;
-        assert_eq!(rt; found(rt.alloc(), &mut shelf)?, expected, "{len}");
-    }
-    Ok(())
+    are_right(first_length(rt.alloc()))
 }
 
 // The head of a log, or all of it.
@@ -172,12 +214,26 @@ fn beside_open(alone: Found, version_behind: Found, fault_behind: Found) -> [Fou
     ]
 }
 
-#[test]
-fn each_kind_of_header_in_both_slots(rt: HostRuntime) -> Result<(), Fail> {
-    let mut shelf = roomy(rt.alloc())?;
+// The first kind of slot 1 beside which an opening finds something else, by its number.
+fn first_kind(
+    tried: &mut Tried,
+    zero: &[u8],
+    answers: [Found; 15],
+) -> Result<Option<usize>, Refusal> {
+    for (column, ((len, bytes), expected)) in (0usize..).zip(kinds().into_iter().zip(answers)) {
+        let one = bytes.get(..len).unwrap_or(&[]);
+        if !finds(tried, zero, one, expected)? {
+            return Ok(Some(column));
+        }
+    }
+    Ok(None)
+}
+
+// A slot 0 of each kind, and what an opening finds beside each kind of slot 1.
+fn rows() -> [(Bytes, [Found; 15]); 10] {
     let version = Err(Refusal::Version);
     let bad = damaged(ZERO, 16);
-    let zeros = [
+    [
         ((15, log(3, 1)), beside_closed()),
         ((16, with(log(3, 1), 0, 0)), beside_closed()),
         ((32, with(log(3, 1), 0, 7)), beside_closed()),
@@ -194,13 +250,23 @@ fn each_kind_of_header_in_both_slots(rt: HostRuntime) -> Result<(), Fail> {
         ((32, last(log(0, 1))), [damaged(ZERO, 0); 15]),
         ((32, last(with(log(0, 1), 7, 2))), [version; 15]),
         ((16, log(3, 1)), [damaged(ZERO, 0); 15]),
-    ];
-    for (row, (zero, answers)) in (0u8..).zip(zeros) {
-        lay(&mut shelf, ZERO, zero.1.get(..zero.0).unwrap_or(&[]))?;
-        for (column, (one, expected)) in (0u8..).zip(kinds().into_iter().zip(answers)) {
-            lay(&mut shelf, ONE, one.1.get(..one.0).unwrap_or(&[]))?;
-            assert_eq!(rt; found(rt.alloc(), &mut shelf)?, expected, "{row}, {column}");
+    ]
+}
+
+// The first kinds of slots 0 and 1 of which it finds something else, by their numbers as a hundred times the first one's and
+// the other's.
+fn first_kinds(alloc: Global) -> Result<Option<usize>, Refusal> {
+    let mut tried = Tried::new(alloc)?;
+    for (row, ((len, bytes), answers)) in (0usize..).zip(rows()) {
+        let zero = bytes.get(..len).unwrap_or(&[]);
+        if let Some(column) = first_kind(&mut tried, zero, answers)? {
+            return Ok(Some(100 * (row % 10) + column % 15));
         }
     }
-    Ok(())
+    Ok(None)
+}
+
+#[test]
+fn each_kind_of_header_in_both_slots(rt: HostRuntime) -> Result<(), Fail> {
+    are_right(first_kinds(rt.alloc()))
 }

@@ -1,35 +1,10 @@
 // The slot that counts is replaced by the other one.
-use super::{BODIES, ONE, TOPIC, ZERO, answer, append, contents, hold, lay, open, roomy};
-use disk::{CrashForm, CrashShelf, Fuse, Shelf};
-use disk_mem::MemShelf;
-use gated_log::{BatchList, LogBuilder, PrepareError, PreparedLog, Refusal};
+use super::steps::{Step, Tried};
+use super::{BODIES, ONE, Wrong, ZERO, follow, follow_at, is_right};
+use disk::{CrashForm, Fuse};
+use gated_log::Refusal;
 use std::alloc::Global;
 use std::test::Fail;
-use two_slot::TwoSlot;
-
-// The first bodies, so many of them, as a log.
-fn log_of(alloc: Global, count: usize) -> Result<PreparedLog, PrepareError> {
-    let mut log = LogBuilder::new(alloc)?;
-    for body in BODIES.iter().take(count) {
-        log = log.with_body(body)?;
-    }
-    Ok(log.finish()?)
-}
-
-// Replaces the bodies by the first ones, so many of them. Where there is no generation for it, it is refused as too large.
-fn replace(
-    alloc: Global,
-    slots: &mut TwoSlot,
-    shelf: &mut MemShelf,
-    count: usize,
-) -> Result<(), Refusal> {
-    let log = log_of(alloc, count)?;
-    if !slots.can_replace() {
-        return Err(Refusal::TooLarge);
-    }
-    slots.replace(shelf, log)?;
-    Ok(())
-}
 
 // Slot 0 as it was made, and with the body "ab".
 const ZERO_WITH_AB: [u8; 24] = [
@@ -54,122 +29,111 @@ const ZERO_OF_NONE: [u8; 24] = [
 
 #[test]
 fn two_replaces_byte_by_byte(rt: HostRuntime) -> Result<(), Fail> {
-    let mut shelf = roomy(rt.alloc())?;
-    let mut slots = TwoSlot::create(rt.alloc(), &mut shelf, TOPIC)?;
-    append(&mut slots, &mut shelf, BODIES[0])?;
-    replace(rt.alloc(), &mut slots, &mut shelf, 2)?;
-    let zero = contents(rt.alloc(), &mut shelf, ZERO)?;
-    assert_eq!(rt; zero.as_slice(), ZERO_WITH_AB.as_slice());
-    let one = contents(rt.alloc(), &mut shelf, ONE)?;
-    assert_eq!(rt; one.as_slice(), ONE_WITH_TWO.as_slice());
-    append(&mut slots, &mut shelf, BODIES[2])?;
-    let grown = contents(rt.alloc(), &mut shelf, ONE)?;
-    assert_eq!(rt; grown.as_slice(), ONE_WITH_THREE.as_slice());
-    replace(rt.alloc(), &mut slots, &mut shelf, 0)?;
-    let none = contents(rt.alloc(), &mut shelf, ZERO)?;
-    assert_eq!(rt; none.as_slice(), ZERO_OF_NONE.as_slice());
-    assert_eq!(rt; slots.count(), 0);
-    assert!(rt; hold(rt.alloc(), &mut shelf, 0)?);
-    Ok(())
+    follow(
+        &rt,
+        &[
+            Step::Append(BODIES[0]),
+            Step::Replace(2),
+            Step::Bytes(ZERO, &ZERO_WITH_AB),
+            Step::Bytes(ONE, &ONE_WITH_TWO),
+            Step::Append(BODIES[2]),
+            Step::Bytes(ONE, &ONE_WITH_THREE),
+            Step::Replace(0),
+            Step::Bytes(ZERO, &ZERO_OF_NONE),
+            Step::Are(0, false),
+            Step::Holds(0),
+        ],
+    )
 }
 
 // Six calls of a replace, and four of the append behind it: the tenth fails, or the next one does.
 #[test]
 fn a_replace_and_an_append_are_ten_calls(rt: HostRuntime) -> Result<(), Fail> {
-    let mut shelf = roomy(rt.alloc())?;
-    for (call, failed) in [(10, true), (11, false)] {
-        let mut slots = TwoSlot::create(rt.alloc(), &mut shelf, TOPIC)?;
-        shelf.arm(Fuse::Fail(call))?;
-        replace(rt.alloc(), &mut slots, &mut shelf, 1)?;
-        let appended = answer(append(&mut slots, &mut shelf, BODIES[1]))?;
-        assert_eq!(rt; appended.is_err(), failed, "{call}");
-        assert_eq!(rt; shelf.sync(ONE).is_err(), !failed, "{call}");
-    }
-    Ok(())
+    follow(
+        &rt,
+        &[
+            Step::Arm(Fuse::Fail(10)),
+            Step::Replace(1),
+            Step::AppendFails(BODIES[1]),
+            Step::SyncFails(false),
+            Step::Create,
+            Step::Arm(Fuse::Fail(11)),
+            Step::Replace(1),
+            Step::Append(BODIES[1]),
+            Step::SyncFails(true),
+        ],
+    )
 }
 
-// What stands in the slot that a replace writes: a header cut short, a closed one, or one of a lower generation.
-#[derive(Clone, Copy, Debug)]
-enum Other {
-    Short,
-    Closed,
-    Lower,
-}
+// Slots that hold the first body. In the slot that a replace writes stands a header cut short, a closed one, or one of a
+// lower generation.
+const BESIDE_A_SHORT_ONE: [Step; 4] = [
+    Step::Create,
+    Step::Append(b"ab"),
+    Step::Lay(ONE, b"short"),
+    Step::Open,
+];
 
-// Slots that hold the first body, beside another one.
-fn slots_beside(alloc: Global, shelf: &mut MemShelf, other: Other) -> Result<TwoSlot, Refusal> {
-    let mut slots = TwoSlot::create(alloc, shelf, TOPIC)?;
-    match other {
-        Other::Closed => {
-            append(&mut slots, shelf, BODIES[0])?;
-            Ok(slots)
-        }
-        Other::Lower => {
-            replace(alloc, &mut slots, shelf, 1)?;
-            Ok(slots)
-        }
-        Other::Short => {
-            append(&mut slots, shelf, BODIES[0])?;
-            lay(shelf, ONE, b"short")?;
-            open(alloc, shelf)
-        }
-    }
-}
+const BESIDE_A_CLOSED_ONE: [Step; 2] = [Step::Create, Step::Append(b"ab")];
 
-// How many bodies are kept after a failure within a replace of the first body by the first two, and a crash. The slots that are
-// opened are replaced again.
-fn after_replace(
-    alloc: Global,
-    shelf: &mut MemShelf,
-    other: Other,
+const BESIDE_A_LOWER_ONE: [Step; 2] = [Step::Create, Step::Replace(1)];
+
+// The first step that goes otherwise where a replace of the first body by the first two fails, a crash follows, and so many
+// bodies are kept then. The slots that are opened are replaced again.
+fn first_after(
+    tried: &mut Tried,
     form: CrashForm,
     fuse: Fuse,
-) -> Result<u64, Fail> {
-    let mut slots = slots_beside(alloc, shelf, other)?;
-    shelf.arm(Fuse::CrashAs(form))?;
-    shelf.arm(fuse)?;
-    if answer(replace(alloc, &mut slots, shelf, 2))? != Err(Refusal::Device) {
-        return Err(Fail::new("replaced, though a call failed"));
-    }
-    if !slots.is_failed() || slots.count() != 1 {
-        return Err(Fail::new("the old list isn't remembered"));
-    }
-    shelf.crash();
-    let mut left = open(alloc, shelf)?;
-    let count = left.count();
-    if !hold(alloc, shelf, count)? {
-        return Err(Fail::new("neither the old list nor the new one"));
-    }
-    replace(alloc, &mut left, shelf, 3)?;
-    if !hold(alloc, shelf, 3)? {
-        return Err(Fail::new("the second replace isn't there"));
-    }
-    Ok(count)
+    kept: u64,
+) -> Result<Option<usize>, Refusal> {
+    tried.first_wrong(&[
+        Step::Arm(Fuse::CrashAs(form)),
+        Step::Arm(fuse),
+        Step::ReplaceFails(2),
+        Step::Are(1, true),
+        Step::Crash,
+        Step::Open,
+        Step::Are(kept, false),
+        Step::Holds(kept),
+        Step::Replace(3),
+        Step::Holds(3),
+    ])
 }
 
-// The write that closes the header, its sync, the write of all behind the gate, its sync, the write of the gate, its sync.
-#[test]
-fn each_call_of_a_replace_fails_in_each_crash(rt: HostRuntime) -> Result<(), Fail> {
-    let mut shelf = roomy(rt.alloc())?;
-    let forms = [
-        (CrashForm::Old, 1),
-        (CrashForm::New, 2),
-        (CrashForm::Fill(0), 1),
-        (CrashForm::Fill(1), 2),
-        (CrashForm::Fill(7), 1),
-    ];
-    for other in [Other::Short, Other::Closed, Other::Lower] {
-        for (form, at_last) in forms {
-            for call in 1..7u64 {
-                let count = if call == 6 { at_last } else { 1 };
-                for fuse in [Fuse::Stop(call), Fuse::Fail(call)] {
-                    let kept = after_replace(rt.alloc(), &mut shelf, other, form, fuse)?;
-                    assert_eq!(rt; kept, count, "{other:?}, {form:?}, {fuse:?}");
+// The forms of crashes, and how many bodies are kept where the last sync of a replace fails.
+const FORMS: [(CrashForm, u64); 5] = [
+    (CrashForm::Old, 1),
+    (CrashForm::New, 2),
+    (CrashForm::Fill(0), 1),
+    (CrashForm::Fill(1), 2),
+    (CrashForm::Fill(7), 1),
+];
+
+// The first failure that goes otherwise behind these steps. The calls of a replace are the write that closes the header, its
+// sync, the write of all behind the gate, its sync, the write of the gate, its sync.
+fn first_failure(alloc: Global, before: &[Step<'_>]) -> Result<Wrong, Refusal> {
+    let mut tried = Tried::new(alloc)?;
+    for (form, at_last) in FORMS {
+        for call in 1..7u64 {
+            let kept = if call == 6 { at_last } else { 1 };
+            for fuse in [Fuse::Stop(call), Fuse::Fail(call)] {
+                if let Some(index) = tried.first_wrong(before)? {
+                    return Ok(Some((form, fuse, index)));
+                }
+                if let Some(index) = first_after(&mut tried, form, fuse, kept)? {
+                    return Ok(Some((form, fuse, before.len().wrapping_add(index))));
                 }
             }
         }
     }
-    Ok(())
+    Ok(None)
+}
+
+#[test]
+fn each_call_of_a_replace_fails_in_each_crash(rt: HostRuntime) -> Result<(), Fail> {
+    is_right(first_failure(rt.alloc(), &BESIDE_A_SHORT_ONE))?;
+    is_right(first_failure(rt.alloc(), &BESIDE_A_CLOSED_ONE))?;
+    is_right(first_failure(rt.alloc(), &BESIDE_A_LOWER_ONE))
 }
 
 // An open header of the generation that is so far below 2^64, and no bodies.
@@ -183,12 +147,15 @@ fn generation_below_the_end(below: u8) -> [u8; 17] {
 
 #[test]
 fn there_are_generations_for_replaces_but_at_the_end(rt: HostRuntime) -> Result<(), Fail> {
-    let mut shelf = roomy(rt.alloc())?;
-    lay(&mut shelf, ONE, b"")?;
     for (below, can) in [(4, true), (3, true), (2, false)] {
-        lay(&mut shelf, ZERO, &generation_below_the_end(below))?;
-        let slots = open(rt.alloc(), &mut shelf)?;
-        assert_eq!(rt; slots.can_replace(), can, "{below}");
+        let header = generation_below_the_end(below);
+        let steps = [
+            Step::Lay(ONE, b""),
+            Step::Lay(ZERO, &header),
+            Step::Open,
+            Step::CanReplace(can),
+        ];
+        follow_at(&rt, usize::from(below), &steps)?;
     }
     Ok(())
 }

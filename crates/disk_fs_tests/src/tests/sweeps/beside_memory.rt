@@ -2,12 +2,13 @@
 ghost use Rattle.std.specs.Prelude.{◌<◌};
 
 use crate::tests::{contents, empty_folder};
-use disk::{CursorSlot, FileId, Shelf};
+use disk::{CursorSlot, DeviceError, FileId, Shelf};
 use disk_fs::FsShelf;
 use disk_mem::MemShelf;
 use std::alloc::Global;
-use std::process::Abort;
 use std::test::Fail;
+
+const FOLDER: &str = "disk_fs_random";
 
 // Numbers at random, the same in each run.
 #[derive(Drop)]
@@ -45,19 +46,16 @@ fn file_of(number: u64) -> FileId {
     }
 }
 
-// Works one call on both, and compares what they answer. A write begins at the end of the file at most, since what stands
+// Works one call on both, and whether they answer the same. A write begins at the end of the file at most, since what stands
 // between the end and a write behind it isn't said.
-fn work<S: Shelf, M: Shelf>(
-    rt: &impl Abort,
+fn agree(
     dice: &mut Dice,
-    real: &mut S,
-    memory: &mut M,
-) -> Result<(), Fail> {
+    real: &mut impl Shelf,
+    memory: &mut impl Shelf,
+) -> Result<bool, DeviceError> {
     let file = file_of(dice.below(12));
     let text = b"the quick brown fox jumps over the lazy dog";
     let len = memory.length(file)?;
-    let mut found = [b'-'; 24];
-    let mut wanted = [b'-'; 24];
     match dice.below(5) {
         0 => {
             let offset = dice.below(len.saturating_add(1));
@@ -76,46 +74,79 @@ fn work<S: Shelf, M: Shelf>(
             real.sync(file)?;
             memory.sync(file)?;
         }
-        3 => {
-            let offset = dice.below(50);
-            assert_eq!(rt;
-                real.read(file, offset, &mut found)?,
-                memory.read(file, offset, &mut wanted)?
-            );
-            assert_eq!(rt; found, wanted);
-        }
-        _ => assert_eq!(rt; real.length(file)?, len),
+        3 => return read_the_same(file, dice.below(50), real, memory),
+        _ => return Ok(real.length(file)? == len),
     }
-    Ok(())
+    Ok(true)
 }
 
-fn compare(
-    rt: &impl Abort,
+fn read_the_same(
+    file: FileId,
+    offset: u64,
+    real: &mut impl Shelf,
+    memory: &mut impl Shelf,
+) -> Result<bool, DeviceError> {
+    let mut found = [b'-'; 24];
+    let mut wanted = [b'-'; 24];
+    let count = real.read(file, offset, &mut found)?;
+    Ok(count == memory.read(file, offset, &mut wanted)? && found == wanted)
+}
+
+// Whether so many calls at random answer the same.
+fn agree_in_turn(
+    count: u64,
+    dice: &mut Dice,
+    real: &mut impl Shelf,
+    memory: &mut impl Shelf,
+) -> Result<bool, DeviceError> {
+    for _ in 0..count {
+        if !agree(dice, real, memory)? {
+            return Ok(false);
+        }
+    }
+    Ok(true)
+}
+
+// Whether reads give the same of each file.
+fn hold_the_same(
     alloc: Global,
     real: &mut impl Shelf,
     memory: &mut impl Shelf,
-) -> Result<(), Fail> {
+) -> Result<bool, DeviceError> {
     for number in 0..12 {
-        assert_eq!(rt;
-            contents(alloc, real, file_of(number))?.as_slice(),
-            contents(alloc, memory, file_of(number))?.as_slice()
-        );
+        let found = contents(alloc, real, file_of(number))?;
+        let wanted = contents(alloc, memory, file_of(number))?;
+        if found.as_slice() != wanted.as_slice() {
+            return Ok(false);
+        }
     }
-    Ok(())
+    Ok(true)
+}
+
+// Both over a new shelf of the folder, and the files behind that.
+fn agree_anew(
+    rt: &HostRuntime,
+    count: u64,
+    dice: &mut Dice,
+    memory: &mut MemShelf,
+) -> Result<bool, DeviceError> {
+    let Ok(path) = String::from_str(rt.alloc(), FOLDER) else {
+        return Err(DeviceError);
+    };
+    let mut real = FsShelf::new(rt, rt.alloc(), path);
+    Ok(
+        agree_in_turn(count, dice, &mut real, memory)?
+            && hold_the_same(rt.alloc(), &mut real, memory)?,
+    )
 }
 
 #[test]
 fn calls_at_random_answer_the_same(rt: HostRuntime) -> Result<(), Fail> {
-    let folder = empty_folder(&rt, "disk_fs_random")?;
+    empty_folder(&rt, FOLDER)?;
     let mut memory = MemShelf::new(rt.alloc());
     let mut dice = Dice { state: 1 };
-    for _ in 0..4 {
-        let mut real = FsShelf::new(&rt, rt.alloc(), folder.clone()?);
-        for _ in 0..250 {
-            work(&rt, &mut dice, &mut real, &mut memory)?;
-        }
-        compare(&rt, rt.alloc(), &mut real, &mut memory)?;
+    for count in [250, 250, 250, 250, 0] {
+        assert!(rt; agree_anew(&rt, count, &mut dice, &mut memory)?);
     }
-    let mut real = FsShelf::new(&rt, rt.alloc(), folder);
-    compare(&rt, rt.alloc(), &mut real, &mut memory)
+    Ok(())
 }

@@ -6,6 +6,8 @@ use disk_fs::FsShelf;
 use std::io::ErrorKind;
 use std::test::Fail;
 
+const FOLDER: &str = "disk_fs_each";
+
 // Nine files, written, cut, synced and read. How many bytes were read.
 fn work(shelf: &mut impl Shelf) -> Result<usize, DeviceError> {
     for number in 0..9 {
@@ -23,19 +25,24 @@ fn work(shelf: &mut impl Shelf) -> Result<usize, DeviceError> {
     Ok(count)
 }
 
+// Whether the work makes fewer than k calls of the system, and what it answers where the kth one fails.
+fn answer_at(rt: &HostRuntime, k: u64) -> Result<(bool, Result<usize, DeviceError>), DeviceError> {
+    let Ok(path) = String::from_str(rt.alloc(), FOLDER) else {
+        return Err(DeviceError);
+    };
+    let plan = Plan::new();
+    plan.fail(None, k, ErrorKind::Other);
+    let mut shelf = FsShelf::new(Watched { rt, plan: &plan }, rt.alloc(), path);
+    let answer = work(&mut shelf);
+    Ok((plan.is_armed(), answer))
+}
+
 #[test]
 fn each_call_that_fails_is_answered(rt: HostRuntime) -> Result<(), Fail> {
     for k in 1..1000 {
-        let plan = Plan::new();
-        let watched = Watched {
-            rt: &rt,
-            plan: &plan,
-        };
-        let folder = empty_folder(&rt, "disk_fs_each")?;
-        let mut shelf = FsShelf::new(watched, rt.alloc(), folder);
-        plan.fail(None, k, ErrorKind::Other);
-        let answer = work(&mut shelf);
-        if plan.is_armed() {
+        empty_folder(&rt, FOLDER)?;
+        let (is_over, answer) = answer_at(&rt, k)?;
+        if is_over {
             assert_eq!(rt; answer?, 52);
             assert!(rt; k > 60, "all calls were met: {k}");
             return Ok(());
