@@ -18,7 +18,7 @@ use std::alloc::{AllocError, Global};
 use topic_core::{TopicStore, WriteError};
 
 /// The most sessions that are open. Our own rule.
-const MOST_SESSIONS: usize = 256;
+pub(crate) const MOST_SESSIONS: usize = 256;
 
 /// The most numbers of sessions that are given out. Our own rule.
 const MOST_NUMBERS: u64 = 1 << 62;

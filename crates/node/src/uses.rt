@@ -3,6 +3,7 @@ ghost use Rattle.std.specs.Prelude.{◌≡◌, ◌⊎◌, ◌<◌, ◌≤◌, �
 ghost use Rattle.std.specs.List.{IsDistinct};
 ghost use Rattle.node.specs.Uses.{is_of, is_of_one, is_used};
 
+use crate::node::MOST_SESSIONS;
 use catalog::MAX_TOPICS;
 use std::alloc::Global;
 use std::marker::Model;
@@ -15,11 +16,11 @@ pub(crate) struct SessionUse {
 }
 
 /// The topics that each session uses. Where memory was refused for a mark, all of them count as used by all. Beside the entries
-/// stands for 64 sessions where theirs was last.
+/// stands for 256 sessions where theirs was last.
 #[derive(Drop)]
 pub(crate) struct Uses {
     by_session: Vec<SessionUse>,
-    places: [usize; 64],
+    places: [usize; MOST_SESSIONS],
     by_all: bool,
 }
 
@@ -36,13 +37,13 @@ impl Model for Uses {
 
 /// The slot for a session's place.
 fn slot_of(who: u64) -> usize
-    ensures { result ≡ who % 64 }
+    ensures { result ≡ who % 256 }
 {
-    (who % 64) as usize
+    (who % MOST_SESSIONS as u64) as usize
 }
 
 /// Where a session's entry stands. It is looked for first where its slot says.
-fn place_of(uses: &[SessionUse], places: &[usize; 64], who: u64) -> Option<usize>
+fn place_of(uses: &[SessionUse], places: &[usize; MOST_SESSIONS], who: u64) -> Option<usize>
     requires { IsDistinct is_of_one uses.now }
     ensures place { result ≡ position (is_of who) uses.now }
     ensures within { IfSome result (λ place. place < length uses.now) }
@@ -55,8 +56,8 @@ fn place_of(uses: &[SessionUse], places: &[usize; 64], who: u64) -> Option<usize
 }
 
 /// Where each session's entry stands.
-fn places_of(uses: &[SessionUse]) -> [usize; 64] {
-    let mut places = [0; 64];
+fn places_of(uses: &[SessionUse]) -> [usize; MOST_SESSIONS] {
+    let mut places = [0; MOST_SESSIONS];
     for (place, entry) in uses.iter().enumerate() {
         places[slot_of(entry.session)] = place;
     }
@@ -93,7 +94,7 @@ impl Uses {
     {
         Uses {
             by_session: Vec::new(alloc),
-            places: [0; 64],
+            places: [0; MOST_SESSIONS],
             by_all: false,
         }
     }

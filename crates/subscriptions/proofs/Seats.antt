@@ -3,7 +3,7 @@ use Rattle.std.proofs.Common.{◌≡◌, ℕ, zero, suc, ◌+◌, ◌<◌, ◌�
 use Rattle.std.proofs.lemmas.Bool.{true≢false}
 use Rattle.std.proofs.lemmas.Bool.Decides.{nat_tests, leb_tells}
 use Rattle.std.proofs.lemmas.List.{take_more}
-use Rattle.std.specs.List.{list_any, find, position, position_or_len}
+use Rattle.std.specs.List.{list_any, find, position}
 use Rattle.std.specs.Option.{IfSome, IfNone, IsSomeAnd, is_some}
 use Rattle.std.specs.Prelude.{map as each}
 use Rattle.holds.specs.Backlog.{Backlog, IsFirst, IsLeast, IsOpenAt, IsOpenIn, attached}
@@ -21,7 +21,7 @@ use Rattle.subscriptions.specs.State.{Subscription}
 use Rattle.subscriptions.specs.Freeing.{is_among}
 use Rattle.subscriptions.proofs.Sound.{among}
 use Rattle.subscriptions.proofs.Settled.{or_three}
-use Rattle.subscriptions.proofs.Standing.{behind, step, any_place, in_bounds}
+use Rattle.subscriptions.proofs.Standing.{behind, step, any_place}
 
 module _ {X : Type 0} (key_of : X → ConsumerKey) where
   pub any_key : (test : ConsumerKey → Bool) (xs : List X) → list_any test (each key_of xs) ≡ list_any (λ x. test (key_of x)) xs
@@ -122,9 +122,6 @@ place_seated key seats cs seated =
 pub placed_attached : (key : ConsumerKey) (seats : List Seat) (place : ℕ) → place_of key seats ≡ Some place → is_some (attached key seats) ≡ true
 placed_attached key seats place at =
     found_is_some (λ (seat : Seat). same_key seat.key key) seats ∙ sym (any_place (λ (seat : Seat). same_key seat.key key) seats) ∙ ap (λ (o : Option ℕ). is_some o) at
-
-pub placed_within : (key : ConsumerKey) (seats : List Seat) (place : ℕ) → place_of key seats ≡ Some place → place < length seats
-placed_within key seats place at = in_bounds (position_or_len (λ (seat : Seat). same_key seat.key key) seats) (length seats) place at
 
 -- what the dispatcher gives a consumer is what its mode lets it get
 pub admits_given : (mode : Mode) (key : ConsumerKey) (s : Subscription) (slots : List ℕ) (Opens : ℕ → Type 0) (i : ℕ) → seat_keys s.seats ≡ keys s.consumers

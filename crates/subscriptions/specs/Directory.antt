@@ -6,6 +6,7 @@ use Rattle.std.specs.declared.cmp.Ordering.{Ordering}
 use Rattle.std.specs.Ordering.{nat_cmp, ordering_then}
 use Rattle.holds.specs.declared.consumer.ConsumerKey.{ConsumerKey}
 use Rattle.subscriptions.specs.declared.consumer.Consumer.{Consumer}
+use Rattle.subscriptions.specs.declared.directory.Found.{Found}
 use Rattle.subscriptions.specs.State.{Subscription}
 use Rattle.subscriptions.specs.Steps.{is_consumer, is_on}
 
@@ -15,6 +16,11 @@ pair_cmp a b = ordering_then (nat_cmp a.0 b.0) (nat_cmp a.1 b.1)
 -- the place of a consumer, by its session and its id there
 abbrev pub place_in : List ((ℕ × ℕ) × ℕ) → ConsumerKey → Option ℕ
 place_in places key = lookup (is_at (pair_cmp (key.session, key.id))) places
+
+-- a consumer that was found, if one was, still stands there
+abbrev pub IsRight : Option Found → List ((ℕ × ℕ) × ℕ) → Type 0
+IsRight None places = Unit {0}
+IsRight (Some found) places = place_in places found.key ≡ Some found.place
 
 -- each consumer has the place of the first subscription that it is attached to, and nobody else has one
 pub record ArePlaces (subs : List Subscription) (places : List ((ℕ × ℕ) × ℕ)) : Type 0 where

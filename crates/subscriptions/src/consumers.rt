@@ -107,6 +107,7 @@ impl Consumers {
         let Some(place) = self.place_of(key) else {
             return;
         };
+        self.places.remember(key);
         let consumer = &mut self.list[place];
         let has_permit = consumer.sent < consumer.granted;
         prove!(has_permit);

@@ -4,7 +4,7 @@ ghost use Rattle.std.specs.Option.{option_map};
 ghost use Rattle.std.specs.Prelude.{map as each};
 ghost use Rattle.holds.specs.Deliveries.{same_key};
 ghost use Rattle.holds.specs.declared.consumer.ConsumerKey.{ConsumerKey as Key};
-ghost use Rattle.subscriptions.specs.Directory.{ArePlaces, place_in, earliest, moved_up, put_in_place};
+ghost use Rattle.subscriptions.specs.Directory.{ArePlaces, IsRight, place_in, earliest, moved_up, put_in_place};
 ghost use Rattle.subscriptions.specs.State.{Subscription as State};
 ghost use Rattle.subscriptions.specs.Steps.{is_on};
 
@@ -13,19 +13,31 @@ use std::alloc::{AllocError, Global};
 use std::collections::BTreeMap;
 use std::marker::Model;
 
+/// A consumer, and its place.
+#[derive(Clone, Copy)]
+pub(crate) struct Found {
+    pub(crate) key: ConsumerKey,
+    pub(crate) place: usize,
+}
+
 /// For each attached consumer, by its session and its id there, a place: a topic's directory has that of the consumer's
-/// subscription, and a subscription's that of the consumer among the attached ones.
+/// subscription, and a subscription's that of the consumer among the attached ones. The consumer that was remembered last is found
+/// without a search, until a place changes.
 #[derive(Drop)]
 pub(crate) struct Directory {
     places: BTreeMap<(u64, u64), usize>,
+    last: Option<Found>,
 }
 
 impl Model for Directory {
     ghost use Rattle.std.specs.Prelude.{List, ℕ};
+    ghost use Rattle.subscriptions.specs.Directory.{IsRight};
 
     ghost Value = { List ((ℕ × ℕ) × ℕ) };
 
     ghost view = { λ p. p.places.entries };
+
+    ghost invariant = { λ p. IsRight p.last p.places.entries };
 }
 
 impl Directory {
@@ -34,6 +46,7 @@ impl Directory {
     {
         Directory {
             places: BTreeMap::new(alloc),
+            last: None,
         }
     }
 
@@ -43,10 +56,22 @@ impl Directory {
         ensures place { (subs : List State) → ArePlaces subs self.now → result ≡ position (is_on key) subs }
         ensures within { (subs : List State) → ArePlaces subs self.now → IfSome result (λ place. place < length subs) }
     {
-        match self.places.get(&(key.session, key.id)) {
-            Some(place) => Some(*place),
-            None => None,
+        if let Some(last) = self.last
+            && last.key == key
+        {
+            return Some(last.place);
         }
+        place_of(&self.places, key)
+    }
+
+    /// The consumer is looked for without a search from now on, if it has a place, until one changes.
+    pub(crate) fn remember(&mut self, key: ConsumerKey)
+        ensures { self.new ≡ self.old }
+    {
+        let Some(place) = self.of(key) else {
+            return;
+        };
+        self.last = Some(Found { key, place });
     }
 
     /// The consumer stands at this place too; an earlier one of it counts. A refusal changes nothing.
@@ -56,6 +81,7 @@ impl Directory {
     {
         let former = self.of(key);
         let first = earliest(former, place);
+        self.last = None;
         self.places.insert((key.session, key.id), first)?;
         Ok(())
     }
@@ -64,6 +90,7 @@ impl Directory {
     pub(crate) fn set(&mut self, key: ConsumerKey, place: Option<usize>)
         ensures { (k : Key) → place_in self.new k ≡ cond (same_key key k) (put_in_place place (place_in self.old k)) (place_in self.old k) }
     {
+        self.last = None;
         set(&mut self.places, key, place);
     }
 
@@ -71,6 +98,7 @@ impl Directory {
     pub(crate) fn leave(&mut self, who: u64)
         ensures { (k : Key) → place_in self.new k ≡ cond (nat_eq k.session who) None (place_in self.old k) }
     {
+        self.last = None;
         leave(&mut self.places, who);
     }
 
@@ -78,7 +106,17 @@ impl Directory {
     pub(crate) fn move_up(&mut self, gone: usize)
         ensures { (k : Key) → place_in self.new k ≡ option_map (moved_up gone) (place_in self.old k) }
     {
+        self.last = None;
         move_up(&mut self.places, gone);
+    }
+}
+
+fn place_of(places: &BTreeMap<(u64, u64), usize>, key: ConsumerKey) -> Option<usize>
+    ensures { result ≡ place_in places.now.entries key }
+{
+    match places.get(&(key.session, key.id)) {
+        Some(place) => Some(*place),
+        None => None,
     }
 }
 

@@ -317,6 +317,7 @@ impl Subscriptions {
         ensures some { IfSome result (Admits self.old key committed) }
         ensures none { IfNone result ((i : ℕ) → Admits self.old key committed i → ⊥) }
     {
+        self.directory.remember(key);
         let Some(place) = self.directory.of(key) else {
             return None;
         };

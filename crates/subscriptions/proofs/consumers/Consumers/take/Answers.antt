@@ -23,9 +23,9 @@ returns c =
 pub invariant_of-self : goal.invariant_of-self
 invariant_of-self c =
     let at : position (is_consumer c.args.key) c.self.inside.list.items ≡ Some c.in-Some.place = search rules in
-    subst (λ (cs : List Consumer). ArePlacesAmong cs c.self.inside.places)
+    subst (λ (cs : List Consumer). ArePlacesAmong cs c.remember.new.self)
     (sym (changes (is_consumer c.args.key) (λ k. sent_one k) c.self.inside.list.items c.in-Some.place c.index_mut-consumer.result.now _ at c.index_mut-consumer.ensures.value refl))
-    (places_taken c.self.inside.list.items c.self.inside.places c.args.key c.self.invariant)
+    (places_taken c.self.inside.list.items c.remember.new.self c.args.key (subst (λ places. ArePlacesAmong c.self.inside.list.items places) (sym c.remember.ensures) c.self.invariant))
 
 pub prove-unreachable-requires : goal.prove-unreachable-requires
 prove-unreachable-requires c =

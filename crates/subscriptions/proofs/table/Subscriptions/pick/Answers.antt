@@ -5,6 +5,7 @@ use Rattle.std.specs.List.{find, position}
 use Rattle.subscriptions.specs.State.{Subscription, Subscriptions}
 use Rattle.subscriptions.specs.Steps.{is_on, is_consumer, has_permit, is_key_shared, Admits}
 use Rattle.subscriptions.specs.Hints.{IsHint}
+use Rattle.subscriptions.specs.Directory.{ArePlaces}
 use Rattle.subscriptions.proofs.Found.{admits_none, permits_none, picks_some, picks_none, stands}
 use Rattle.subscriptions.proofs.Passed.{passed_from, hint_picked, hints_at, hints_noted}
 use Rattle.subscriptions.proofs.Places.{is_place, same_at}
@@ -54,7 +55,7 @@ invariant_of-self-then-is_key_shared c =
       c.self.invariant.0,
       hints_noted t c.self.inside.hints.items c.in-Some.place c.index_mut-sub.result.now c.index_mut-hints.result.now c.note.new.self c.self.invariant.1 low
           c.index_mut-sub.ensures.value c.index_mut-hints.ensures.value (λ known. c.note.ensures t.slots c.index_mut-sub.result.now known noted),
-      c.self.invariant.2,
+      subst (λ places. ArePlaces c.self.inside.subs.items places) (sym c.remember.ensures) c.self.invariant.2,
       c.self.invariant.3,
     )
 
