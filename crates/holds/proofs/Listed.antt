@@ -1,5 +1,5 @@
 -- What is listed with each consumer follows who holds each position.
-use Rattle.std.proofs.Common.{◌≡◌, ℕ, ◌≤◌, Bool, true, false, cond, ◌&&◌, List, ◌∷◌, ◌∙◌, ap, sym, refl, subst, arith, nat_eq, nat_cmp, Option, Some, None, inl, inr, Less, Equal, Greater, IsTrue, IfSome, slice_get}
+use Rattle.std.proofs.Common.{◌≡◌, ℕ, ◌≤◌, Bool, true, false, cond, ◌&&◌, List, ◌∷◌, ◌∙◌, ap, sym, refl, subst, arith, nat_eq, nat_cmp, Option, Some, None, inl, inr, Less, Equal, Greater, IsTrue, IfSome, IfNone, slice_get}
 use Rattle.std.specs.Option.{option_map}
 use Rattle.std.specs.Ordering.{ordering_then, is_eq, is_gt}
 use Rattle.std.specs.declared.cmp.Ordering.{Ordering}
@@ -9,13 +9,14 @@ use Rattle.std.specs.BTreeMap as tree
 use Rattle.std.specs.BTreeMap.Range.{IsLeBy}
 use Rattle.std.specs.BTreeSet.{BTreeSet, contains}
 use Rattle.holds.specs.Backlog.{IsLeast}
-use Rattle.std.proofs.lemmas.Bool.{eqb-true}
+use Rattle.std.proofs.lemmas.Bool.{eqb-true, false≢true}
 use Rattle.std.proofs.lemmas.Bool.Decides.{eqb_tells, nat_tests}
 use Rattle.std.proofs.lemmas.Cmp.{tied_itself}
 use Rattle.std.proofs.lemmas.Map.Keys.{le_from_not_gt}
 use Rattle.holds.specs.declared.consumer.ConsumerKey.{ConsumerKey}
 use Rattle.holds.specs.declared.delivery.Delivery.{Delivery}
-use Rattle.holds.specs.Deliveries.{holder_in, is_held_by, same_key, released, given_back}
+use Rattle.holds.proofs.Kept.{kept, get_kept}
+use Rattle.holds.specs.Deliveries.{holder, holder_in, is_held_by, same_key, released, given_back}
 use Rattle.holds.specs.Listing.{Place, place_cmp, is_listed, IsSetTo, IsListedAt, IsRelisted, IsListing}
 
 -- ---- places in order
@@ -170,3 +171,28 @@ pub gave_step : (before after : BTreeMap ℕ Delivery) (old : BTreeSet Place) (c
 gave_step before after old c p listed says listing q =
     ap (option_map (given_back c)) (says q)
     ∙ gave_one c (nat_eq q p) (tree.get nat_cmp before q) (λ t. sym (listing c q) ∙ ap (is_listed old c) (eqb-true q p t) ∙ listed)
+
+-- ---- who holds the first of a consumer's places
+holds_it : (c : ConsumerKey) (h : Option ConsumerKey) → is_held_by c h ≡ true → h ≡ Some c
+holds_it c None is = cc
+holds_it c (Some key) is =
+    let session : key.session ≡ c.session = grind (arith, nat_tests) in
+    let id : key.id ≡ c.id = grind (arith, nat_tests) in
+    λ i. Some (record { session = session i; id = id i })
+
+held_itself : (c : ConsumerKey) (h : Option ConsumerKey) → h ≡ Some c → is_held_by c h ≡ true
+held_itself c h is = ap (is_held_by c) is ∙ (let same : same_key c c ≡ true = grind (arith, nat_tests) in same)
+
+listed_held : (deliveries : BTreeMap ℕ Delivery) (places : BTreeSet Place) (c : ConsumerKey) (i : ℕ) → IsListing deliveries places → is_listed places c i ≡ true → holder (kept deliveries.entries) i ≡ Some c
+listed_held deliveries places c i listing listed = ap holder_in (get_kept deliveries.entries i) ∙ holds_it c (holder_in (tree.get nat_cmp deliveries i)) (sym (listing c i) ∙ listed)
+
+held_listed : (deliveries : BTreeMap ℕ Delivery) (places : BTreeSet Place) (c : ConsumerKey) (i : ℕ) → IsListing deliveries places → holder (kept deliveries.entries) i ≡ Some c → is_listed places c i ≡ true
+held_listed deliveries places c i listing held = listing c i ∙ held_itself c (holder_in (tree.get nat_cmp deliveries i)) (ap holder_in (sym (get_kept deliveries.entries i)) ∙ held)
+
+pub least_holder : (deliveries : BTreeMap ℕ Delivery) (places : BTreeSet Place) (c : ConsumerKey) (first : Option ℕ) → IsListing deliveries places → IfSome first (IsLeast (λ i. is_listed places c i ≡ true)) → IfSome first (IsLeast (λ i. holder (kept deliveries.entries) i ≡ Some c))
+least_holder deliveries places c None listing least = tt
+least_holder deliveries places c (Some p) listing least = (listed_held deliveries places c p listing least.0, λ j held. least.1 j (held_listed deliveries places c j listing held))
+
+pub no_holder : (deliveries : BTreeMap ℕ Delivery) (places : BTreeSet Place) (c : ConsumerKey) (first : Option ℕ) → IsListing deliveries places → IfNone first ((i : ℕ) → is_listed places c i ≡ false) → IfNone first ((i : ℕ) → holder (kept deliveries.entries) i ≡ Some c → ⊥)
+no_holder deliveries places c None listing free = λ i held. false≢true (sym (free i) ∙ held_listed deliveries places c i listing held)
+no_holder deliveries places c (Some p) listing free = tt

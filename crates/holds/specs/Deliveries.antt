@@ -53,8 +53,3 @@ is_held_by consumer (Some key) = same_key key consumer
 -- a delivery that the consumer no longer holds
 abbrev pub given_back : ConsumerKey → Delivery → Delivery
 given_back consumer d = record { holder = cond (is_held_by consumer d.holder) None d.holder; times = d.times }
-
--- the place of a position that was sent, with its former delivery or with none
-abbrev pub put_back : Option Delivery → Option Delivery → Option Delivery
-put_back former None = None
-put_back former (Some d) = former

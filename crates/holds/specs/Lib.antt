@@ -1,4 +1,3 @@
 pub mod Backlog
 pub mod Deliveries
-pub mod Laws
 pub mod Listing

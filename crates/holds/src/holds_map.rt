@@ -1,10 +1,10 @@
-ghost use Rattle.std.specs.Prelude.{◌≡◌, ℕ, ◌+◌, ◌<◌, ◌≤◌, ◌&&◌, not, cond, nat_lt, ◌==◌, Some, None, OnOk, OnErr, IsSome, is_none, length, map as each};
+ghost use Rattle.std.specs.Prelude.{◌≡◌, ℕ, ◌+◌, ◌<◌, ◌≤◌, ◌&&◌, not, cond, nat_lt, ◌==◌, Some, None, OnOk, OnErr, IsSome, IfSome, IfNone, length};
 ghost use Rattle.std.specs.Option.{option_map};
 ghost use Rattle.std.specs.Ordering.{nat_cmp};
 ghost use Rattle.std.specs.BTreeMap as tree;
 ghost use Rattle.std.specs.FinMap as map;
-ghost use Rattle.holds.specs.Deliveries.{holder, holder_in, times, sent_to, released, given_back, put_back};
-ghost use Rattle.holds.specs.Laws.{IsRestored};
+ghost use Rattle.holds.specs.Deliveries.{holder, holder_in, times, sent_to, released, given_back};
+ghost use Rattle.holds.specs.Backlog.{IsLeast};
 ghost use Rattle.holds.specs.Listing.{IsListing};
 
 use crate::consumer::ConsumerKey;
@@ -21,8 +21,6 @@ pub struct Holds {
     deliveries: BTreeMap<u64, Delivery>,
     // Which positions each consumer holds.
     places: BTreeSet<Place>,
-    // Whether `places` is exact. A delivery that was restored with its holder isn't listed, since that could take memory.
-    is_whole: bool,
 }
 
 impl Model for Holds {
@@ -33,12 +31,11 @@ impl Model for Holds {
 
     ghost coded = { deliveries_code };
 
-    ghost use Rattle.std.specs.Prelude.{◌≡◌, true};
     ghost use Rattle.holds.specs.Listing.{IsListing};
 
     ghost view = { λ h. map.from_entries h.deliveries.entries };
 
-    ghost invariant = { λ h. h.is_whole ≡ true → IsListing h.deliveries h.places };
+    ghost invariant = { λ h. IsListing h.deliveries h.places };
 }
 
 impl Holds {
@@ -49,7 +46,6 @@ impl Holds {
         Self {
             deliveries: BTreeMap::new(alloc),
             places: BTreeSet::new(alloc),
-            is_whole: true,
         }
     }
 
@@ -58,6 +54,14 @@ impl Holds {
         ensures { result ≡ holder self.now position }
     {
         holder(&self.deliveries, position)
+    }
+
+    /// The least position that the consumer holds.
+    pub fn first_held(&self, consumer: ConsumerKey) -> Option<u64>
+        ensures some { IfSome result (IsLeast (λ i. holder self.now i ≡ Some consumer)) }
+        ensures none { IfNone result ((i : ℕ) → holder self.now i ≡ Some consumer → ⊥) }
+    {
+        places::first(&self.places, consumer)
     }
 
     /// How often the position was sent.
@@ -70,7 +74,7 @@ impl Holds {
         }
     }
 
-    /// The position's delivery, to be kept where a hold may have to be undone.
+    /// The position's delivery.
     pub fn delivery(&self, position: u64) -> Option<Delivery>
         ensures { result ≡ map.get self.now position }
     {
@@ -97,15 +101,6 @@ impl Holds {
         Ok(())
     }
 
-    /// Undoes a hold: the position has its former delivery again, or none. Takes no memory; a
-    /// position that wasn't sent stays so.
-    pub fn restore(&mut self, position: u64, former: Option<Delivery>)
-        ensures { IsRestored self.old position former self.new }
-    {
-        self.is_whole = self.is_whole & is_free(former);
-        restore(&mut self.deliveries, &mut self.places, position, former);
-    }
-
     /// Nobody holds the position any more; its count stays.
     pub fn release(&mut self, position: u64)
         ensures { (q : ℕ) → map.get self.new q ≡ cond (q == position) (option_map released (map.get self.old q)) (map.get self.old q) }
@@ -117,12 +112,7 @@ impl Holds {
     pub fn give_back(&mut self, consumer: ConsumerKey)
         ensures { (q : ℕ) → map.get self.new q ≡ option_map (given_back consumer) (map.get self.old q) }
     {
-        let is_whole = self.is_whole;
-        if is_whole {
-            give_back(&mut self.deliveries, &mut self.places, consumer);
-            return;
-        }
-        give_back_each(&mut self.deliveries, consumer);
+        give_back(&mut self.deliveries, &mut self.places, consumer);
     }
 
     /// The position is acknowledged: nobody holds it, and its count goes.
@@ -166,16 +156,6 @@ fn delivery(deliveries: &BTreeMap<u64, Delivery>, position: u64) -> Option<Deliv
     }
 }
 
-// Whether nobody holds the delivery, if there is one.
-fn is_free(delivery: Option<Delivery>) -> bool
-    ensures { result ≡ is_none (holder_in delivery) }
-{
-    match delivery {
-        Some(delivery) => delivery.holder.is_none(),
-        None => true,
-    }
-}
-
 // The position has this delivery, which the consumer holds. A refusal changes no delivery.
 fn hold(
     deliveries: &mut BTreeMap<u64, Delivery>,
@@ -197,41 +177,6 @@ fn hold(
             places::unlist(places, Some(consumer), position);
             Err(AllocError)
         }
-    }
-}
-
-fn restore(
-    deliveries: &mut BTreeMap<u64, Delivery>,
-    places: &mut BTreeSet<Place>,
-    position: u64,
-    former: Option<Delivery>,
-)
-    ensures kept { (q : ℕ) → tree.get nat_cmp deliveries.new q ≡ cond (q == position) (put_back former (tree.get nat_cmp deliveries.old q)) (tree.get nat_cmp deliveries.old q) }
-    ensures listing { holder_in former ≡ None → IsListing deliveries.old places.old → IsListing deliveries.new places.new }
-{
-    let holder = holder(deliveries, position);
-    places::unlist(places, holder, position);
-    put_back(deliveries, position, former);
-}
-
-// The position has its former delivery again, or none, if it was sent.
-fn put_back(deliveries: &mut BTreeMap<u64, Delivery>, position: u64, former: Option<Delivery>)
-    ensures { (q : ℕ) → tree.get nat_cmp deliveries.new q ≡ cond (q == position) (put_back former (tree.get nat_cmp deliveries.old q)) (tree.get nat_cmp deliveries.old q) }
-{
-    match former {
-        Some(delivery) => overwrite(deliveries, position, delivery),
-        None => {
-            let _ = deliveries.remove(&position);
-        }
-    }
-}
-
-// The position's delivery is this one, if it was sent.
-fn overwrite(deliveries: &mut BTreeMap<u64, Delivery>, position: u64, delivery: Delivery)
-    ensures { (q : ℕ) → tree.get nat_cmp deliveries.new q ≡ cond (q == position) (put_back (Some delivery) (tree.get nat_cmp deliveries.old q)) (tree.get nat_cmp deliveries.old q) }
-{
-    if let Some(kept) = deliveries.get_mut(&position) {
-        *kept = delivery;
     }
 }
 
@@ -265,27 +210,6 @@ fn give_back(
     while let Some(position) = places::first(places, consumer) {
         free_at(deliveries, position);
         places::take(places, consumer, position);
-    }
-}
-
-// Gives back what the consumer holds, and looks at each delivery.
-fn give_back_each(deliveries: &mut BTreeMap<u64, Delivery>, consumer: ConsumerKey)
-    ensures { deliveries.new.entries ≡ each (λ e. (e.0, given_back consumer e.1)) deliveries.old.entries }
-{
-    deliveries.retain(|_, delivery| {
-        free(delivery, consumer);
-        true
-    });
-}
-
-// The delivery is given back by the consumer, if that one holds it.
-fn free(delivery: &mut Delivery, consumer: ConsumerKey)
-    ensures { delivery.new ≡ given_back consumer delivery.old }
-{
-    if let Some(key) = delivery.holder
-        && key == consumer
-    {
-        delivery.holder = None;
     }
 }
 

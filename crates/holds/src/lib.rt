@@ -9,11 +9,9 @@ mod consumer;
 mod delivery;
 mod dispatcher;
 mod holds_map;
-mod laws;
 mod places;
 
 pub use consumer::{Consumer, ConsumerKey, Refusal, SlotRange, SlotRanges};
 pub use delivery::Delivery;
 pub use dispatcher::{Dispatcher, Pending};
 pub use holds_map::Holds;
-pub use laws::restoring_undoes;

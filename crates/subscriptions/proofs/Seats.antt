@@ -50,7 +50,7 @@ same_itself a b h = ap (λ k. same_key k b) h ∙ grind (arith, nat_tests)
 same_numbers : (a b : ConsumerKey) → same_key a b ≡ true → (a.session ≡ b.session) × (a.id ≡ b.id)
 same_numbers a b h = (grind (arith, nat_tests), grind (arith, nat_tests))
 
-one_key : (a b : ConsumerKey) → same_key a b ≡ true → a ≡ b
+pub one_key : (a b : ConsumerKey) → same_key a b ≡ true → a ≡ b
 one_key a b h =
     let parts = same_numbers a b h in
     ap (λ s. let k : ConsumerKey = record { session = s; id = a.id } in k) parts.0 ∙ ap (λ i. let k : ConsumerKey = record { session = b.session; id = i } in k) parts.1

@@ -1,5 +1,5 @@
 use holds::attached::{find, full, push, remove};
-use holds::{Consumer, ConsumerKey, Delivery, Holds, Refusal, SlotRanges};
+use holds::{Consumer, ConsumerKey, Holds, Refusal, SlotRanges};
 use std::alloc::{AllocError, Global};
 use std::test::Fail;
 
@@ -68,27 +68,6 @@ fn acknowledged_positions_are_forgotten(rt: HostRuntime) -> Result<(), Fail> {
 }
 
 #[test]
-fn hold_is_undone(rt: HostRuntime) -> Result<(), Fail> {
-    let mut holds = Holds::new(rt.alloc());
-    holds.hold(1, FIRST)?;
-    holds.release(1);
-    for position in [0, 1] {
-        let former = holds.delivery(position);
-        holds.hold(position, SECOND)?;
-        assert_eq!(rt; holds.holder(position), Some(SECOND));
-        holds.restore(position, former);
-        assert_eq!(rt; holds.delivery(position), former, "at {position}");
-    }
-    let once = Delivery {
-        holder: None,
-        times: 1,
-    };
-    assert_eq!(rt; holds.delivery(0), None);
-    assert_eq!(rt; holds.delivery(1), Some(once));
-    Ok(())
-}
-
-#[test]
 fn a_position_that_another_holds_is_not_given_back(rt: HostRuntime) -> Result<(), Fail> {
     let mut holds = three_held(rt.alloc())?;
     holds.hold(4, SECOND)?;
@@ -121,16 +100,16 @@ fn a_forgotten_position_is_not_given_back(rt: HostRuntime) -> Result<(), Fail> {
 }
 
 #[test]
-fn a_restored_holder_gives_back(rt: HostRuntime) -> Result<(), Fail> {
+fn tells_the_first_position_of_a_consumer(rt: HostRuntime) -> Result<(), Fail> {
     let mut holds = three_held(rt.alloc())?;
-    let former = holds.delivery(4);
-    holds.hold(4, SECOND)?;
-    holds.restore(4, former);
-    assert_eq!(rt; holds.holder(4), Some(FIRST));
+    assert_eq!(rt; holds.first_held(FIRST), Some(4));
+    assert_eq!(rt; holds.first_held(SECOND), Some(5));
+    holds.release(4);
+    assert_eq!(rt; holds.first_held(FIRST), Some(6));
     holds.give_back(FIRST);
-    for (position, holder) in [(4, None), (5, Some(SECOND)), (6, None)] {
-        assert_eq!(rt; holds.holder(position), holder, "at {position}");
-    }
+    assert_eq!(rt; holds.first_held(FIRST), None);
+    holds.forget_below(6);
+    assert_eq!(rt; holds.first_held(SECOND), None);
     Ok(())
 }
 

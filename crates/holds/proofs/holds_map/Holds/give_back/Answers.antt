@@ -1,11 +1,8 @@
 use Rattle.std.proofs.Common.{◌∙◌, ap, sym}
 use Rattle.std.specs.Option.{option_map}
 use Rattle.holds.specs.Deliveries.{given_back}
-use Rattle.holds.proofs.Kept.{get_kept, get_mapped}
+use Rattle.holds.proofs.Kept.{get_kept}
 use Rattle.holds.proofs.holds_map.Holds.give_back.Goals as goal
 
-pub returns-then-is_whole : goal.returns-then-is_whole
-returns-then-is_whole c q = rw (← c.self.view_is) (get_kept _ q ∙ c.give_back.ensures.freed (c.self.invariant c.if-is_whole.true) q ∙ ap (option_map (given_back c.args.consumer)) (sym (get_kept _ q)))
-
 pub returns : goal.returns
-returns c = rw (← c.self.view_is) (get_mapped (given_back c.args.consumer) _ _ c.give_back_each.ensures)
+returns c q = rw (← c.self.view_is) (get_kept _ q ∙ c.give_back.ensures.freed c.self.invariant q ∙ ap (option_map (given_back c.args.consumer)) (sym (get_kept _ q)))
