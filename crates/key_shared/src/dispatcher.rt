@@ -1,4 +1,4 @@
-ghost use Rattle.std.specs.Prelude.{◌≡◌, ℕ, [], Some, IfSome, IfNone, IsSomeAnd};
+ghost use Rattle.std.specs.Prelude.{◌≡◌, ℕ, ◌≤◌, [], length, Some, None, IfSome, IfNone, IsSomeAnd};
 ghost use Rattle.holds.specs.Backlog.{IsLeast, attached};
 ghost use Rattle.holds.specs.declared.consumer.ConsumerKey.{ConsumerKey as Key};
 ghost use Rattle.key_shared.specs.Ranges.{are_refused, sticky_refusal, AdmitsSticky, AreApart, IsOpenFrom, place_of};
@@ -38,6 +38,7 @@ impl KeySharedDispatcher {
     pub fn pick_at<P: Pending>(&self, pending: &P, place: usize, from: u64) -> Option<u64>
         ensures some { (key : Key) → place_of key self.now.consumers.items ≡ Some place → IfSome result (λ i. IsSomeAnd (attached key self.now.consumers.items) (λ c. IsLeast (IsOpenFrom (P.backlog pending.now) c.ranges from) i)) }
         ensures none { (key : Key) → place_of key self.now.consumers.items ≡ Some place → IfNone result ((i : ℕ) → IsSomeAnd (attached key self.now.consumers.items) (λ c. IsOpenFrom (P.backlog pending.now) c.ranges from i) → ⊥) }
+        ensures nobody { length self.now.consumers.items ≤ place → result ≡ None }
     {
         let Some(consumer) = self.consumers.get(place) else {
             return None;
