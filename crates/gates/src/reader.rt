@@ -3,22 +3,22 @@ use std::sync::atomic::{AtomicU64, Ordering};
 use std::sync::{Mutex, Wait};
 use workers::{Numbered, Point, Turnstile};
 
-/// A reader's turnstile. It wakes the writer where an output was numbered since it was last asked, or the session has ended,
-/// and waits while too much stands unwritten.
+/// A reader's turnstile. It wakes the writer where a reply was given since it was last asked, or the session has ended, and waits
+/// while too much stands unwritten.
 #[derive(Drop)]
 pub struct ReaderGate<'a, R: Wait> {
     rt: &'a R,
     bells: &'a Bells,
     session: &'a Mutex<Numbered>,
     place: u8,
-    /// The number of the next output when it was last asked. One thread alone asks.
+    /// How many bytes of replies had been given when it was last asked. One thread alone asks.
     seen: AtomicU64,
 }
 
 /// How a session stands.
 #[derive(Clone, Copy)]
 struct Standing {
-    next: u64,
+    replied: u64,
     has_room: bool,
     is_over: bool,
 }
@@ -26,14 +26,14 @@ struct Standing {
 fn look<R: Wait>(rt: &R, session: &Mutex<Numbered>) -> Standing {
     let numbered = session.lock(rt);
     Standing {
-        next: numbered.next(),
+        replied: numbered.replied(),
         has_room: numbered.has_room(),
         is_over: numbered.is_over(),
     }
 }
 
 impl<'a, R: Wait> ReaderGate<'a, R> {
-    /// The turnstile of the connection at this place, whose session hasn't given an output yet.
+    /// The turnstile of the connection at this place, whose session hasn't given a reply yet.
     pub fn new(
         rt: &'a R,
         bells: &'a Bells,
@@ -54,7 +54,7 @@ impl<'a, R: Wait> Turnstile for ReaderGate<'a, R> {
     fn pass(&self, _point: Point) -> bool {
         for _ in self.rt.forever() {
             let now = look(self.rt, self.session);
-            if now.is_over || self.seen.swap(now.next, Ordering::SeqCst) != now.next {
+            if now.is_over || self.seen.swap(now.replied, Ordering::SeqCst) != now.replied {
                 self.bells.ring_writer(self.place);
             }
             if now.is_over {

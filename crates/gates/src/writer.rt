@@ -2,7 +2,7 @@ use bells::Bells;
 use std::sync::{Mutex, Wait};
 use workers::{Numbered, Point, Turnstile};
 
-/// A writer's turnstile. It wakes a reader that waits for room, and waits until it is rung; where the last pump stopped at a
+/// A writer's turnstile. It wakes a reader that waits for room, and waits until it is rung; where the last turn stopped at a
 /// bound of its own, the next one comes at once.
 #[derive(Drop)]
 pub struct WriterGate<'a, R: Wait> {

@@ -20,7 +20,7 @@ use Rattle.reply_queues.specs.Replies.{queued}
 use Rattle.holds.specs.declared.consumer.ConsumerKey.{ConsumerKey}
 use Rattle.subscriptions.specs.State.{Subscriptions}
 use Rattle.subscriptions.specs.Steps as subscriptions
-use Rattle.subscriptions.specs.declared.consumer.TooManyPermits.{TooManyPermits}
+use Rattle.permits.specs.declared.plain.TooManyPermits.{TooManyPermits}
 use Rattle.topic_core.specs.Dispatch.{sent}
 use Rattle.topic_core.specs.Steps.{Outcome, outcome_of, GrantStep, key_of, TopicStep, refused_or, first_standing, producer_refusals, send_refusals, subscribe_refusal, attach_refusal, ack_refusals, ack_refused, ack_accepted, close_refusals, closing, unsubscribe_refusal, unsubscribed, detach_refusals, detached, asked_back, with_producer, accepted, subscribed, bytes_of}
 use Rattle.topic_core.proofs.Sends.{takes_entry}

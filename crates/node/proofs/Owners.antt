@@ -11,7 +11,7 @@ use Rattle.gated_log.specs.declared.refusal.Refusal.TheVariants as refusal
 use Rattle.topic_stores.specs.declared.batch.Batch.{Batch}
 use Rattle.topic_stores.specs.declared.error.WriteError.{WriteError}
 use Rattle.topic_stores.specs.declared.error.WriteError.TheVariants.{Device, NoMemory}
-use Rattle.subscriptions.specs.declared.consumer.TooManyPermits.{TooManyPermits}
+use Rattle.permits.specs.declared.plain.TooManyPermits.{TooManyPermits}
 use Rattle.reply_queues.specs.Replies.{SessionReplies, is_for, due_to, with_pending, queued, without_first, collected_from, hand_on, make_due, take_back, make_all_due, refuse_pending}
 use Rattle.topic_core.specs.declared.command.Answer.{Answer}
 use Rattle.topic_core.specs.declared.command.Answer.TheVariants as answer

@@ -38,7 +38,7 @@ use Rattle.topic_core.specs.declared.command.SentEntry.{SentEntry}
 use Rattle.topic_core.specs.declared.command.TopicCommand.{TopicCommand}
 use Rattle.topic_core.specs.declared.command.TopicCommand.TheVariants as topic_command
 use Rattle.topic_core.proofs.Steps.{step-fits}
-use Rattle.subscriptions.specs.declared.consumer.TooManyPermits.{TooManyPermits}
+use Rattle.permits.specs.declared.plain.TooManyPermits.{TooManyPermits}
 use Rattle.session.specs.Broker.{Broker, fresh, topic_at, with_topic, sure, doubting, made, number_of, Settles, FindIn, FindStep, CommandStep, CollectedAt, DispatchAt, left_all}
 use Rattle.session.specs.Client.{Client, Play, plain, Says, SaysAlone, Answered, Ends, frame_of, left_if, left_if_ended}
 use Rattle.session.specs.Producing.{FoundStep, ProducerIn, own_refusals, with_live_producers, sent_entry, send_command, SendIn, producer_command, CloseIn, close_command}

@@ -3,7 +3,7 @@ use Rattle.std.proofs.Common.{◌≡◌, ◌⊎◌, inl, inr, ⊎_elim, ℕ, ◌
 use Rattle.std.proofs.lemmas.Bool.{true≢false}
 use Rattle.reply_queues.specs.Replies.{due_to}
 use Rattle.commands.specs.declared.reply.Reply.{Reply}
-use Rattle.subscriptions.specs.declared.consumer.TooManyPermits.{TooManyPermits}
+use Rattle.permits.specs.declared.plain.TooManyPermits.{TooManyPermits}
 use Rattle.gated_log.specs.declared.read_error.ReadError.{ReadError}
 use Rattle.gated_log.specs.declared.read_error.ReadError.TheVariants as read
 use Rattle.topic_stores.specs.declared.error.WriteError.TheVariants as write

@@ -11,7 +11,7 @@ use Rattle.reply_queues.specs.Replies.{SessionReplies, due_to, queued}
 use Rattle.subscriptions.specs.State.{Subscriptions}
 use Rattle.subscriptions.specs.Steps as subscriptions
 use Rattle.subscriptions.specs.Laws.{IsKept as AreKept}
-use Rattle.subscriptions.specs.declared.consumer.TooManyPermits.{TooManyPermits}
+use Rattle.permits.specs.declared.plain.TooManyPermits.{TooManyPermits}
 use Rattle.topic_core.specs.declared.command.Answer.{Answer}
 use Rattle.topic_core.specs.declared.command.Answer.TheVariants.{Now, Later, Nothing, NoMemory}
 use Rattle.topic_core.specs.declared.command.Send.{Send}

@@ -7,7 +7,7 @@ use Rattle.topic_core.specs.declared.dispatch.Outgoing.{Outgoing}
 use Rattle.gated_log.specs.declared.refusal.Refusal.{Refusal}
 use Rattle.topic_stores.specs.declared.batch.Batch.{Batch}
 use Rattle.topic_stores.specs.declared.error.WriteError.{WriteError}
-use Rattle.subscriptions.specs.declared.consumer.TooManyPermits.{TooManyPermits}
+use Rattle.permits.specs.declared.plain.TooManyPermits.{TooManyPermits}
 use Rattle.topic_core.specs.State.{Topic}
 use Rattle.reply_queues.specs.Replies.{due_to}
 use Rattle.topic_core.specs.Steps.{TopicStep, GrantStep, collected, left}

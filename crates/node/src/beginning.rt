@@ -10,15 +10,15 @@ ghost use Rattle.session.specs.Broker.{fresh};
 ghost use Rattle.node.specs.Numbers.{IsNumbered};
 ghost use Rattle.node.specs.Standing.{HeldStands};
 
-use crate::held::Held;
+use crate::held::{Core, Held};
 use disk::{DeviceError, Shelf};
 use gated_log::Refusal;
 use std::alloc::Global;
-use topic_core::{TopicCore, TopicStore};
+use topic_core::TopicStore;
 
 impl<T: TopicStore> Held<T> {
     /// A topic over its store, with no flush under way.
-    fn at_rest(core: TopicCore, stores: T) -> Held<T>
+    fn at_rest(core: Core, stores: T) -> Held<T>
         requires { Match (resting core.failed) core (T.view stores) }
         ensures { (result.core ≡ core) × (result.stores ≡ stores) × (result.flight ≡ None) }
     {
@@ -45,7 +45,7 @@ impl<T: TopicStore> Held<T> {
         ensures cause { IsErr result → Failed (S.disk shelf.old) (S.disk shelf.new) }
         ensures kept { Kept (S.disk shelf.old) (S.disk shelf.new) }
     {
-        let (core, stores) = TopicCore::create(alloc, shelf, number, per_ledger)?;
+        let (core, stores) = Core::create(alloc, shelf, number, per_ledger)?;
         Ok(Held::at_rest(core, stores))
     }
 
@@ -71,7 +71,7 @@ impl<T: TopicStore> Held<T> {
         ensures any_moment { (S.disk shelf.old).honest → Leaves (S.disk shelf.old).may_leave (S.disk shelf.old) (S.disk shelf.new) }
         ensures kept { Kept (S.disk shelf.old) (S.disk shelf.new) }
     {
-        let (core, stores) = TopicCore::open(alloc, shelf, number, per_ledger)?;
+        let (core, stores) = Core::open(alloc, shelf, number, per_ledger)?;
         Ok(Held::at_rest(core, stores))
     }
 }

@@ -4,8 +4,9 @@ use crate::topics::Topics;
 use commands::Reply;
 use disk::Shelf;
 use names::TopicName;
+use permits::{Granter, TooManyPermits};
 use session::{Found, Port};
-use topic_core::{Answer, Outgoing, ReadError, TooManyPermits, TopicCommand, TopicStore};
+use topic_core::{Answer, Outgoing, ReadError, TopicCommand, TopicStore};
 
 impl<T: TopicStore, S: Shelf> Port for Topics<T, S> {
     ghost use Rattle.node.specs.Standing.{broker_of, TopicsStand, Passes, Works, Fails, Refuses};
@@ -53,15 +54,24 @@ impl<T: TopicStore, S: Shelf> Port for Topics<T, S> {
         self.held[topic as usize].command(who, command)
     }
 
+    // The topics keep the granters.
+    fn take_granter(&mut self) -> Option<Granter> {
+        None
+    }
+
     fn grant(
         &mut self,
         topic: u64,
         who: u64,
         consumer_id: u64,
+        _granter: &mut Option<Granter>,
         permits: u32,
     ) -> Result<(), TooManyPermits> {
         self.held[topic as usize].grant(who, consumer_id, permits)
     }
+
+    // A topic knows all that was granted.
+    fn look(&mut self, _topic: u64, _who: u64, _consumer_id: u64) {}
 
     fn dispatch(
         &mut self,

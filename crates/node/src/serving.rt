@@ -22,7 +22,8 @@ impl<T: TopicStore> Held<T> {
         ensures goes_on { GoesOn self.old.core self.new.core }
         ensures rest { (self.new.stores ≡ self.old.stores) × (self.new.flight ≡ self.old.flight) }
     {
-        self.core.command(who, command)
+        // No granter comes out: both ends of a consumer's permits stay in the topic.
+        self.core.command(who, command, &mut None)
     }
 
     /// Grants permits to a consumer of a session.

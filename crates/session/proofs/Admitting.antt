@@ -12,8 +12,7 @@ use Rattle.holds.specs.declared.delivery.Delivery.{Delivery}
 use Rattle.holds.proofs.Kept.{get_inserted}
 use Rattle.subscriptions.specs.declared.consumer.Mode.{Mode}
 use Rattle.subscriptions.specs.declared.consumer.Mode.TheVariants.{Exclusive, Failover, Shared, KeyShared}
-use Rattle.subscriptions.specs.declared.consumer.Consumer.{Consumer}
-use Rattle.subscriptions.specs.State.{Subscription, Subscriptions}
+use Rattle.subscriptions.specs.State.{Consumer, Subscription, Subscriptions}
 use Rattle.subscriptions.specs.Steps.{first_changed, is_consumer, is_on, is_first, has_permit, sent, sent_on, sent_one, IsLeastIn, AdmitsBy, AdmitsOn, AdmitsAt, Admits}
 use Rattle.subscriptions.proofs.Sound.{any_changed}
 

@@ -6,6 +6,7 @@ pub mod AllRanges
 pub mod Causes
 pub mod Ends
 pub mod Leaving
+pub mod Listed
 pub mod Names
 pub mod Noting
 pub mod Ordered
@@ -17,6 +18,7 @@ pub mod Rising
 pub mod Searched
 pub mod Serving
 pub mod Speaking
+pub mod Spoken
 pub mod Unknown
 pub mod Wanting
 pub mod WholeFrames

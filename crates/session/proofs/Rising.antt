@@ -17,7 +17,7 @@ use Rattle.commands.specs.declared.reply.Reply.{Reply}
 use Rattle.commands.specs.declared.server_error.ServerError.{ServerError}
 use Rattle.frames.specs.declared.frame.Frame.{Frame}
 use Rattle.frames.specs.declared.frame.FrameEntry.{FrameEntry}
-use Rattle.subscriptions.specs.declared.consumer.TooManyPermits.{TooManyPermits}
+use Rattle.permits.specs.declared.plain.TooManyPermits.{TooManyPermits}
 use Rattle.topic_core.specs.declared.command.Answer.{Answer}
 use Rattle.topic_core.specs.declared.command.Answer.TheVariants.{Now, Later, Nothing, NoMemory}
 use Rattle.topic_core.specs.declared.command.SentEntry.{SentEntry}

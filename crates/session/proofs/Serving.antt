@@ -54,6 +54,10 @@ module _ (R S : ReadError → Type 0) (more : (why : ReadError) → R why → S 
   told-more (Ok n) h = tt
   told-more (Err why) h = is_told-more why h
 
+  pub pumped_told-more : (result : Result More PumpFault) → IfErr result (λ why. IsTold R why) → IfErr result (λ why. IsTold S why)
+  pumped_told-more (Ok m) h = tt
+  pumped_told-more (Err why) h = is_told-more why h
+
   pub serves_all-more : (consumers : List Entry) (most : ℕ) (result : Result ℕ PumpFault) (a b : Play) → ServesAll R consumers most result a b → ServesAll S consumers most result a b
   serves_all-more consumers most (Ok n) a b h = serves_each-more consumers most n a b h
   serves_all-more consumers most (Err why) a b h = record {

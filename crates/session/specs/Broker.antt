@@ -8,7 +8,7 @@ use Rattle.topic_core.specs.declared.command.TopicCommand.{TopicCommand}
 use Rattle.topic_core.specs.declared.command.Answer.{Answer}
 use Rattle.topic_core.specs.declared.dispatch.Outgoing.{Outgoing}
 use Rattle.gated_log.specs.declared.read_error.ReadError.{ReadError}
-use Rattle.subscriptions.specs.declared.consumer.TooManyPermits.{TooManyPermits}
+use Rattle.permits.specs.declared.plain.TooManyPermits.{TooManyPermits}
 use Rattle.topic_core.specs.State.{Topic, opened}
 use Rattle.reply_queues.specs.Replies.{due_to}
 use Rattle.topic_core.specs.Steps.{TopicStep, GrantStep, key_of, collected, left}

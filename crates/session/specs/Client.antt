@@ -26,6 +26,10 @@ pub record Client : Type 0 where
 abbrev pub new_client : ℕ → Client
 new_client number = record { number = number; progress = at_start; connected = false; producers = []; consumers = []; fault = None }
 
+-- a session of which no more is known than its number and why it ended
+abbrev pub speaking : ℕ → Option Fault → Client
+speaking number fault = record { number = number; progress = at_start; connected = false; producers = []; consumers = []; fault = fault }
+
 -- a session, the broker and the session's bytes out
 pub record Play : Type 0 where
   pub client : Client

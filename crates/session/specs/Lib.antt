@@ -11,4 +11,5 @@ pub mod Working
 pub mod Asking
 pub mod Noting
 pub mod Pumping
+pub mod Listing
 pub mod Laws

@@ -7,7 +7,7 @@ use Rattle.topic_core.specs.declared.dispatch.Outgoing.{Outgoing}
 use Rattle.topic_core.specs.Steps.{key_of}
 use Rattle.topic_core.specs.Dispatch.{Admits}
 use Rattle.session.specs.Broker.{topic_at, due_at, CollectedAt, DispatchAt}
-use Rattle.session.specs.Client.{Play, plain, Says, Ends, left_if_ended}
+use Rattle.session.specs.Client.{Client, Play, plain, Says, Ends, left_if_ended}
 use Rattle.session.specs.declared.entry.Entry.{Entry}
 use Rattle.session.specs.declared.fault.Fault.{Fault}
 use Rattle.session.specs.declared.fault.Fault.TheVariants as fault
@@ -73,6 +73,10 @@ ended_by (Damaged file offset) = None
 abbrev pub pumped_fault : Result More PumpFault → Option Fault
 pumped_fault (Ok more) = None
 pumped_fault (Err why) = ended_by why
+
+-- a session behind a pump that answered so
+abbrev pub pumped : Client → Result More PumpFault → Client
+pumped c result = record c { fault = pumped_fault result }
 
 -- which refusals of a message the broker answered
 module _ (Refused : ReadError → Type 0) where
@@ -140,6 +144,11 @@ module _ (Refused : ReadError → Type 0) where
   abbrev pub ServesIf : Bool → Result ℕ PumpFault → Play → Play → Type 0
   ServesIf true result old new = ServesAll old.client.consumers 64 result old new
   ServesIf false result old new = (result ≡ Ok 0) × (new ≡ old)
+
+  -- so it serves these
+  abbrev pub ServesThese : Bool → List Entry → Result ℕ PumpFault → Play → Play → Type 0
+  ServesThese true consumers result old new = ServesAll consumers 64 result old new
+  ServesThese false consumers result old new = (result ≡ Ok 0) × (new ≡ old)
 
   -- a pump collects until nothing is due, or its 65,536th reply; in the first case it then sends messages until nothing is
   -- admitted, its 64th message, or a failure of the device. It stops where the session ends, which then leaves each topic

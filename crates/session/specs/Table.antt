@@ -8,6 +8,10 @@ use Rattle.session.specs.declared.entry.Entry.{Entry}
 abbrev pub has_entry : List Entry → ℕ → Bool
 has_entry entries id = list_any (λ entry. nat_eq entry.id id) entries
 
+-- whether it is an entry of this id
+abbrev pub has_id : ℕ → Entry → Bool
+has_id id entry = nat_eq entry.id id
+
 -- a topic is one of theirs
 abbrev pub has_topic : List Entry → ℕ → Bool
 has_topic entries topic = list_any (λ entry. nat_eq entry.topic topic) entries

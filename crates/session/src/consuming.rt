@@ -10,20 +10,21 @@ ghost use Rattle.session.specs.HashRanges.{ranges_of};
 ghost use Rattle.session.specs.Table.{has_entry, topic_of, IsUnknown};
 ghost use Rattle.session.specs.Consuming.{mode_of, own_refusals, IsNamed, subscribe_command, is_later, with_entry, Subscribes, FoundStep, SubscribeOf, SubscribeStep, granting, FlowStep, RefusesAck, AckStep, UnsubscribeStep};
 
-use crate::consumers::Consumers;
-use crate::entry::Entry;
+use crate::consumer_entry::ConsumerEntry;
+use crate::consumers::{Consumers, has_consumer};
 use crate::fault::Fault;
 use crate::hash_ranges::ranges_of;
 use crate::port::{Found, Port};
 use crate::session::Session;
-use crate::table::{has_entry, if_there};
+use crate::table::if_there;
 use crate::topic_name::read_name;
 use commands::{Ack, Flow, Reply, ServerError, Subscribe, SubscriptionType, Unsubscribe};
 use holds::SlotRanges;
 use names::is_topic_name;
+use permits::TooManyPermits;
 use records::is_subscription_name;
 use std::alloc::AllocError;
-use subscriptions::{Mode, TooManyPermits};
+use subscriptions::Mode;
 use topic_core::{Answer, TopicCommand};
 
 /// Our own rule: a session has at most so many consumers.
@@ -125,7 +126,7 @@ impl Session {
         )?;
         let place = self.consumers.insert(asked.consumer_id, topic)?;
         let answer = port.command(topic, self.number, subscribe_command(asked, ranges));
-        keep_if(&mut self.consumers, is_later(&answer), place);
+        keep_if(&mut self.consumers, is_later(&answer), place, port);
         self.answer(&answer, out);
         Ok(())
     }
@@ -149,12 +150,11 @@ impl Session {
         let Some(topic) = self.consumer_topic(asked.consumer_id, port) else {
             return;
         };
-        let granted = port.grant(
-            topic,
-            self.number(),
-            asked.consumer_id,
-            asked.message_permits,
-        );
+        let who = self.number();
+        let permits = asked.message_permits;
+        let granted = self
+            .consumers
+            .grant(asked.consumer_id, topic, who, permits, port);
         self.end_if_too_many(granted);
     }
 
@@ -232,10 +232,10 @@ fn mode_of(kind: SubscriptionType) -> Mode
     }
 }
 
-fn own_refusal(consumers: &[Entry], asked: &Subscribe) -> Option<ServerError>
+fn own_refusal(consumers: &[ConsumerEntry], asked: &Subscribe) -> Option<ServerError>
     ensures { result ≡ first_standing (own_refusals consumers.now asked.now) }
 {
-    if has_entry(consumers, asked.consumer_id) {
+    if has_consumer(consumers, asked.consumer_id) {
         return Some(ServerError::NotAllowedError);
     }
     if consumers.len() >= MOST_CONSUMERS {
@@ -278,13 +278,16 @@ fn is_later(answer: &Answer) -> bool
     }
 }
 
-/// Drops the consumer that was put at this place, where it wasn't accepted.
-fn keep_if(consumers: &mut Consumers, accepted: bool, place: usize)
+/// Drops the consumer that was put at this place, where it wasn't accepted. Else it keeps the granter of its permits.
+fn keep_if<P: Port>(consumers: &mut Consumers, accepted: bool, place: usize, port: &mut P)
     requires { place < length consumers.old }
-    ensures { (earlier : List TheEntry) (id topic : ℕ) → place ≡ position_or_len (λ entry. nat_lt id entry.id) earlier → consumers.old ≡ with_entry earlier true id topic →
+    ensures entry { (earlier : List TheEntry) (id topic : ℕ) → place ≡ position_or_len (λ entry. nat_lt id entry.id) earlier → consumers.old ≡ with_entry earlier true id topic →
         consumers.new ≡ with_entry earlier accepted id topic }
+    ensures same { P.sole port.old → P.broker port.new ≡ P.broker port.old }
+    ensures passes { P.passes port.old port.new }
 {
     if !accepted {
-        consumers.remove(place);
+        return consumers.remove(place);
     }
+    consumers.keep(place, port.take_granter());
 }

@@ -2,9 +2,13 @@
 //! frames of the replies that an abstract broker allows. Its first fault ends it: it then leaves each topic, works
 //! and writes nothing more, and answers that fault ever after. A pump collects the replies that are due to it
 //! until none is left, and then hands out messages for its consumers until none is admitted, each up to a bound.
+//! A list of its consumers, which a session gives, is served just so by whoever doesn't hold the session. The granter
+//! of a consumer's permits stands with the session where its port says so; a pump, or the serving of a list, then
+//! first has the consumer's topic look for what was granted.
 #![tactic(auto)]
 
 mod asked;
+mod consumer_entry;
 mod consumers;
 mod consuming;
 mod entry;
@@ -12,11 +16,14 @@ mod fault;
 mod giving_back;
 mod hash_ranges;
 mod laws;
+mod listing;
 mod lookup;
 mod port;
 mod producing;
 mod pumping;
+mod roll;
 mod session;
+mod speaker;
 mod table;
 mod topic_name;
 mod working;
@@ -27,6 +34,7 @@ pub use laws::{
     consumers_rise, ended_sessions_leave, lost_replies_are_absorbed, pumps_finish, pumps_serve,
     want_of_memory_is_named, writes_whole_frames,
 };
+pub use listing::List;
 pub use port::{Found, Port};
 pub use pumping::{More, PumpFault};
 pub use session::Session;

@@ -5,7 +5,8 @@ ghost use Rattle.session.specs.Broker.{Broker, topic_at, FindStep, IfFound, IfFa
 
 use commands::Reply;
 use names::TopicName;
-use topic_core::{Answer, Outgoing, ReadError, TooManyPermits, TopicCommand};
+use permits::{Granter, TooManyPermits};
+use topic_core::{Answer, Outgoing, ReadError, TopicCommand};
 
 /// What looking for a topic gives.
 #[derive(Clone, Copy, Debug, PartialEq, Eq)]
@@ -77,16 +78,28 @@ pub trait Port {
         ensures fits { Fits command result }
         ensures passes { passes self.old self.new };
 
-    /// Grants so many messages more to a consumer of the session.
+    /// The granter of the consumer that the session subscribed last, where the session is to keep it. It is given once.
+    fn take_granter(&mut self) -> Option<Granter>
+        ensures same { sole self.old → broker self.new ≡ broker self.old }
+        ensures passes { passes self.old self.new };
+
+    /// Grants so many messages more to a consumer of the session, by its granter where the session keeps that one.
     fn grant(
         &mut self,
         topic: u64,
         who: u64,
         consumer_id: u64,
+        granter: &mut Option<Granter>,
         permits: u32,
     ) -> Result<(), TooManyPermits>
         requires { topic < count self.old }
         ensures step { sole self.old → GrantAt (broker self.old) topic who consumer_id permits result (broker self.new) }
+        ensures passes { passes self.old self.new };
+
+    /// Looks what the session granted to a consumer, where it may have granted permits since it was looked last. Changes nothing.
+    fn look(&mut self, topic: u64, who: u64, consumer_id: u64)
+        requires { topic < count self.old }
+        ensures same { sole self.old → broker self.new ≡ broker self.old }
         ensures passes { passes self.old self.new };
 
     /// A message for a consumer of the session, which holds it from then on.

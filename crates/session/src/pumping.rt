@@ -3,13 +3,15 @@ ghost use Rattle.session.specs.declared.pumping.PumpFault.TheVariants.{Device};
 ghost use Rattle.session.specs.Broker.{due_at, topic_at};
 ghost use Rattle.session.specs.Asking.{Knows};
 ghost use Rattle.session.specs.Client.{Client, Play, play, Speaks, Writes};
-ghost use Rattle.session.specs.Pumping.{CollectsFrom, CollectsNothing, CollectsAt, Collects, HasNothingDue, SendsOne, SendsNothing, ServesOne, ServesAll, ServesIf, PumpStep, IsTold, ended_by, pumped_fault};
+ghost use Rattle.session.specs.Pumping.{CollectsFrom, CollectsNothing, CollectsAt, Collects, HasNothingDue, SendsOne, SendsNothing, ServesOne, ServesAll, ServesThese, PumpStep, IsTold, ended_by, pumped_fault, pumped};
 
 use crate::asked::{Asked, ask, first_busy};
 use crate::entry::Entry;
 use crate::fault::Fault;
 use crate::port::Port;
+use crate::roll::Roll;
 use crate::session::Session;
+use crate::speaker::Speaker;
 use disk::FileId;
 use thiserror::Error;
 use topic_core::ReadError;
@@ -42,10 +44,10 @@ pub enum PumpFault {
 }
 
 impl Session {
-    /// Collects the replies that are due to the session and writes their frames, at most 65,536 of them. Where none is
-    /// left, it then sends messages to the session's consumers, at most 64 of them. A reply or a message that finds no
-    /// memory ends the session. A message that the device fails to read stops the pump and changes nothing: what went
-    /// out before stands.
+    /// Has the topics look for the permits that were granted since the session was pumped or listed last. Then collects the
+    /// replies that are due to the session and writes their frames, at most 65,536 of them. Where none is left, it then sends
+    /// messages to the session's consumers, at most 64 of them. A reply or a message that finds no memory ends the session. A
+    /// message that the device fails to read stops the pump and changes nothing: what went out before stands.
     pub fn pump<P: Port>(&mut self, port: &mut P, out: &mut Vec<u8>) -> Result<More, PumpFault>
         ensures step { P.sole port.old → PumpStep (λ why. P.refuses port.old why port.new) (play self.old (P.broker port.old) out.old.items) result
             (play self.new (P.broker port.new) out.new.items) }
@@ -61,9 +63,49 @@ impl Session {
         if let Some(why) = self.fault {
             return Err(PumpFault::Ended(why));
         }
-        let replies = self.collect_all(port, out);
-        let messages = self.serve_if(replies < MOST_REPLIES, port, out);
-        if let Some(why) = self.leave_if_ended(port) {
+        self.consumers.look(self.number, port);
+        let speaker = Speaker::new(self.alloc, self.number);
+        let answer = speaker.pump(&self.consumers, port, out);
+        self.end_as_served(&answer);
+        answer
+    }
+
+    /// Takes in how the serving of its list went: where that ended it for want of memory it has ended so, unless it had ended
+    /// before.
+    pub fn end_as_served(&mut self, answer: &Result<More, PumpFault>)
+        ensures went_on { self.old.fault ≡ None → self.new ≡ pumped self.old answer.now }
+        ensures ended { IfSome self.old.fault (λ why. self.new ≡ self.old) }
+    {
+        if self.fault.is_some() {
+            return;
+        }
+        if let Err(PumpFault::Ended(why)) = answer {
+            self.fault = Some(*why);
+        }
+    }
+}
+
+impl Speaker {
+    /// Collects the replies that are due to the session and writes their frames. Where none is left, it then sends messages to
+    /// these consumers.
+    pub(crate) fn pump<R: Roll, P: Port>(
+        self,
+        roll: &R,
+        port: &mut P,
+        out: &mut Vec<u8>,
+    ) -> Result<More, PumpFault>
+        requires { self.fault ≡ None }
+        ensures step { P.sole port.old → (client : Client) → client.number ≡ self.number → client.fault ≡ None → client.consumers ≡ R.entries roll.now →
+            PumpStep (λ why. P.refuses port.old why port.new) (play client (P.broker port.old) out.old.items) result
+            (play (pumped client result) (P.broker port.new) out.new.items) }
+        ensures told { IfErr result (λ fault. IsTold (λ why. P.refuses port.old why port.new) fault) }
+        ensures writes { Writes out.old.items out.new.items }
+        ensures passes { P.passes port.old port.new }
+    {
+        let mut speaker = self;
+        let replies = speaker.collect_all(port, out);
+        let messages = speaker.serve_if(replies < MOST_REPLIES, roll, port, out);
+        if let Some(why) = speaker.leave_if_ended(port) {
             return Err(PumpFault::Ended(why));
         }
         let messages = messages?;
@@ -142,13 +184,14 @@ impl Session {
     }
 
     /// Serves the session's consumers where the pump may go on, and gives how many messages they got.
-    fn serve_if<P: Port>(
+    fn serve_if<R: Roll, P: Port>(
         &mut self,
         goes_on: bool,
+        roll: &R,
         port: &mut P,
         out: &mut Vec<u8>,
     ) -> Result<usize, PumpFault>
-        ensures serves { P.sole port.old → ServesIf (λ why. P.refuses port.old why port.new) goes_on result (play self.old (P.broker port.old) out.old.items)
+        ensures serves { P.sole port.old → ServesThese (λ why. P.refuses port.old why port.new) goes_on (R.entries roll.now) result (play self.old (P.broker port.old) out.old.items)
             (play self.new (P.broker port.new) out.new.items) }
         ensures refused { IfErr result (λ why. ended_by why ≡ None) }
         ensures told { IfErr result (λ fault. IsTold (λ why. P.refuses port.old why port.new) fault) }
@@ -156,36 +199,42 @@ impl Session {
         ensures passes { P.passes port.old port.new }
     {
         if goes_on {
-            self.serve_all(port, out)
+            self.serve_all(roll, port, out)
         } else {
             Ok(0)
         }
     }
 
     /// Serves the session's consumers, unless each of their topics has nothing for them. Gives how many messages they got.
-    fn serve_all<P: Port>(&mut self, port: &mut P, out: &mut Vec<u8>) -> Result<usize, PumpFault>
-        ensures serves { P.sole port.old → ServesAll (λ why. P.refuses port.old why port.new) self.old.consumers 64 result (play self.old (P.broker port.old) out.old.items)
+    fn serve_all<R: Roll, P: Port>(
+        &mut self,
+        roll: &R,
+        port: &mut P,
+        out: &mut Vec<u8>,
+    ) -> Result<usize, PumpFault>
+        ensures serves { P.sole port.old → ServesAll (λ why. P.refuses port.old why port.new) (R.entries roll.now) 64 result (play self.old (P.broker port.old) out.old.items)
             (play self.new (P.broker port.new) out.new.items) }
         ensures refused { IfErr result (λ why. ended_by why ≡ None) }
         ensures told { IfErr result (λ fault. IsTold (λ why. P.refuses port.old why port.new) fault) }
         ensures speaks { Speaks self.old out.old.items self.new out.new.items }
         ensures passes { P.passes port.old port.new }
     {
-        let Some(busy) = first_busy(self.consumers.topics(), self.number, port) else {
+        let Some(busy) = first_busy(roll.topics(), self.number(), port) else {
             return Ok(0);
         };
-        self.serve_each(busy, port, out)
+        self.serve_each(busy, roll, port, out)
     }
 
     /// Serves the session's consumers in rising id, and gives how many messages they got. The topic that was asked last
     /// may have something for them.
-    fn serve_each<P: Port>(
+    fn serve_each<R: Roll, P: Port>(
         &mut self,
         busy: u64,
+        roll: &R,
         port: &mut P,
         out: &mut Vec<u8>,
     ) -> Result<usize, PumpFault>
-        ensures serves { P.sole port.old → ServesAll (λ why. P.refuses port.old why port.new) self.old.consumers 64 result (play self.old (P.broker port.old) out.old.items)
+        ensures serves { P.sole port.old → ServesAll (λ why. P.refuses port.old why port.new) (R.entries roll.now) 64 result (play self.old (P.broker port.old) out.old.items)
             (play self.new (P.broker port.new) out.new.items) }
         ensures refused { IfErr result (λ why. ended_by why ≡ None) }
         ensures told { IfErr result (λ fault. IsTold (λ why. P.refuses port.old why port.new) fault) }
@@ -197,8 +246,8 @@ impl Session {
             topic: busy,
             is_quiet: false,
         });
-        for place in 0..self.consumers.len() {
-            let consumer = self.consumers.at(place);
+        for place in 0..roll.len() {
+            let consumer = roll.at(place);
             let room = MOST_MESSAGES - count;
             count += self.serve_or_pass(consumer, &mut last, room, port, out)?;
         }
@@ -222,7 +271,6 @@ impl Session {
             (play self.new (P.broker port.new) out.new.items) }
         ensures refused { IfErr result (λ why. ended_by why ≡ None) }
         ensures told { IfErr result (λ fault. IsTold (λ why. P.refuses port.old why port.new) fault) }
-        ensures consumers { self.new.consumers ≡ self.old.consumers }
         ensures speaks { Speaks self.old out.old.items self.new out.new.items }
         ensures passes { P.passes port.old port.new }
     {
@@ -247,7 +295,6 @@ impl Session {
             (play self.new (P.broker port.new) out.new.items) }
         ensures refused { IfErr result (λ why. ended_by why ≡ None) }
         ensures told { IfErr result (λ fault. IsTold (λ why. P.refuses port.old why port.new) fault) }
-        ensures consumers { self.new.consumers ≡ self.old.consumers }
         ensures speaks { Speaks self.old out.old.items self.new out.new.items }
         ensures passes { P.passes port.old port.new }
     {
@@ -281,7 +328,6 @@ impl Session {
         ensures told { IfErr result (λ fault. IsTold (λ why. P.refuses port.old why port.new) fault) }
         ensures device { P.sole port.old → IfErr result (λ why. (why ≡ Device)
             × (play self.new (P.broker port.new) out.new.items ≡ play self.old (P.broker port.old) out.old.items)) }
-        ensures consumers { self.new.consumers ≡ self.old.consumers }
         ensures speaks { Speaks self.old out.old.items self.new out.new.items }
         ensures passes { P.passes port.old port.new }
     {

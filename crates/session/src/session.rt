@@ -1,4 +1,4 @@
-ghost use Rattle.std.specs.Prelude.{◌≡◌, ◌<◌, ◌≤◌, is_some, length};
+ghost use Rattle.std.specs.Prelude.{◌≡◌, ◌<◌, ◌≤◌};
 ghost use Rattle.session.specs.Broker.{left_all};
 ghost use Rattle.session.specs.Client.{Client, new_client, ended, left_if, plain, Says, Answered, Speaks};
 
@@ -10,7 +10,7 @@ use commands::Reply;
 use frames::{Parser, write_frame};
 use std::alloc::Global;
 use std::marker::Model;
-use topic_core::{Answer, Outgoing};
+use topic_core::Answer;
 
 /// A client's session. Contracts see its number, where its stream of bytes stands, whether CONNECT came, its
 /// producers and consumers, and why it ended.
@@ -82,12 +82,6 @@ impl Session {
         Some(why)
     }
 
-    pub(crate) fn has_ended(&self) -> bool
-        ensures { result ≡ is_some self.now.fault }
-    {
-        self.fault.is_some()
-    }
-
     pub(crate) fn end_by(&mut self, why: Fault)
         ensures { self.new ≡ ended self.old why }
     {
@@ -100,19 +94,6 @@ impl Session {
         ensures speaks { Speaks self.old out.old.items self.new out.new.items }
     {
         if write_frame(self.alloc, reply, None, out).is_err() {
-            self.fault = Some(Fault::NoMemory);
-        }
-    }
-
-    /// Writes the frame of a message with its entry behind it ("Pulsar binary protocol, Payload commands"), or ends
-    /// for want of memory.
-    pub(crate) fn hand_out(&mut self, message: &Outgoing, out: &mut Vec<u8>)
-        requires { length message.now.entry ≤ 1048576 }
-        ensures says { Says self.old out.old.items message.now self.new out.new.items }
-        ensures speaks { Speaks self.old out.old.items self.new out.new.items }
-    {
-        let entry = message.entry.as_slice();
-        if write_frame(self.alloc, &message.reply, Some(entry), out).is_err() {
             self.fault = Some(Fault::NoMemory);
         }
     }

@@ -1,5 +1,5 @@
 ghost use Rattle.std.specs.Prelude.{◌≡◌, ◌<◌, ◌≤◌, Some, IfSome, IfNone};
-ghost use Rattle.session.specs.Table.{has_entry, has_topic, topic_of, AreRising, IsUnknown};
+ghost use Rattle.session.specs.Table.{has_entry, topic_of, IsUnknown};
 
 use crate::entry::Entry;
 use crate::port::Port;
@@ -11,13 +11,6 @@ pub(crate) fn has_entry(entries: &[Entry], id: u64) -> bool
     entries.iter().any(|entry| entry.id == id)
 }
 
-/// Whether a topic is one of theirs.
-pub(crate) fn has_topic(entries: &[Entry], topic: u64) -> bool
-    ensures { result ≡ has_topic entries.now topic }
-{
-    entries.iter().any(|entry| entry.topic == topic)
-}
-
 fn topic_of(entries: &[Entry], id: u64) -> Option<u64>
     ensures { result ≡ topic_of entries.now id }
 {
@@ -25,38 +18,6 @@ fn topic_of(entries: &[Entry], id: u64) -> Option<u64>
         .iter()
         .find(|entry| entry.id == id)
         .map(|entry| entry.topic)
-}
-
-/// The topic of an id, where the ids rise. A client counts its ids, so the place that the id tells is looked at first.
-#[tactic(auto, using(crate::proofs::Searched::told))]
-pub(crate) fn topic_among(entries: &[Entry], id: u64) -> Option<u64>
-    requires { AreRising entries.now }
-    ensures { result ≡ topic_of entries.now id }
-{
-    if id < entries.len() as u64 {
-        let entry = entries[id as usize];
-        if entry.id == id {
-            return Some(entry.topic);
-        }
-    }
-    topic_by_halves(entries, id)
-}
-
-/// The topic of an id, where the ids rise, by a search.
-fn topic_by_halves(entries: &[Entry], id: u64) -> Option<u64>
-    requires { AreRising entries.now }
-    ensures { result ≡ topic_of entries.now id }
-{
-    let place = entries.partition_point(|entry| entry.id < id);
-    if place >= entries.len() {
-        return None;
-    }
-    let entry = entries[place];
-    if entry.id == id {
-        Some(entry.topic)
-    } else {
-        None
-    }
 }
 
 /// A topic, where it is there.

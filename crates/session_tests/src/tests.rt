@@ -5,11 +5,14 @@ mod board;
 mod feeding;
 mod looking;
 mod pumping;
+mod serving;
 mod texts;
 
 use board::Board;
+use commands::Reply;
+use ids::MessageId;
 use session::{Fault, More, PumpFault, Session};
-use std::alloc::Global;
+use std::alloc::{AllocError, Global};
 
 const CONNECT: &[u8] = b"\0\0\0\x0d\0\0\0\x09\x08\x02\x12\x05\x0a\x01c\x20\x05";
 
@@ -20,6 +23,15 @@ const PONG: &[u8] = b"\0\0\0\x09\0\0\0\x05\x08\x13\x9a\x01\0";
 // Of consumer 2, with request 8, to the subscription `s` from the first entry on.
 const SUBSCRIBE: &[u8] =
     b"\0\0\0\x27\0\0\0\x23\x08\x04\x22\x1f\x0a\x12persistent://a/b/c\x12\x01s\x18\0\x20\x02\x28\x08\x68\x01";
+
+// SUBSCRIBE of consumer 3, to the same subscription.
+const SUBSCRIBE_NEXT: &[u8] =
+    b"\0\0\0\x27\0\0\0\x23\x08\x04\x22\x1f\x0a\x12persistent://a/b/c\x12\x01s\x18\0\x20\x03\x28\x08\x68\x01";
+
+// RECEIPT of the first entry to producer 1, and MESSAGE for consumer 2 behind it.
+const RECEIPT_AND_MESSAGE: &[u8] =
+    b"\0\0\0\x12\0\0\0\x0e\x08\x07\x3a\x0a\x08\x01\x10\0\x1a\x04\x08\0\x10\0\
+\0\0\0\x1e\0\0\0\x0c\x08\x09\x4a\x08\x08\x02\x12\x04\x08\0\x10\0\0\0\0\x0a\x0a\x01p\x10\0\x18\x01\xc0>\x05";
 
 // SUBSCRIBE on what is no name of a topic.
 const SUBSCRIBE_ON_NO_TOPIC: &[u8] =
@@ -79,6 +91,41 @@ impl Stage {
             Err(fault) if self.out.is_empty() => Ok(Some(fault)),
             _ => Ok(None),
         }
+    }
+
+    // A consumer for each of these, and dispatches to come, the last one first.
+    fn begin(
+        &mut self,
+        consumers: &[&[u8]],
+        dispatches: &[Option<PumpFault>],
+    ) -> Result<(), Fault> {
+        self.feed(CONNECT)?;
+        for subscribe in consumers {
+            self.feed(subscribe)?;
+        }
+        match self.lay(dispatches) {
+            Ok(()) => Ok(()),
+            Err(_) => Err(Fault::NoMemory),
+        }
+    }
+
+    fn lay(&mut self, dispatches: &[Option<PumpFault>]) -> Result<(), AllocError> {
+        for dispatch in dispatches {
+            self.board.dispatches.push(*dispatch)?;
+        }
+        Ok(())
+    }
+
+    // A receipt is due.
+    fn owe(&mut self) {
+        self.board.due = Some(Reply::SendReceipt {
+            producer_id: 1,
+            sequence_id: 0,
+            message_id: MessageId {
+                ledger_id: 0,
+                entry_id: 0,
+            },
+        });
     }
 
     fn pump(&mut self) -> Result<More, PumpFault> {

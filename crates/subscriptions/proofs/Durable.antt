@@ -1,5 +1,6 @@
 -- The subscriptions are what their changes make of the durable ones, after each step, and the changes have their form.
 use Rattle.std.proofs.Common.{◌≡◌, ℕ, zero, suc, ◌+◌, ◌-◌, ◌<◌, ◌≤◌, Bool, false, true, nat_le, cond, T, ◌&&◌, List, [], ◌∷◌, ◌++◌, length, take, drop, ◌∙◌, ap, sym, subst, refl, arith, Some, None, Option, length-append}
+use Rattle.std.proofs.lemmas.List.Elements.{length_all_zip}
 use Rattle.std.proofs.lemmas.Bool.{false≢true}
 use Rattle.std.proofs.lemmas.Bool.Decides.{nat_tests}
 use Rattle.std.proofs.lemmas.Map.Text.{is_eq-slice_cmp}
@@ -27,9 +28,10 @@ use Rattle.records.specs.Records.{after, after_all, changed, changed_at, acknowl
 use Rattle.subscriptions.specs.declared.consumer.Mode.{Mode}
 use Rattle.subscriptions.specs.declared.consumer.Refusal.{Refusal}
 use Rattle.subscriptions.specs.State.{Subscription, Subscriptions}
-use Rattle.subscriptions.specs.Steps.{opened, opened_one, first_changed, first_standing, is_named, is_on, refusals_at, attached_at, attached_to, made, acked_on, acknowledgements, acked_through_on, acknowledgement_through, first_removed, removal, granted_on, sent_on, left_on, settled, detached_on, redelivered_on}
+use Rattle.subscriptions.specs.Steps.{opened, opened_one, first_changed, first_standing, is_named, is_on, refusals_at, attached_at, attached_to, made, acked_on, acknowledgements, acked_through_on, acknowledgement_through, first_removed, removal, granted_on, learnt_on, HasLearntOn, sent_on, left_on, settled, detached_on, redelivered_on}
 use Rattle.subscriptions.specs.Soundness.{IsSoundSubscription, HasLimits, IsSound, IsCommittedOn, IsCommitted}
 use Rattle.subscriptions.specs.Laws.{acked_as, AreDurable, IsKept, AreKept}
+use Rattle.subscriptions.proofs.Looking.{zip_found, named_looked, acked_looked}
 use Rattle.subscriptions.proofs.Sound.{length_changed, sound_opened}
 use Rattle.subscriptions.proofs.Kept.{names, turned, get_insert, after_append, after_parts, after_ack, there_after_ack, same_name, acked_found, acked_spared, acked_each, attached_same, acknowledged_same, through_same, after_through, removed_same}
 use Rattle.subscriptions.proofs.Places.{removed-none, none_found, length_removed}
@@ -335,6 +337,8 @@ are_kept = record {
   opened = opened_kept;
   attach = λ e kept t name mode seat start allowed named low is. attach_kept e kept t name mode seat start (find (is_named name) t.subs) refl allowed named low is;
   grant = λ e kept t key permits is. kept_spared e kept t _ (λ q. acked_spared (is_on key) (granted_on key permits) (record { name = λ _. refl; acked = λ _. refl }) q t.subs) (length_changed (is_on key) (granted_on key permits) t.subs) is;
+  learn = λ e kept t key n is. kept_spared e kept t _ (λ q. acked_spared (is_on key) (learnt_on key n) (record { name = λ _. refl; acked = λ _. refl }) q t.subs) (length_changed (is_on key) (learnt_on key n) t.subs) is;
+  look = λ e kept t new who h is. subst (IsKept e kept) (sym h.same) (kept_spared e kept t new.subs (λ q. zip_found (HasLearntOn who) (λ s. s.acked) (is_named q) (named_looked who q) (acked_looked who) t.subs new.subs h.subs) (sym (length_all_zip (HasLearntOn who) t.subs new.subs h.subs)) is);
   acknowledge = λ e kept t key ps limits all is. ack_kept e kept t key ps (find (is_on key) t.subs) refl limits all is;
   acknowledge_through = λ e kept t key p limits low is. through_kept e kept t key p (find (is_on key) t.subs) refl limits low is;
   unsubscribe = λ e kept t key limits is. removed_kept e kept t key (find (is_on key) t.subs) refl limits is;

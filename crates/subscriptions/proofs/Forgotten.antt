@@ -3,7 +3,7 @@ use Rattle.std.proofs.Common.{◌≡◌, ℕ, ◌+◌, Bool, true, false, not, n
 use Rattle.std.proofs.lemmas.Bool.Decides.{nat_tests}
 use Rattle.std.proofs.lemmas.List.{map-append, length-map}
 use Rattle.std.specs.Prelude.{map as each, slice_index, IsTrue, IsSomeAnd}
-use Rattle.std.specs.List.{find}
+use Rattle.std.specs.List.{AllZip, find}
 use Rattle.std.specs.Option.{option_map}
 use Rattle.std.specs.FinSet as set
 use Rattle.std.specs.FinMap as map
@@ -23,7 +23,7 @@ use Rattle.subscriptions.specs.declared.consumer.Refusal.TheVariants.{ConsumerBu
 use Rattle.subscriptions.specs.Forgetting.{unacknowledged, forgetting, forgetful, AnswersTheSame, GoesOnTheSame, CountsAreForgotten}
 use Rattle.subscriptions.specs.Laws.{IsOpenFor}
 use Rattle.subscriptions.specs.State.{Subscription, Subscriptions}
-use Rattle.subscriptions.specs.Steps.{first_changed, first_removed, each_delivery, is_on, is_named, refuses_ranges, refusals_at, attached_to, attached_at, granted_on, is_past_on, acked_on, acknowledgements, acked_through_on, acknowledgement_through, is_shared, removal, made, is_first, AdmitsBy, AdmitsAt, IsLeastIn, sent_on, times_at, freed, left_on, detached_on, is_asked_back, redelivered_on, settled, slotted}
+use Rattle.subscriptions.specs.Steps.{first_changed, first_removed, each_delivery, is_on, is_named, refuses_ranges, refusals_at, attached_to, attached_at, granted_on, is_past_on, learnt_on, HasLearntOn, acked_on, acknowledgements, acked_through_on, acknowledgement_through, is_shared, removal, made, is_first, AdmitsBy, AdmitsAt, IsLeastIn, sent_on, times_at, freed, left_on, detached_on, is_asked_back, redelivered_on, settled, slotted}
 use Rattle.subscriptions.proofs.Each.{get_each}
 use Rattle.subscriptions.proofs.Limits.{picked}
 use Rattle.subscriptions.proofs.Settled.{is_in, has_joined, has_through, get_forgotten, get_forgotten_below}
@@ -69,6 +69,9 @@ alike_attached mode seat s = ap (λ ds. let x : Subscription = record (attached_
 
 alike_granted : (key : ConsumerKey) (permits : ℕ) (s : Subscription) → forgetting (granted_on key permits (forgetting s)) ≡ forgetting (granted_on key permits s)
 alike_granted key permits s = ap (λ ds. let x : Subscription = record (granted_on key permits s) { deliveries = ds } in x) (twice s.acked s.deliveries)
+
+alike_learnt : (key : ConsumerKey) (n : ℕ) (s : Subscription) → forgetting (learnt_on key n (forgetting s)) ≡ forgetting (learnt_on key n s)
+alike_learnt key n s = ap (λ ds. let x : Subscription = record (learnt_on key n s) { deliveries = ds } in x) (twice s.acked s.deliveries)
 
 alike_acked : (positions : List ℕ) (s : Subscription) → forgetting (acked_on positions (forgetting s)) ≡ forgetting (acked_on positions s)
 alike_acked positions s =
@@ -251,6 +254,12 @@ attach_at None t name mode seat start =
     (map-append (λ s. forgetting s) (all t.subs) new ∙ ap (λ ss. ss ++ all new) (all_twice t.subs) ∙ sym (map-append (λ s. forgetting s) t.subs new))
 attach_at (Some s) t name mode seat start = with_subs t _ _ (changed_alike (is_named name) (λ s. refl) (attached_to mode seat) (λ s. alike_attached mode seat s) t.subs)
 
+looked : (who : ℕ) (xs ys : List Subscription) → AllZip (HasLearntOn who) xs ys → AllZip (HasLearntOn who) (all xs) (all ys)
+looked who [] [] h = tt
+looked who [] (y ∷ ys) h = absurd h
+looked who (x ∷ xs) [] h = absurd h
+looked who (x ∷ xs) (y ∷ ys) h = (record { consumers = h.0.consumers; same = ap (λ s. forgetting s) h.0.same }, looked who xs ys h.1)
+
 acks_same : (o : Option Subscription) (positions : List ℕ) → acknowledgements (option_map (λ s. forgetting s) o) positions ≡ acknowledgements o positions
 acks_same None positions = refl
 acks_same (Some s) positions = refl
@@ -270,6 +279,8 @@ goes_on t =
     record {
       attach = λ name mode seat start. ap (λ o. forgetful (attached_at o (forgetful t) name mode seat start)) (found (is_named name) (λ s. refl) t.subs) ∙ attach_at (find (is_named name) t.subs) t name mode seat start;
       grant = λ key permits. with_subs t _ _ (on key (granted_on key permits) (λ s. alike_granted key permits s));
+      learn = λ key n. with_subs t _ _ (on key (learnt_on key n) (λ s. alike_learnt key n s));
+      look = λ who new h. record { subs = looked who t.subs new.subs h.subs; same = ap (λ x. forgetful x) h.same };
       acknowledge = λ key positions.
           with_both t _ _ _ _ (on key (acked_on positions) (λ s. alike_acked positions s)) (ap (λ o. acknowledgements o positions) (found_on key t) ∙ acks_same (find (is_on key) t.subs) positions);
       acknowledge_through = λ key position.

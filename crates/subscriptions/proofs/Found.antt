@@ -10,8 +10,8 @@ use Rattle.subscriptions.specs.declared.consumer.Mode.{Mode}
 use Rattle.subscriptions.specs.declared.consumer.Refusal.{Refusal}
 use Rattle.records.specs.declared.record.Record.{Record}
 use Rattle.records.specs.declared.record.Record.TheVariants.{Made, Acknowledged, Removed, AcknowledgedThrough}
-use Rattle.subscriptions.specs.State.{Subscription, Subscriptions}
-use Rattle.subscriptions.specs.Steps.{first_changed, first_standing, is_named, is_on, subscribe_refusals, refusals_at, making_refusals, attach_refusals, attached_to, attached_at, attached, made, granted, granted_on, grants_too_many, is_past, is_past_on, is_consumer, acknowledged, acknowledgements, acked_on, acknowledged_through, acknowledgement_through, acked_through_on, first_removed, unsubscribed, removal, Admits, AdmitsAt, AdmitsBy, AdmitsOn, has_permit, sent_before, times_at}
+use Rattle.subscriptions.specs.State.{Consumer, Subscription, Subscriptions}
+use Rattle.subscriptions.specs.Steps.{first_changed, first_standing, is_named, is_on, subscribe_refusals, refusals_at, making_refusals, attach_refusals, attached_to, attached_at, attached, made, granted, granted_on, grants_too_many, is_past, is_past_on, has_permit_at, is_consumer, acknowledged, acknowledgements, acked_on, acknowledged_through, acknowledgement_through, acked_through_on, first_removed, unsubscribed, removal, Admits, AdmitsAt, AdmitsBy, AdmitsOn, has_permit, sent_before, times_at}
 use Rattle.holds.specs.Backlog.{IsOpenAt}
 use Rattle.holds.specs.Deliveries.{times}
 use Rattle.subscriptions.proofs.Places.{changes, finds, is_place, stays, misses, removes, removed-none, none_found}
@@ -53,6 +53,10 @@ nothing_more : {X : Type 0} (xs : List X) → xs ++ [] ≡ xs
 nothing_more [] = refl
 nothing_more (x ∷ xs) = ap (λ ys. x ∷ ys) (nothing_more xs)
 
+pub none_permitted : (o : Option Consumer) → o ≡ None → has_permit o ≡ true → ⊥
+none_permitted None is h = absurd (true≢false (sym h))
+none_permitted (Some c) is h = absurd (cc)
+
 module _ (t : Subscriptions) (key : ConsumerKey) where
   abbrev with_subs : List Subscription → Subscriptions
   with_subs xs = record t { subs = xs }
@@ -65,6 +69,17 @@ module _ (t : Subscriptions) (key : ConsumerKey) where
 
   pub grants_at : (permits : ℕ) (i : ℕ) (s : Subscription) (b : Bool) → position (is_on key) t.subs ≡ Some i → s ≡ get_or t.subs i s → is_past permits (find (is_consumer key) s.consumers) ≡ b → grants_too_many t key permits ≡ b
   grants_at permits i s b at read is = ap (is_past_on key permits) (finds (is_on key) t.subs i s at read) ∙ is
+
+  -- who is admitted has a permit
+  admits_permit : (o : Option Subscription) (slots : List ℕ) (committed i : ℕ) → AdmitsAt o key slots committed i → has_permit_at key o ≡ true
+  admits_permit None slots committed i a = absurd a
+  admits_permit (Some s) slots committed i a = a.permit
+
+  pub permit_admitted : (committed i : ℕ) → Admits t key committed i → has_permit_at key (find (is_on key) t.subs) ≡ true
+  permit_admitted committed i a = admits_permit (find (is_on key) t.subs) t.slots committed i a
+
+  pub permit_found : (i : ℕ) (s : Subscription) → position (is_on key) t.subs ≡ Some i → s ≡ get_or t.subs i s → has_permit_at key (find (is_on key) t.subs) ≡ true → has_permit (find (is_consumer key) s.consumers) ≡ true
+  permit_found i s at read is = sym (ap (has_permit_at key) (finds (is_on key) t.subs i s at read)) ∙ is
 
   -- one subscription changes
   pub changes_at : (f : Subscription → Subscription) (i : ℕ) (s s' : Subscription) → position (is_on key) t.subs ≡ Some i → s ≡ get_or t.subs i s → s' ≡ f s → with_subs (set t.subs i s') ≡ with_subs (first_changed (is_on key) f t.subs)

@@ -9,10 +9,9 @@ use Rattle.holds.specs.Deliveries.{same_key}
 use Rattle.holds.specs.declared.consumer.ConsumerKey.{ConsumerKey}
 use Rattle.holds.specs.declared.consumer.Consumer.{Consumer as Seat}
 use Rattle.holds.specs.declared.delivery.Delivery.{Delivery}
-use Rattle.subscriptions.specs.declared.consumer.Consumer.{Consumer}
 use Rattle.subscriptions.specs.Freeing.{is_among, freed_among}
 use Rattle.subscriptions.specs.Soundness.{IsSoundSubscription}
-use Rattle.subscriptions.specs.State.{Subscription}
+use Rattle.subscriptions.specs.State.{Consumer, Subscription}
 use Rattle.subscriptions.specs.Steps.{left_on}
 use Rattle.subscriptions.proofs.Lists.{firsts}
 use Rattle.subscriptions.proofs.Sound.{freed_by_all}

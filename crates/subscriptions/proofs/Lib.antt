@@ -17,3 +17,6 @@ pub mod Told
 pub mod Lowered
 pub mod Noted
 pub mod Forgotten
+pub mod Learning
+pub mod Looking
+pub mod Granted

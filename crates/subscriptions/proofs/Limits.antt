@@ -20,10 +20,11 @@ use Rattle.subscriptions.specs.declared.consumer.Refusal.{Refusal}
 use Rattle.records.specs.declared.record.Record.{Record}
 use Rattle.records.specs.declared.record.Record.TheVariants.{Acknowledged}
 use Rattle.subscriptions.specs.State.{Subscription, Subscriptions}
-use Rattle.subscriptions.specs.Steps.{first_changed, first_standing, is_named, is_on, refuses_ranges, refusals_at, making_refusals, attach_refusals, attached_to, attached_at, made, granted_on, grants_too_many, is_past_on, acknowledged, acknowledgements, acked_on, acknowledged_through, acknowledgement_through, acked_through_on, first_removed, is_shared, unsubscribe_refusals, unsubscribed, removal, Admits, AdmitsAt, AdmitsOn, sent_on, left, left_on, freed, detached_on, is_asked_back, redelivered_on, settled, slotted}
+use Rattle.subscriptions.specs.Steps.{first_changed, first_standing, is_named, is_on, refuses_ranges, refusals_at, making_refusals, attach_refusals, attached_to, attached_at, made, granted_on, grants_too_many, is_past_on, learnt_on, HasLearntOn, acknowledged, acknowledgements, acked_on, acknowledged_through, acknowledgement_through, acked_through_on, first_removed, is_shared, unsubscribe_refusals, unsubscribed, removal, Admits, AdmitsAt, AdmitsOn, sent_on, left, left_on, freed, detached_on, is_asked_back, redelivered_on, settled, slotted}
 use Rattle.subscriptions.specs.Soundness.{IsSoundSubscription, HasLimits, IsSound, IsCommittedOn, IsCommitted}
 use Rattle.subscriptions.specs.Laws.{StaysSound, DeliveriesAreCommitted, PickedIsOpen, IsOpenFor}
-use Rattle.subscriptions.proofs.Sound.{length_changed, all_changed, all_pushed, three_rows, sound_attached, sound_first, sound_granted, sound_acked, sound_acked_through, sound_sent, sound_left, get_freed, opens_of, sound_detached, sound_redelivered}
+use Rattle.subscriptions.proofs.Looking.{zip_all, limits_looked, sound_looked}
+use Rattle.subscriptions.proofs.Sound.{length_changed, all_changed, all_pushed, any_found, three_rows, sound_attached, sound_first, sound_granted, sound_learnt, sound_acked, sound_acked_through, sound_sent, sound_left, get_freed, opens_of, sound_detached, sound_redelivered}
 use Rattle.subscriptions.proofs.Each.{none_changed}
 use Rattle.subscriptions.proofs.Kept.{names, turned}
 use Rattle.subscriptions.proofs.Durable.{opened_sound, opened_committed}
@@ -196,6 +197,14 @@ each_sound = record {
     limits = limits_changed t (is_on key) (granted_on key permits) (λ _. refl) sound.limits;
     each_one = all_changed (is_on key) (granted_on key permits) IsSoundSubscription t.subs (λ x is ok. sound_granted key permits x (granted_at key permits t x is within) ok) sound.each_one;
   };
+  learn = λ t key n within sound. record {
+    limits = limits_changed t (is_on key) (learnt_on key n) (λ _. refl) sound.limits;
+    each_one = all_changed (is_on key) (learnt_on key n) IsSoundSubscription t.subs (λ x is ok. sound_learnt key n x (within (any_found (is_on key) t.subs x is)) ok) sound.each_one;
+  };
+  look = λ t new who h sound. subst IsSound (sym h.same) (record {
+    limits = limits_looked who t new.subs h.subs sound.limits;
+    each_one = zip_all (HasLearntOn who) IsSoundSubscription IsSoundSubscription (sound_looked who) t.subs new.subs h.subs sound.each_one;
+  });
   acknowledge = λ t key ps room sound. record {
     limits = limits_acknowledged t key ps room sound.limits;
     each_one = all_changed (is_on key) (acked_on ps) IsSoundSubscription t.subs (λ x is ok. sound_acked ps x ok) sound.each_one;
@@ -267,6 +276,8 @@ each_committed = record {
   made = λ committed. tt;
   attach = λ committed t name mode seat start all. committed_attach committed t name mode seat start (find (is_named name) t.subs) all;
   grant = λ committed t key permits all. all_changed (is_on key) (granted_on key permits) (IsCommittedOn committed) t.subs (λ x is c. c) all;
+  learn = λ committed t key n all. all_changed (is_on key) (learnt_on key n) (IsCommittedOn committed) t.subs (λ x is c. c) all;
+  look = λ committed t new who h all. zip_all (HasLearntOn who) (IsCommittedOn committed) (IsCommittedOn committed) (λ x y on c j low. ap (λ (s : Subscription). map.get s.deliveries j) on.same ∙ c j low) t.subs new.subs h.subs all;
   acknowledge = λ committed t key ps all. all_changed (is_on key) (acked_on ps) (IsCommittedOn committed) t.subs (λ x is c. committed_acked committed ps x c) all;
   acknowledge_through = λ committed t key p all. all_changed (is_on key) (acked_through_on p) (IsCommittedOn committed) t.subs (λ x is c. committed_through committed p x c) all;
   unsubscribe = λ committed t key all. all_removed (is_on key) (IsCommittedOn committed) t.subs all;

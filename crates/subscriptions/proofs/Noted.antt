@@ -1,5 +1,5 @@
 -- Notes that a session's consumers have nothing to get, as a topic's subscriptions change.
-use Rattle.std.proofs.Common.{◌≡◌, ℕ, zero, suc, ◌+◌, ◌%◌, Bool, true, false, nat_eq, nat_lt, cond, ◌||◌, ◌&&◌, List, [], ◌∷◌, ◌++◌, get_or, replicate, ◌∙◌, ap, sym, subst, refl, arith, Option, Some, None}
+use Rattle.std.proofs.Common.{◌≡◌, ℕ, zero, suc, ◌+◌, ◌%◌, Bool, true, false, nat_eq, nat_lt, cond, ◌||◌, ◌&&◌, List, [], ◌∷◌, ◌++◌, max, get_or, replicate, ◌∙◌, ap, sym, subst, refl, arith, Option, Some, None}
 use Rattle.std.proofs.lemmas.Bool.{true≢false}
 use Rattle.std.proofs.lemmas.Bool.Decides.{nat_tests}
 use Rattle.std.specs.List.{AllByRecursion, list_any, find, remove}
@@ -8,12 +8,11 @@ use Rattle.holds.specs.Deliveries.{same_key}
 use Rattle.holds.specs.declared.consumer.ConsumerKey.{ConsumerKey}
 use Rattle.holds.specs.declared.consumer.Consumer.{Consumer as Seat}
 use Rattle.subscriptions.specs.declared.consumer.Mode.{Mode}
-use Rattle.subscriptions.specs.declared.consumer.Consumer.{Consumer}
 use Rattle.subscriptions.specs.declared.quiet.Note.{Note}
-use Rattle.subscriptions.specs.Quiet.{has_permits, IsQuietOn, IsQuiet, no_notes, noted_in, noted, AreQuiet}
-use Rattle.subscriptions.specs.State.{Subscription, Subscriptions}
-use Rattle.subscriptions.specs.Steps.{first_changed, is_on, is_named, is_consumer, has_permit, granted_on, granted_to, acked_on, acked_through_on, sent_on, sent_one, attached_to, made, Admits, AdmitsAt}
-use Rattle.subscriptions.proofs.Passed.{FreesNone, grants, acks, acks_through, sends}
+use Rattle.subscriptions.specs.Quiet.{has_permit_of, has_permits, IsQuietOn, IsQuiet, no_notes, noted_in, noted, AreQuiet}
+use Rattle.subscriptions.specs.State.{Consumer, Subscription, Subscriptions}
+use Rattle.subscriptions.specs.Steps.{first_changed, is_on, is_named, is_consumer, has_permit, granted_on, granted_to, learnt_on, learnt_to, acked_on, acked_through_on, sent_on, sent_one, attached_to, made, Admits, AdmitsAt}
+use Rattle.subscriptions.proofs.Passed.{FreesNone, grants, learns, acks, acks_through, sends}
 use Rattle.subscriptions.proofs.Sound.{all_changed, all_pushed, opens_of}
 
 -- ---- a session's permits
@@ -122,11 +121,11 @@ notes_gone subs notes i are = record { quiet = λ who committed is. all_but (IsQ
 
 -- ---- notes that go
 
-none_noted : (o : Option ℕ) (committed : ℕ) (b : Bool) → b ≡ true → cond b None o ≡ Some committed → ⊥
+pub none_noted : (o : Option ℕ) (committed : ℕ) (b : Bool) → b ≡ true → cond b None o ≡ Some committed → ⊥
 none_noted o committed true h is = cc
 none_noted o committed false h is = true≢false (sym h)
 
-still_noted : (o : Option ℕ) (committed : ℕ) (b : Bool) → b ≡ false → cond b None o ≡ Some committed → o ≡ Some committed
+pub still_noted : (o : Option ℕ) (committed : ℕ) (b : Bool) → b ≡ false → cond b None o ≡ Some committed → o ≡ Some committed
 still_noted o committed true h is = absurd (true≢false h)
 still_noted o committed false h is = is
 
@@ -143,6 +142,23 @@ notes_granted subs notes notes' key permits says are = record {
       elim (nat_eq who key.session) as (λ b. nat_eq who key.session ≡ b → IsQuiet who committed (first_changed (is_on key) (granted_on key permits) subs)) [
         | true ↦ λ its. absurd (none_noted (noted who notes) committed (nat_eq who key.session) its (sym (says who) ∙ is))
         | false ↦ λ other. quiet_changed who committed (is_on key) (granted_on key permits) (granted_elsewhere key permits who other) subs
+            (are.quiet who committed (still_noted (noted who notes) committed (nat_eq who key.session) other (sym (says who) ∙ is)))
+      ] refl;
+}
+
+-- one session learns of permits, and its note goes
+learnt_elsewhere : (key : ConsumerKey) (n who : ℕ) → nat_eq who key.session ≡ false → LeavesQuiet who (learnt_on key n)
+learnt_elsewhere key n who other = leaves who (learnt_on key n) (learns key n)
+    (λ s. any_before (has_permit_of who) (is_consumer key) (learnt_to n)
+    (λ c here. neither (nat_eq c.key.session who) (nat_lt c.sent (max c.granted n)) (nat_lt c.sent c.granted) (other_session c.key key who here other)) s.consumers)
+
+pub notes_learnt : (subs : List Subscription) (notes notes' : List (Option Note)) (key : ConsumerKey) (n : ℕ) → ((q : ℕ) → noted q notes' ≡ cond (nat_eq q key.session) None (noted q notes))
+    → AreQuiet subs notes → AreQuiet (first_changed (is_on key) (learnt_on key n) subs) notes'
+notes_learnt subs notes notes' key n says are = record {
+  quiet = λ who committed is.
+      elim (nat_eq who key.session) as (λ b. nat_eq who key.session ≡ b → IsQuiet who committed (first_changed (is_on key) (learnt_on key n) subs)) [
+        | true ↦ λ its. absurd (none_noted (noted who notes) committed (nat_eq who key.session) its (sym (says who) ∙ is))
+        | false ↦ λ other. quiet_changed who committed (is_on key) (learnt_on key n) (learnt_elsewhere key n who other) subs
             (are.quiet who committed (still_noted (noted who notes) committed (nat_eq who key.session) other (sym (says who) ∙ is)))
       ] refl;
 }

@@ -1,5 +1,5 @@
 -- Where each consumer of a list stands as the list changes.
-use Rattle.std.proofs.Common.{◌≡◌, ℕ, zero, suc, ◌+◌, ◌<◌, ◌≤◌, Bool, true, false, not, nat_eq, nat_lt, cond, List, [], ◌∷◌, ◌++◌, length, get_or, drop, filter, ◌∙◌, ap, sym, refl, arith, Option, Some, None, IfSome}
+use Rattle.std.proofs.Common.{◌≡◌, ℕ, ◌+◌, ◌<◌, ◌≤◌, Bool, true, false, not, nat_eq, nat_lt, cond, List, [], ◌∷◌, ◌++◌, length, get_or, drop, filter, ◌∙◌, ap, sym, refl, arith, Option, Some, None}
 use Rattle.std.proofs.lemmas.Bool.{true≢false}
 use Rattle.std.proofs.lemmas.Bool.Decides.{nat_tests}
 use Rattle.std.proofs.lemmas.List.{drop_more}
@@ -8,9 +8,9 @@ use Rattle.std.specs.List.{list_any, position}
 use Rattle.std.specs.Option.{option_map, is_some}
 use Rattle.holds.specs.Deliveries.{same_key}
 use Rattle.holds.specs.declared.consumer.ConsumerKey.{ConsumerKey}
-use Rattle.subscriptions.specs.declared.consumer.Consumer.{Consumer}
+use Rattle.subscriptions.specs.State.{Consumer}
 use Rattle.subscriptions.specs.Directory.{place_in, ArePlacesAmong, earliest, put_in_place, place_before, numbered}
-use Rattle.subscriptions.specs.Steps.{first_changed, is_consumer, granted_to, sent_one}
+use Rattle.subscriptions.specs.Steps.{first_changed, is_consumer, granted_to, learnt_to, sent_one}
 use Rattle.subscriptions.proofs.Passed.{key_is}
 use Rattle.subscriptions.proofs.Standing.{behind, step, any_place, same_place, beside_place, pushed_place, any_left, none_left, apart, of_session, of_another, by_key, put_some}
 
@@ -146,6 +146,9 @@ places_popped cs before after c n former last was put are = record {
 -- consumers change, and keep their keys
 pub places_granted_to : (cs : List Consumer) (places : Places) (key : ConsumerKey) (permits : ℕ) → ArePlacesAmong cs places → ArePlacesAmong (first_changed (is_consumer key) (granted_to permits) cs) places
 places_granted_to cs places key permits are = record { found = λ k. are.found k ∙ sym (same_place (is_consumer k) (is_consumer key) (granted_to permits) (λ _. refl) cs) }
+
+pub places_learnt_to : (cs : List Consumer) (places : Places) (key : ConsumerKey) (n : ℕ) → ArePlacesAmong cs places → ArePlacesAmong (first_changed (is_consumer key) (learnt_to n) cs) places
+places_learnt_to cs places key n are = record { found = λ k. are.found k ∙ sym (same_place (is_consumer k) (is_consumer key) (learnt_to n) (λ _. refl) cs) }
 
 pub places_taken : (cs : List Consumer) (places : Places) (key : ConsumerKey) → ArePlacesAmong cs places → ArePlacesAmong (first_changed (is_consumer key) (λ c. sent_one c) cs) places
 places_taken cs places key are = record { found = λ k. are.found k ∙ sym (same_place (is_consumer k) (is_consumer key) (λ c. sent_one c) (λ _. refl) cs) }

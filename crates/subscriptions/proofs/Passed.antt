@@ -20,7 +20,7 @@ use Rattle.subscriptions.specs.declared.hint.Hint.{Hint}
 use Rattle.subscriptions.specs.Hints.{IsPassed, IsHint, AreHintsOn, AreHintsOf, AreHints, hinted, is_hint_of}
 use Rattle.records.specs.declared.record.Record.{Record}
 use Rattle.subscriptions.specs.State.{Subscription, Subscriptions}
-use Rattle.subscriptions.specs.Steps.{first_changed, is_on, granted, granted_on, acknowledged, acked_on, acknowledged_through, acked_through_on, sent, sent_on, slotted, attached_to, AdmitsBy, IsLeastIn, is_key_shared}
+use Rattle.subscriptions.specs.Steps.{first_changed, is_on, granted, granted_on, learnt, learnt_on, acknowledged, acked_on, acknowledged_through, acked_through_on, sent, sent_on, slotted, attached_to, AdmitsBy, IsLeastIn, is_key_shared}
 use Rattle.subscriptions.proofs.Sound.{all_kept, all_pushed}
 use Rattle.subscriptions.proofs.Settled.{is_in, has_joined, get_forgotten, has_through, get_forgotten_below}
 
@@ -209,6 +209,16 @@ grants key permits = record {
 pub hints_granted : (t : Subscriptions) (key : ConsumerKey) (permits : ℕ) (hints : List (List Hint)) → AreHints t hints → AreHints (granted t key permits) hints
 hints_granted t key permits hints all =
     are_hints (granted t key permits) hints (hints_changed t.slots (is_on key) (granted_on key permits) (grants key permits) t.subs hints all.each_one)
+
+pub learns : (key : ConsumerKey) (n : ℕ) → FreesNone (learnt_on key n)
+learns key n = record {
+  seats = λ _. refl;
+  opens = λ s i lacks free. (lacks, free);
+}
+
+pub hints_learnt : (t : Subscriptions) (key : ConsumerKey) (n : ℕ) (hints : List (List Hint)) → AreHints t hints → AreHints (learnt t key n) hints
+hints_learnt t key n hints all =
+    are_hints (learnt t key n) hints (hints_changed t.slots (is_on key) (learnt_on key n) (learns key n) t.subs hints all.each_one)
 
 or_first : (a b : Bool) → (a || b) ≡ false → a ≡ false
 or_first true b h = h

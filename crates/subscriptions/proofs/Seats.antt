@@ -12,7 +12,7 @@ use Rattle.holds.specs.declared.consumer.ConsumerKey.{ConsumerKey}
 use Rattle.holds.specs.declared.consumer.Consumer.{Consumer as Seat}
 use Rattle.subscriptions.specs.declared.consumer.Mode.{Mode}
 use Rattle.subscriptions.specs.declared.consumer.Mode.TheVariants.{Exclusive, Failover, Shared, KeyShared}
-use Rattle.subscriptions.specs.declared.consumer.Consumer.{Consumer}
+use Rattle.subscriptions.specs.State.{Consumer}
 use Rattle.subscriptions.specs.Steps.{is_consumer, is_first, AdmitsBy, IsLeastIn}
 use Rattle.subscriptions.specs.Dispatching.{keys, leads, Gives}
 use Rattle.key_shared.specs.Ranges.{IsOpenFrom, place_of}

@@ -20,14 +20,14 @@ use Rattle.key_shared.specs.Ranges.{AreApart as AreRangesApart, AreDisjoint, are
 use Rattle.key_shared.proofs.Apart.{pushed}
 use Rattle.subscriptions.specs.declared.consumer.Mode.{Mode}
 use Rattle.subscriptions.specs.declared.consumer.Mode.TheVariants.{Exclusive, Failover, Shared, KeyShared}
-use Rattle.subscriptions.specs.declared.consumer.Consumer.{Consumer}
+use Rattle.subscriptions.specs.State.{Consumer}
 use Rattle.subscriptions.specs.declared.consumer.Refusal.{Refusal}
 use Rattle.subscriptions.specs.declared.consumer.Refusal.TheVariants.{ConsumerAssignError}
 use Rattle.holds.specs.declared.consumer.Refusal.TheVariants.{TooManyConsumers, ConsumerAssignError as RangesRefused}
 use Rattle.subscriptions.specs.State.{Subscription}
 use Rattle.subscriptions.specs.Freeing.{is_among, freed_among}
 use Rattle.subscriptions.specs.Dispatching.{keys}
-use Rattle.subscriptions.specs.Steps.{first_changed, first_standing, is_consumer, is_on, has_some, is_exclusive, same_mode, refuses_ranges, attach_refusals, attached_to, made, opened_one, granted_to, granted_on, is_past, acked_on, acked_through_on, has_permit, IsLeastIn, AdmitsBy, sent_one, sent_on, is_of, freed, freed_by, left_on, detached_on, is_asked_back, redelivered_on}
+use Rattle.subscriptions.specs.Steps.{first_changed, first_standing, is_consumer, is_on, has_some, is_exclusive, same_mode, refuses_ranges, attach_refusals, attached_to, made, opened_one, granted_to, granted_on, is_past, learnt_to, learnt_on, acked_on, acked_through_on, has_permit, IsLeastIn, AdmitsBy, sent_one, sent_on, is_of, freed, freed_by, left_on, detached_on, is_asked_back, redelivered_on}
 use Rattle.subscriptions.specs.Soundness.{IsWithinPermits, IsSoundSubscription}
 use Rattle.subscriptions.proofs.Lists.{keys_pushed, keys_kept, keys_changed, keys_length}
 use Rattle.subscriptions.proofs.Each.{get_each, apart_changed}
@@ -241,6 +241,19 @@ sound_granted key n s within sound = record {
   ranges_apart = sound.ranges_apart;
   unacknowledged = sound.unacknowledged;
   held = λ i k h. any_changed (is_consumer key) (granted_to n) (is_consumer k) (λ _. refl) s.consumers ∙ sound.held i k h;
+}
+
+pub sound_learnt : (key : ConsumerKey) (n : ℕ) (s : Subscription) → n ≤ 2 ^ 62 → IsSoundSubscription s → IsSoundSubscription (learnt_on key n s)
+sound_learnt key n s within sound = record {
+  few = rw length_changed sound.few;
+  single = λ is. rw length_changed (sound.single is);
+  permits = all_changed (is_consumer key) (learnt_to n) IsWithinPermits s.consumers
+      (λ c found p. record { sent = omega (arith, p.sent); granted = omega (arith, p.granted, within) })
+      sound.permits;
+  seated = seated_changed (is_consumer key) (learnt_to n) (λ _. refl) s.seats s.consumers sound.seated;
+  ranges_apart = sound.ranges_apart;
+  unacknowledged = sound.unacknowledged;
+  held = λ i k h. any_changed (is_consumer key) (learnt_to n) (is_consumer k) (λ _. refl) s.consumers ∙ sound.held i k h;
 }
 
 kept_holder : (b : Bool) (x : Option Delivery) (k : ConsumerKey) → holder_in (cond b None x) ≡ Some k → holder_in x ≡ Some k

@@ -16,11 +16,10 @@ use Rattle.holds.specs.declared.consumer.ConsumerKey.{ConsumerKey}
 use Rattle.holds.specs.declared.consumer.Consumer.{Consumer as Seat}
 use Rattle.cursor.specs.Positions.{Positions}
 use Rattle.subscriptions.specs.declared.consumer.Mode.{Mode}
-use Rattle.subscriptions.specs.declared.consumer.Consumer.{Consumer}
 use Rattle.subscriptions.specs.declared.consumer.Refusal.TheVariants.{ConsumerBusy, TooManyRequests}
-use Rattle.subscriptions.specs.State.{Subscription, Subscriptions}
+use Rattle.subscriptions.specs.State.{Consumer, Subscription, Subscriptions}
 use Rattle.subscriptions.specs.Directory.{pair_cmp, place_in, ArePlaces, earliest, moved_up, put_in_place}
-use Rattle.subscriptions.specs.Steps.{first_changed, is_consumer, is_on, is_named, is_shared, opened_one, granted_to, granted_on, sent_one, sent_on, acked_on, acked_through_on, redelivered_on, attached_to, made, detached_on, left_on, first_standing, unsubscribe_refusals}
+use Rattle.subscriptions.specs.Steps.{first_changed, is_consumer, is_on, is_named, is_shared, opened_one, granted_to, granted_on, learnt_to, learnt_on, sent_one, sent_on, acked_on, acked_through_on, redelivered_on, attached_to, made, detached_on, left_on, first_standing, unsubscribe_refusals}
 use Rattle.subscriptions.proofs.Sound.{any_changed}
 use Rattle.subscriptions.proofs.Passed.{key_is}
 use Rattle.subscriptions.proofs.Places.{is_place, finds}
@@ -263,6 +262,9 @@ of_another key k who its other = grind (arith, nat_tests)
 on_granted : (key : ConsumerKey) (permits : ℕ) (k : ConsumerKey) (s : Subscription) → is_on k (granted_on key permits s) ≡ is_on k s
 on_granted key permits k s = any_changed (is_consumer key) (granted_to permits) (is_consumer k) (λ _. refl) s.consumers
 
+pub on_learnt : (key : ConsumerKey) (n : ℕ) (k : ConsumerKey) (s : Subscription) → is_on k (learnt_on key n s) ≡ is_on k s
+on_learnt key n k s = any_changed (is_consumer key) (learnt_to n) (is_consumer k) (λ _. refl) s.consumers
+
 on_sent : (key : ConsumerKey) (i : ℕ) (k : ConsumerKey) (s : Subscription) → is_on k (sent_on key i s) ≡ is_on k s
 on_sent key i k s = any_changed (is_consumer key) (λ c. sent_one c) (is_consumer k) (λ _. refl) s.consumers
 
@@ -299,6 +301,9 @@ places_kept subs places test f same are = record { found = λ k. are.found k ∙
 
 pub places_granted : (subs : List Subscription) (places : List ((ℕ × ℕ) × ℕ)) (key : ConsumerKey) (permits : ℕ) → ArePlaces subs places → ArePlaces (first_changed (is_on key) (granted_on key permits) subs) places
 places_granted subs places key permits are = places_kept subs places (is_on key) (granted_on key permits) (on_granted key permits) are
+
+pub places_learnt : (subs : List Subscription) (places : List ((ℕ × ℕ) × ℕ)) (key : ConsumerKey) (n : ℕ) → ArePlaces subs places → ArePlaces (first_changed (is_on key) (learnt_on key n) subs) places
+places_learnt subs places key n are = places_kept subs places (is_on key) (learnt_on key n) (on_learnt key n) are
 
 pub places_sent : (subs : List Subscription) (places : List ((ℕ × ℕ) × ℕ)) (key : ConsumerKey) (i : ℕ) → ArePlaces subs places → ArePlaces (first_changed (is_on key) (sent_on key i) subs) places
 places_sent subs places key i are = places_kept subs places (is_on key) (sent_on key i) (on_sent key i) are

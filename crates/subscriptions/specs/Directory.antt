@@ -5,9 +5,8 @@ use Rattle.std.specs.Map.{lookup}
 use Rattle.std.specs.declared.cmp.Ordering.{Ordering}
 use Rattle.std.specs.Ordering.{nat_cmp, ordering_then}
 use Rattle.holds.specs.declared.consumer.ConsumerKey.{ConsumerKey}
-use Rattle.subscriptions.specs.declared.consumer.Consumer.{Consumer}
 use Rattle.subscriptions.specs.declared.directory.Found.{Found}
-use Rattle.subscriptions.specs.State.{Subscription}
+use Rattle.subscriptions.specs.State.{Consumer, Subscription}
 use Rattle.subscriptions.specs.Steps.{is_consumer, is_on}
 
 abbrev pub pair_cmp : ℕ × ℕ → ℕ × ℕ → Ordering

@@ -3,7 +3,7 @@ use Rattle.subscriptions.specs.declared.subscription.Subscription.TheInside.{Ins
 use Rattle.subscriptions.specs.Dispatching.{mode_of, seats_of}
 use Rattle.subscriptions.specs.State.{Subscription}
 
-abbrev pub subscription_of : Inside → Subscription
+abbrev pub subscription_of : {G Told : Type 0} → Inside G Told → Subscription
 subscription_of s = record {
   name = s.name;
   mode = mode_of s.dispatch;

@@ -1,5 +1,5 @@
 -- Laws over all that the calls do.
-use Rattle.std.specs.Prelude.{◌≡◌, ℕ, ◌+◌, ◌<◌, ◌≤◌, true, false, None, Some, Option, List, length, take}
+use Rattle.std.specs.Prelude.{◌≡◌, ℕ, ◌+◌, ◌<◌, ◌≤◌, ◌^◌, true, false, None, Some, Option, List, length, take}
 use Rattle.std.specs.Option.{option_map}
 use Rattle.std.specs.List.{AllByRecursion, find}
 use Rattle.std.specs.FinMap as map
@@ -12,7 +12,7 @@ use Rattle.records.specs.Names.{is_subscription_name}
 use Rattle.records.specs.Maps.{Kept}
 use Rattle.records.specs.Records.{IsThere, AreFormed, after_all}
 use Rattle.subscriptions.specs.State.{Subscription, Subscriptions}
-use Rattle.subscriptions.specs.Steps.{none_yet, opened, first_standing, subscribe_refusals, attached, granted, grants_too_many, acknowledged, acknowledged_through, unsubscribe_refusals, unsubscribed, sent, left, detached, redelivered, settled, slotted, Admits, is_named, is_on}
+use Rattle.subscriptions.specs.Steps.{none_yet, opened, first_standing, subscribe_refusals, attached, has_consumer, learnt, HasLearnt, granted, grants_too_many, acknowledged, acknowledged_through, unsubscribe_refusals, unsubscribed, sent, left, detached, redelivered, settled, slotted, Admits, is_named, is_on}
 use Rattle.subscriptions.specs.Soundness.{IsSound, HasLimits, IsCommitted}
 
 -- durable subscriptions that a topic may have: 64 at most, each name of its form
@@ -37,6 +37,8 @@ pub record StaysSound : Type 0 where
   pub opened : (kept : Kept) → AreDurable kept → IsSound (opened kept)
   pub attach : (t : Subscriptions) (name : List ℕ) (mode : Mode) (seat : Seat) (start : ℕ) → first_standing (subscribe_refusals t name mode seat.ranges) ≡ None → IsSound t → IsSound (attached t name mode seat start)
   pub grant : (t : Subscriptions) (key : ConsumerKey) (permits : ℕ) → grants_too_many t key permits ≡ false → IsSound t → IsSound (granted t key permits)
+  pub learn : (t : Subscriptions) (key : ConsumerKey) (granted : ℕ) → (has_consumer t key ≡ true → granted ≤ 2 ^ 62) → IsSound t → IsSound (learnt t key granted)
+  pub look : (t new : Subscriptions) (who : ℕ) → HasLearnt who t new → IsSound t → IsSound new
   pub acknowledge : (t : Subscriptions) (key : ConsumerKey) (positions : List ℕ) → length t.changes + length positions ≤ 65536 → IsSound t → IsSound (acknowledged t key positions)
   pub acknowledge_through : (t : Subscriptions) (key : ConsumerKey) (position : ℕ) → length t.changes + 1 ≤ 65536 → IsSound t → IsSound (acknowledged_through t key position)
   pub unsubscribe : (t : Subscriptions) (key : ConsumerKey) → first_standing (unsubscribe_refusals t key) ≡ None → IsSound t → IsSound (unsubscribed t key)
@@ -54,6 +56,8 @@ pub record AreKept : Type 0 where
   pub attach : (entries : ℕ) (kept : Kept) (t : Subscriptions) (name : List ℕ) (mode : Mode) (seat : Seat) (start : ℕ)
       → first_standing (subscribe_refusals t name mode seat.ranges) ≡ None → is_subscription_name name ≡ true → start ≤ entries → IsKept entries kept t → IsKept entries kept (attached t name mode seat start)
   pub grant : (entries : ℕ) (kept : Kept) (t : Subscriptions) (key : ConsumerKey) (permits : ℕ) → IsKept entries kept t → IsKept entries kept (granted t key permits)
+  pub learn : (entries : ℕ) (kept : Kept) (t : Subscriptions) (key : ConsumerKey) (granted : ℕ) → IsKept entries kept t → IsKept entries kept (learnt t key granted)
+  pub look : (entries : ℕ) (kept : Kept) (t new : Subscriptions) (who : ℕ) → HasLearnt who t new → IsKept entries kept t → IsKept entries kept new
   pub acknowledge : (entries : ℕ) (kept : Kept) (t : Subscriptions) (key : ConsumerKey) (positions : List ℕ)
       → HasLimits t → AllByRecursion (λ p. p < entries) positions → IsKept entries kept t → IsKept entries kept (acknowledged t key positions)
   pub acknowledge_through : (entries : ℕ) (kept : Kept) (t : Subscriptions) (key : ConsumerKey) (position : ℕ)
@@ -74,6 +78,8 @@ pub record DeliveriesAreCommitted : Type 0 where
   pub opened : (committed : ℕ) (kept : Kept) → IsCommitted committed (opened kept)
   pub attach : (committed : ℕ) (t : Subscriptions) (name : List ℕ) (mode : Mode) (seat : Seat) (start : ℕ) → IsCommitted committed t → IsCommitted committed (attached t name mode seat start)
   pub grant : (committed : ℕ) (t : Subscriptions) (key : ConsumerKey) (permits : ℕ) → IsCommitted committed t → IsCommitted committed (granted t key permits)
+  pub learn : (committed : ℕ) (t : Subscriptions) (key : ConsumerKey) (granted : ℕ) → IsCommitted committed t → IsCommitted committed (learnt t key granted)
+  pub look : (committed : ℕ) (t new : Subscriptions) (who : ℕ) → HasLearnt who t new → IsCommitted committed t → IsCommitted committed new
   pub acknowledge : (committed : ℕ) (t : Subscriptions) (key : ConsumerKey) (positions : List ℕ) → IsCommitted committed t → IsCommitted committed (acknowledged t key positions)
   pub acknowledge_through : (committed : ℕ) (t : Subscriptions) (key : ConsumerKey) (position : ℕ) → IsCommitted committed t → IsCommitted committed (acknowledged_through t key position)
   pub unsubscribe : (committed : ℕ) (t : Subscriptions) (key : ConsumerKey) → IsCommitted committed t → IsCommitted committed (unsubscribed t key)
@@ -91,3 +97,7 @@ IsOpenFor (Some s) committed i = IsOpenAt committed s.acked s.deliveries i
 
 abbrev pub PickedIsOpen : Type 0
 PickedIsOpen = (t : Subscriptions) (key : ConsumerKey) (committed i : ℕ) → Admits t key committed i → IsOpenFor (find (is_on key) t.subs) committed i
+
+-- a consumer that may get a position may get it whatever more is learnt of its permits
+abbrev pub LearningAdmits : Type 0
+LearningAdmits = (t : Subscriptions) (key : ConsumerKey) (granted committed i : ℕ) → Admits t key committed i → Admits (learnt t key granted) key committed i

@@ -2,13 +2,16 @@
 use Rattle.std.specs.Prelude.{◌≡◌, ℕ, ◌%◌, Bool, true, cond, ◌&&◌, nat_eq, nat_lt, Option, Some, None, List, get_or, replicate}
 use Rattle.std.specs.List.{AllByRecursion, list_any}
 use Rattle.holds.specs.Backlog.{IsOpenAt}
-use Rattle.subscriptions.specs.declared.consumer.Consumer.{Consumer}
 use Rattle.subscriptions.specs.declared.quiet.Note.{Note}
-use Rattle.subscriptions.specs.State.{Subscription}
+use Rattle.subscriptions.specs.State.{Consumer, Subscription}
+
+-- the consumer is the session's and has a permit left, as far as is known
+abbrev pub has_permit_of : ℕ → Consumer → Bool
+has_permit_of who c = nat_eq c.key.session who && nat_lt c.sent c.granted
 
 -- a consumer of the session has a permit left
 abbrev pub has_permits : ℕ → List Consumer → Bool
-has_permits who consumers = list_any (λ c. nat_eq c.key.session who && nat_lt c.sent c.granted) consumers
+has_permits who consumers = list_any (has_permit_of who) consumers
 
 -- where a consumer of the session has a permit left, nothing is open
 abbrev pub IsQuietOn : ℕ → ℕ → Subscription → Type 0

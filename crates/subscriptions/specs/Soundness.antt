@@ -8,7 +8,7 @@ use Rattle.holds.specs.declared.consumer.ConsumerKey.{ConsumerKey}
 use Rattle.holds.specs.declared.consumer.Consumer.{Consumer as Seat}
 use Rattle.key_shared.specs.Ranges.{AreApart as AreRangesApart}
 use Rattle.subscriptions.specs.declared.consumer.Mode.TheVariants.{Exclusive, KeyShared}
-use Rattle.subscriptions.specs.declared.consumer.Consumer.{Consumer}
+use Rattle.subscriptions.specs.State.{Consumer}
 use Rattle.subscriptions.specs.State.{Subscription, Subscriptions}
 use Rattle.subscriptions.specs.Progress.{AreApart}
 use Rattle.subscriptions.specs.Steps.{is_on}

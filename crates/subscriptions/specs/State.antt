@@ -3,9 +3,15 @@ use Rattle.std.specs.Prelude.{ℕ, List}
 use Rattle.cursor.specs.Positions.{Positions}
 use Rattle.holds.specs.Deliveries.{Deliveries}
 use Rattle.holds.specs.declared.consumer.Consumer.{Consumer as Seat}
+use Rattle.holds.specs.declared.consumer.ConsumerKey.{ConsumerKey}
 use Rattle.subscriptions.specs.declared.consumer.Mode.{Mode}
-use Rattle.subscriptions.specs.declared.consumer.Consumer.{Consumer}
 use Rattle.records.specs.declared.record.Record.{Record}
+
+-- an attached consumer
+pub record Consumer : Type 0 where
+  pub key : ConsumerKey
+  pub granted : ℕ  -- how many permits it is known to have been granted
+  pub sent : ℕ  -- how many messages it got
 
 pub record Subscription : Type 0 where
   pub name : List ℕ

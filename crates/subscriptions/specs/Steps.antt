@@ -1,6 +1,6 @@
 -- What each call does to the subscriptions of a topic.
-use Rattle.std.specs.Prelude.{◌≡◌, ℕ, ◌+◌, ◌^◌, Bool, true, false, cond, not, ◌&&◌, ◌||◌, nat_eq, nat_lt, nat_le, Option, Some, None, List, [], ◌∷◌, ◌++◌, length, filter, drop, slice_index, IsTrue, IsSomeAnd, map as each}
-use Rattle.std.specs.List.{list_any, find}
+use Rattle.std.specs.Prelude.{◌≡◌, ℕ, ◌+◌, ◌^◌, Bool, true, false, cond, not, ◌&&◌, ◌||◌, nat_eq, nat_lt, nat_le, max, ◌≤◌, Option, Some, None, List, [], ◌∷◌, ◌++◌, length, filter, drop, slice_index, IsTrue, IsSomeAnd, map as each}
+use Rattle.std.specs.List.{AllZip, list_any, find}
 use Rattle.std.specs.Str.{bytes_eq}
 use Rattle.std.specs.FinSet as set
 use Rattle.std.specs.FinMap as map
@@ -14,7 +14,7 @@ use Rattle.key_shared.specs.Ranges.{are_refused}
 use Rattle.holds.specs.declared.delivery.Delivery.{Delivery}
 use Rattle.subscriptions.specs.declared.consumer.Mode.{Mode}
 use Rattle.subscriptions.specs.declared.consumer.Mode.TheVariants.{Exclusive, Failover, Shared, KeyShared}
-use Rattle.subscriptions.specs.declared.consumer.Consumer.{Consumer}
+use Rattle.subscriptions.specs.State.{Consumer}
 use Rattle.subscriptions.specs.declared.consumer.Refusal.{Refusal}
 use Rattle.subscriptions.specs.declared.consumer.Refusal.TheVariants.{ConsumerBusy, TooManyRequests, ConsumerAssignError}
 use Rattle.subscriptions.specs.declared.initial_position.InitialPosition.{InitialPosition}
@@ -158,6 +158,38 @@ attached_at (Some s) t name mode seat start = record t { subs = first_changed (i
 abbrev pub attached : Subscriptions → List ℕ → Mode → Seat → ℕ → Subscriptions
 attached t name mode seat start = attached_at (find (is_named name) t.subs) t name mode seat start
 
+-- a consumer is known to have been granted at least so many permits
+abbrev pub learnt_to : ℕ → Consumer → Consumer
+learnt_to granted c = record c { granted = max c.granted granted }
+
+abbrev pub learnt_on : ConsumerKey → ℕ → Subscription → Subscription
+learnt_on key granted s = record s { consumers = first_changed (is_consumer key) (learnt_to granted) s.consumers }
+
+abbrev pub learnt : Subscriptions → ConsumerKey → ℕ → Subscriptions
+learnt t key granted = record t { subs = first_changed (is_on key) (learnt_on key granted) t.subs }
+
+-- a consumer of the session is known to have been granted at least so many permits
+abbrev pub learnt_of : ℕ → ℕ → Consumer → Consumer
+learnt_of who granted c = cond (nat_eq c.key.session who) (learnt_to granted c) c
+
+-- nothing changed but what was learnt: of some number of permits, which were granted
+pub record IsLearnt {X : Type 0} (learning : ℕ → X) (new : X) : Type 0 where
+  pub granted : ℕ
+  pub bound : granted ≤ 2 ^ 62
+  pub same : new ≡ learning granted
+
+-- nothing changed but what was learnt of the permits of a session's consumers
+abbrev pub HaveLearnt : ℕ → List Consumer → List Consumer → Type 0
+HaveLearnt who consumers new = AllZip (λ c d. IsLearnt (λ n. learnt_of who n c) d) consumers new
+
+pub record HasLearntOn (who : ℕ) (s new : Subscription) : Type 0 where
+  pub consumers : HaveLearnt who s.consumers new.consumers
+  pub same : new ≡ record s { consumers = new.consumers }
+
+pub record HasLearnt (who : ℕ) (t new : Subscriptions) : Type 0 where
+  pub subs : AllZip (HasLearntOn who) t.subs new.subs
+  pub same : new ≡ record t { subs = new.subs }
+
 -- FLOW: the consumer has so many permits more
 abbrev pub granted_to : ℕ → Consumer → Consumer
 granted_to permits c = record c { granted = c.granted + permits }
@@ -248,6 +280,10 @@ unsubscribed t key = record t {
 abbrev pub has_permit : Option Consumer → Bool
 has_permit None = false
 has_permit (Some c) = nat_lt c.sent c.granted
+
+abbrev pub has_permit_at : ConsumerKey → Option Subscription → Bool
+has_permit_at key None = false
+has_permit_at key (Some s) = has_permit (find (is_consumer key) s.consumers)
 
 -- the consumer was attached first
 abbrev pub is_first : ConsumerKey → List Consumer → Bool

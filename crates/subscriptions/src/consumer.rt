@@ -1,4 +1,10 @@
+ghost use Rattle.std.specs.Prelude.{◌≡◌, ◌^◌, ◌≤◌, ◌<◌, ℕ, OnOk, OnErr, Some, true, false, max};
+ghost use Rattle.subscriptions.specs.Quiet.{has_permit_of};
+ghost use Rattle.subscriptions.specs.Steps.{IsLearnt, granted_to, is_past, learnt_to, learnt_of, sent_one, has_permit};
+
 use holds::ConsumerKey;
+use permits::{Gauge, Grant, TooManyPermits};
+use std::marker::Model;
 
 /// How the consumers of a subscription share its messages. PulsarApi.proto,
 /// CommandSubscribe.SubType.
@@ -14,16 +20,6 @@ pub enum Mode {
     KeyShared,
 }
 
-/// An attached consumer.
-#[derive(Clone, Copy, Debug, PartialEq, Eq)]
-pub struct Consumer {
-    pub key: ConsumerKey,
-    /// How many permits its session gave it.
-    pub granted: u64,
-    /// How many messages it got.
-    pub sent: u64,
-}
-
 /// Why a SUBSCRIBE is refused. PulsarApi.proto, ServerError.
 #[derive(Clone, Copy, Debug, PartialEq, Eq)]
 pub enum Refusal {
@@ -33,6 +29,81 @@ pub enum Refusal {
     ConsumerAssignError,
 }
 
-/// More than 2^62 permits would have been granted in all.
-#[derive(Clone, Copy, Debug, PartialEq, Eq)]
-pub struct TooManyPermits;
+/// An attached consumer with its permits, which are closed when it goes.
+pub(crate) struct Consumer<G: Gauge> {
+    key: ConsumerKey,
+    gauge: G,
+}
+
+impl<G: Gauge> Model for Consumer<G> {
+    ghost use Rattle.subscriptions.specs.State.{Consumer as State};
+
+    ghost Value = { State };
+
+    ghost view = { λ c. record { key = c.key; granted = G.known c.gauge; sent = G.taken c.gauge } };
+}
+
+impl<G: Gauge> Drop for Consumer<G> {
+    fn drop(self) {
+        let Consumer { key: _, mut gauge } = self;
+        gauge.close();
+    }
+}
+
+impl<G: Gauge> Consumer<G> {
+    /// A consumer with these permits, none of which is known or taken so far.
+    pub(crate) fn new(key: ConsumerKey, gauge: G) -> Consumer<G>
+        requires none_known { G.known gauge ≡ 0 }
+        requires none_taken { G.taken gauge ≡ 0 }
+        ensures { result ≡ record { key = key; granted = 0; sent = 0 } }
+    {
+        Consumer { key, gauge }
+    }
+
+    pub(crate) fn key(&self) -> ConsumerKey
+        ensures { result ≡ self.now.key }
+    {
+        self.key
+    }
+
+    /// Looks whether it has a permit left.
+    pub(crate) fn look(&mut self) -> bool
+        ensures learnt { IsLearnt (λ n. learnt_to n self.old) self.new }
+        ensures exact { G.exact → self.new ≡ self.old }
+        ensures permit { result ≡ has_permit (Some self.new) }
+    {
+        self.gauge.look()
+    }
+
+    /// Looks whether it is the session's and has a permit left. Another session's isn't looked at.
+    pub(crate) fn serves(&mut self, who: u64) -> bool
+        ensures learnt { IsLearnt (λ n. learnt_of who n self.old) self.new }
+        ensures exact { G.exact → self.new ≡ self.old }
+        ensures permit { result ≡ has_permit_of who self.new }
+    {
+        if self.key.session != who {
+            return false;
+        }
+        self.look()
+    }
+
+    /// A permit that is left is taken.
+    pub(crate) fn take(&mut self)
+        requires { has_permit (Some self.old) ≡ true }
+        ensures learnt { IsLearnt (λ n. learnt_to n (sent_one self.old)) self.new }
+        ensures exact { G.exact → self.new ≡ sent_one self.old }
+    {
+        let is_taken = self.gauge.take();
+        prove!(is_taken);
+    }
+}
+
+impl<G: Grant> Consumer<G> {
+    /// Grants it so many permits more, unless it would have more than 2^62 in all.
+    pub(crate) fn grant(&mut self, permits: u64) -> Result<(), TooManyPermits>
+        ensures ok { OnOk result ((is_past permits (Some self.old) ≡ false) × (self.new ≡ granted_to permits self.old)) }
+        ensures err { OnErr result ((is_past permits (Some self.old) ≡ true) × (self.new ≡ self.old)) }
+    {
+        self.gauge.grant(permits)
+    }
+}

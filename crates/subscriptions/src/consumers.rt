@@ -1,30 +1,29 @@
 // The consumers of a subscription.
-ghost use Rattle.std.specs.Prelude.{◌≡◌, ◌<◌, ◌++◌, ◌∷◌, [], List, IfSome, OnOk, OnErr, Some, None, true, false, filter, length, nat_eq, nat_lt, not, position};
+ghost use Rattle.std.specs.Prelude.{◌≡◌, ◌^◌, ◌<◌, ◌≤◌, ◌++◌, ◌∷◌, [], List, IfSome, OnOk, OnErr, Some, None, true, false, filter, length, nat_eq, nat_lt, not, position};
 ghost use Rattle.std.specs.List.{find, list_any};
 ghost use Rattle.holds.specs.declared.consumer.ConsumerKey.{ConsumerKey as Key};
-ghost use Rattle.subscriptions.specs.declared.consumer.Consumer.{Consumer as TheConsumer};
+ghost use Rattle.subscriptions.specs.State.{Consumer as TheConsumer};
 ghost use Rattle.subscriptions.specs.Directory.{place_in, place_before, numbered};
-ghost use Rattle.subscriptions.specs.Steps.{is_consumer, first_changed, granted_to, has_permit, has_some, is_past, sent_one};
+ghost use Rattle.subscriptions.specs.Quiet.{has_permits};
+ghost use Rattle.subscriptions.specs.Steps.{is_consumer, first_changed, granted_to, is_past, learnt_to, IsLearnt, HaveLearnt, has_permit, has_some, sent_one};
 
-use crate::consumer::{Consumer, TooManyPermits};
+use crate::consumer::Consumer;
 use crate::directory::Directory;
 use holds::ConsumerKey;
+use permits::{Gauge, Grant, TooManyPermits};
 use std::alloc::{AllocError, Global};
 use std::marker::Model;
 
-/// How many permits a consumer is granted in all. Our own rule.
-const MOST_PERMITS: u64 = 1 << 62;
-
 /// The attached consumers in order of attachment, and a directory that finds one of them however many there are.
 #[derive(Drop)]
-pub(crate) struct Consumers {
-    list: Vec<Consumer>,
+pub(crate) struct Consumers<G: Gauge> {
+    list: Vec<Consumer<G>>,
     places: Directory,
 }
 
-impl Model for Consumers {
+impl<G: Gauge> Model for Consumers<G> {
     ghost use Rattle.std.specs.Prelude.{List};
-    ghost use Rattle.subscriptions.specs.declared.consumer.Consumer.{Consumer};
+    ghost use Rattle.subscriptions.specs.State.{Consumer};
     ghost use Rattle.subscriptions.specs.Directory.{ArePlacesAmong};
 
     ghost Value = { List Consumer };
@@ -34,8 +33,8 @@ impl Model for Consumers {
     ghost invariant = { λ c. ArePlacesAmong c.list.items c.places };
 }
 
-impl Consumers {
-    pub(crate) fn new(alloc: Global) -> Consumers
+impl<G: Gauge> Consumers<G> {
+    pub(crate) fn new(alloc: Global) -> Consumers<G>
         ensures { result ≡ [] }
     {
         Consumers {
@@ -44,7 +43,7 @@ impl Consumers {
         }
     }
 
-    pub(crate) fn as_slice(&self) -> &[Consumer]
+    pub(crate) fn as_slice(&self) -> &[Consumer<G>]
         ensures { result.now ≡ self.now }
     {
         self.list.as_slice()
@@ -76,51 +75,50 @@ impl Consumers {
         self.places.of(key).is_some()
     }
 
-    /// Whether the consumer is there and has a permit left.
-    pub(crate) fn has_permit(&self, key: ConsumerKey) -> bool
-        ensures { result ≡ has_permit (find (is_consumer key) self.now) }
+    /// Looks whether the consumer is there and has a permit left.
+    pub(crate) fn look(&mut self, key: ConsumerKey) -> bool
+        ensures learnt { IsLearnt (λ n. first_changed (is_consumer key) (learnt_to n) self.old) self.new }
+        ensures exact { G.exact → self.new ≡ self.old }
+        ensures permit { result ≡ has_permit (find (is_consumer key) self.new) }
     {
+        self.places.remember(key);
         let Some(place) = self.place_of(key) else {
             return false;
         };
-        let consumer = self.list[place];
-        consumer.sent < consumer.granted
+        let consumer = &mut self.list[place];
+        consumer.look()
     }
 
-    /// Grants the consumer more permits, unless it would have more than 2^62 in all.
-    pub(crate) fn grant(&mut self, key: ConsumerKey, permits: u64) -> Result<(), TooManyPermits>
-        ensures ok { OnOk result ((is_past permits (find (is_consumer key) self.old) ≡ false) × (self.new ≡ first_changed (is_consumer key) (granted_to permits) self.old)) }
-        ensures err { OnErr result ((is_past permits (find (is_consumer key) self.old) ≡ true) × (self.new ≡ self.old)) }
+    /// Looks whether a consumer of the session has a permit left, up to the first one that has.
+    pub(crate) fn have_permit(&mut self, who: u64) -> bool
+        ensures learnt { HaveLearnt who self.old self.new }
+        ensures exact { G.exact → self.new ≡ self.old }
+        ensures permit { result ≡ has_permits who self.new }
     {
-        let Some(place) = self.place_of(key) else {
-            return Ok(());
-        };
-        grant(&mut self.list, place, permits)?;
-        Ok(())
+        have_permit(&mut self.list, who)
     }
 
     /// A consumer that has a permit left takes one.
     pub(crate) fn take(&mut self, key: ConsumerKey)
         requires { has_permit (find (is_consumer key) self.old) ≡ true }
-        ensures { self.new ≡ first_changed (is_consumer key) (λ c. sent_one c) self.old }
+        ensures learnt { IsLearnt (λ n. first_changed (is_consumer key) (learnt_to n) (first_changed (is_consumer key) (λ c. sent_one c) self.old)) self.new }
+        ensures exact { G.exact → self.new ≡ first_changed (is_consumer key) (λ c. sent_one c) self.old }
     {
         let Some(place) = self.place_of(key) else {
-            return;
+            unreachable!()
         };
         self.places.remember(key);
         let consumer = &mut self.list[place];
-        let has_permit = consumer.sent < consumer.granted;
-        prove!(has_permit);
-        consumer.sent += 1;
+        consumer.take();
     }
 
     /// Puts a consumer behind the others. A refusal changes nothing.
-    pub(crate) fn push(&mut self, consumer: Consumer) -> Result<(), AllocError>
+    pub(crate) fn push(&mut self, consumer: Consumer<G>) -> Result<(), AllocError>
         ensures ok { OnOk result (self.new ≡ self.old ++ consumer ∷ []) }
         ensures err { OnErr result (self.new ≡ self.old) }
     {
         self.list.reserve(1)?;
-        self.places.add(consumer.key, self.list.len())?;
+        self.places.add(consumer.key(), self.list.len())?;
         self.list.push(consumer).unwrap();
         Ok(())
     }
@@ -132,8 +130,9 @@ impl Consumers {
         let Some(last) = self.list.pop() else {
             return;
         };
-        let earlier = place_before(self.list.len(), self.places.of(last.key));
-        self.places.set(last.key, earlier);
+        let key = last.key();
+        let earlier = place_before(self.list.len(), self.places.of(key));
+        self.places.set(key, earlier);
     }
 
     /// Drops the session's consumers. Takes no memory.
@@ -155,21 +154,33 @@ impl Consumers {
     }
 }
 
-/// Grants the consumer at this place more permits, unless it would have more than 2^62 in all.
-fn grant(consumers: &mut Vec<Consumer>, place: usize, permits: u64) -> Result<(), TooManyPermits>
-    requires { place < length consumers.old.items }
-    ensures ok { OnOk result ((key : Key) → position (is_consumer key) consumers.old.items ≡ Some place → (is_past permits (find (is_consumer key) consumers.old.items) ≡ false) × (consumers.new.items ≡ first_changed (is_consumer key) (granted_to permits) consumers.old.items)) }
-    ensures err { OnErr result ((key : Key) → position (is_consumer key) consumers.old.items ≡ Some place → (is_past permits (find (is_consumer key) consumers.old.items) ≡ true) × (consumers.new.items ≡ consumers.old.items)) }
-{
-    let consumer = &mut consumers[place];
-    let Some(total) = consumer.granted.checked_add(permits) else {
-        return Err(TooManyPermits);
-    };
-    if total > MOST_PERMITS {
-        return Err(TooManyPermits);
+impl<G: Grant> Consumers<G> {
+    /// Grants the consumer more permits, unless it would have more than 2^62 in all.
+    pub(crate) fn grant(&mut self, key: ConsumerKey, permits: u64) -> Result<(), TooManyPermits>
+        ensures ok { OnOk result ((is_past permits (find (is_consumer key) self.old) ≡ false) × (self.new ≡ first_changed (is_consumer key) (granted_to permits) self.old)) }
+        ensures err { OnErr result ((is_past permits (find (is_consumer key) self.old) ≡ true) × (self.new ≡ self.old)) }
+    {
+        let Some(place) = self.place_of(key) else {
+            return Ok(());
+        };
+        let consumer = &mut self.list[place];
+        consumer.grant(permits)
     }
-    consumer.granted = total;
-    Ok(())
+}
+
+/// Looks whether a consumer of the session has a permit left, up to the first one that has.
+fn have_permit<G: Gauge>(consumers: &mut Vec<Consumer<G>>, who: u64) -> bool
+    ensures learnt { HaveLearnt who consumers.old.items consumers.new.items }
+    ensures exact { G.exact → consumers.new.items ≡ consumers.old.items }
+    ensures permit { result ≡ has_permits who consumers.new.items }
+{
+    for i in 0..consumers.len() {
+        let consumer = &mut consumers[i];
+        if consumer.serves(who) {
+            return true;
+        }
+    }
+    false
 }
 
 /// A place, if it is before the end.
@@ -183,27 +194,27 @@ fn place_before(end: usize, place: Option<usize>) -> Option<usize>
 }
 
 /// Drops the consumers of the session.
-fn forget_session(consumers: &mut Vec<Consumer>, who: u64)
+fn forget_session<G: Gauge>(consumers: &mut Vec<Consumer<G>>, who: u64)
     ensures { consumers.new.items ≡ filter (λ c. not (nat_eq c.key.session who)) consumers.old.items }
 {
-    consumers.retain(|c| c.key.session != who);
+    consumers.retain(|c| c.key().session != who);
 }
 
 /// Drops the consumer.
-fn forget_consumer(consumers: &mut Vec<Consumer>, key: ConsumerKey)
+fn forget_consumer<G: Gauge>(consumers: &mut Vec<Consumer<G>>, key: ConsumerKey)
     ensures { consumers.new.items ≡ filter (λ c. not (is_consumer key c)) consumers.old.items }
 {
-    consumers.retain(|c| c.key != key);
+    consumers.retain(|c| c.key() != key);
 }
 
 /// Each consumer that has a place has the one where it stands first from now on.
-fn number(places: &mut Directory, consumers: &[Consumer])
+fn number<G: Gauge>(places: &mut Directory, consumers: &[Consumer<G>])
     ensures { (k : Key) → place_in places.new k ≡ numbered (position (is_consumer k) consumers.now) (place_in places.old k) }
 {
     let mut place = consumers.len();
     while place > 0 {
         place -= 1;
-        let consumer = consumers[place];
-        places.set(consumer.key, Some(place));
+        let consumer = &consumers[place];
+        places.set(consumer.key(), Some(place));
     }
 }

@@ -1,5 +1,5 @@
 ghost use Rattle.subscriptions.specs.Forgetting.{CountsAreForgotten};
-ghost use Rattle.subscriptions.specs.Laws.{StaysSound, DeliveriesAreCommitted, AreKept, PickedIsOpen};
+ghost use Rattle.subscriptions.specs.Laws.{StaysSound, DeliveriesAreCommitted, AreKept, PickedIsOpen, LearningAdmits};
 
 /// Each call keeps the subscriptions sound.
 pub fn stays_sound()
@@ -24,4 +24,9 @@ pub fn picked_is_open()
 /// Whether the count of an acknowledged position is forgotten changes no answer, now and after any calls.
 pub fn counts_are_forgotten()
     ensures { CountsAreForgotten }
+{}
+
+/// A consumer that may get a position may get it whatever more is learnt of its permits.
+pub fn learning_admits()
+    ensures { LearningAdmits }
 {}

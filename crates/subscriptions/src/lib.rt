@@ -1,7 +1,8 @@
 //! `Subscriptions` is all that one topic knows of its subscriptions: who is attached, what each
 //! consumer may still get, what was sent and acknowledged, and which changes aren't durable yet.
 //! Each call moves an abstract value by one step that is stated whole, and a position is picked
-//! exactly where one is admitted. What lacks memory changes nothing.
+//! exactly where one is admitted. What lacks memory changes nothing. A consumer's permits are a
+//! `Gauge` of the `permits` crate, handed in with it and closed when it goes.
 #![tactic(auto)]
 
 mod backlog;
@@ -20,10 +21,10 @@ mod statuses;
 mod subscription;
 mod table;
 
-pub use consumer::{Consumer, Mode, Refusal, TooManyPermits};
+pub use consumer::{Mode, Refusal};
 pub use initial_position::InitialPosition;
 pub use laws::{
-    counts_are_forgotten, deliveries_are_committed, picked_is_open, stays_sound,
+    counts_are_forgotten, deliveries_are_committed, learning_admits, picked_is_open, stays_sound,
     subscriptions_are_kept,
 };
 pub use status::SubscriptionStatus;

@@ -5,7 +5,7 @@ ghost use Rattle.std.specs.FinMap as map;
 ghost use Rattle.holds.specs.Backlog.{IsOpenAt, attached};
 ghost use Rattle.holds.specs.Deliveries.{times, given_back, same_key};
 ghost use Rattle.holds.specs.declared.consumer.Consumer.{Consumer as TheSeat};
-ghost use Rattle.subscriptions.specs.Steps.{is_consumer, is_on, first_changed, first_standing, same_mode, is_exclusive, is_failover, serves_many, is_shared_mode, is_key_shared, attach_refusals, refuses_ranges, attached_to, made, opened_one, granted_to, granted_on, is_past, acked_on, acked_through_on, has_permit, AdmitsBy, sent_one, sent_on, left_on, detached_on, is_asked_back, redelivered_on};
+ghost use Rattle.subscriptions.specs.Steps.{is_consumer, is_on, first_changed, first_standing, same_mode, is_exclusive, is_failover, serves_many, is_shared_mode, is_key_shared, attach_refusals, refuses_ranges, attached_to, made, opened_one, granted_to, granted_on, is_past, learnt_to, learnt_on, IsLearnt, HasLearntOn, acked_on, acked_through_on, has_permit, AdmitsBy, sent_one, sent_on, left_on, detached_on, is_asked_back, redelivered_on};
 ghost use Rattle.subscriptions.specs.Dispatching.{mode_of, seats_of, keys};
 ghost use Rattle.subscriptions.specs.Hints.{IsPassed};
 ghost use Rattle.subscriptions.specs.Freeing.{freed_among};
@@ -13,13 +13,14 @@ ghost use Rattle.subscriptions.specs.Quiet.{IsQuietOn, has_permits};
 ghost use Rattle.subscriptions.specs.Statuses.{IsStatus};
 
 use crate::backlog::Backlog;
-use crate::consumer::{Consumer, Mode, Refusal, TooManyPermits};
+use crate::consumer::{Consumer, Mode, Refusal};
 use crate::consumers::Consumers;
 use crate::dispatch::Dispatch;
 use crate::progress::{Progress, lowered};
 use crate::status::SubscriptionStatus;
 use cursor::Cursor;
 use holds::{Consumer as Seat, ConsumerKey, SlotRange};
+use permits::{Gauge, Grant, TooManyPermits};
 use records::Name;
 use std::alloc::{AllocError, Global};
 use std::marker::Model;
@@ -28,14 +29,14 @@ use std::marker::Model;
 const MOST_CONSUMERS: usize = 64;
 
 #[derive(Drop)]
-pub(crate) struct Subscription {
+pub(crate) struct Subscription<G: Gauge> {
     name: Name,
     dispatch: Dispatch,
-    consumers: Consumers,
+    consumers: Consumers<G>,
     progress: Progress,
 }
 
-impl Model for Subscription {
+impl<G: Gauge> Model for Subscription<G> {
     ghost use Rattle.std.specs.Coded.{codes};
     ghost use Rattle.cursor.specs.Positions.{positions_code};
     ghost use Rattle.holds.specs.Deliveries.{deliveries_code};
@@ -53,9 +54,9 @@ impl Model for Subscription {
     ghost invariant = { λ s. IsSoundSubscription (subscription_of s) };
 }
 
-impl Subscription {
+impl<G: Gauge> Subscription<G> {
     /// All positions below `start` are acknowledged, and nobody is attached.
-    pub(crate) fn new(alloc: Global, name: Name, mode: Mode, start: u64) -> Subscription
+    pub(crate) fn new(alloc: Global, name: Name, mode: Mode, start: u64) -> Subscription<G>
         requires { start ≤ 2 ^ 62 }
         ensures { result ≡ made name mode start }
     {
@@ -68,7 +69,7 @@ impl Subscription {
     }
 
     /// These positions are acknowledged, and nobody is attached.
-    pub(crate) fn opened(alloc: Global, name: Name, acked: Cursor) -> Subscription
+    pub(crate) fn opened(alloc: Global, name: Name, acked: Cursor) -> Subscription<G>
         ensures { result ≡ opened_one (name, acked) }
     {
         Subscription {
@@ -128,12 +129,20 @@ impl Subscription {
 
     /// Attaches a consumer behind the others. The first one sets the mode. A refusal changes
     /// nothing.
-    pub(crate) fn attach(&mut self, alloc: Global, mode: Mode, seat: Seat) -> Result<(), AllocError>
-        requires { first_standing (attach_refusals mode seat.ranges self.old) ≡ None }
+    pub(crate) fn attach(
+        &mut self,
+        alloc: Global,
+        mode: Mode,
+        seat: Seat,
+        gauge: G,
+    ) -> Result<(), AllocError>
+        requires allowed { first_standing (attach_refusals mode seat.ranges self.old) ≡ None }
+        requires none_known { G.known gauge ≡ 0 }
+        requires none_taken { G.taken gauge ≡ 0 }
         ensures ok { OnOk result (self.new ≡ attached_to mode seat self.old) }
         ensures err { OnErr result (self.new ≡ self.old) }
     {
-        let newcomer = newcomer(seat.key);
+        let newcomer = Consumer::new(seat.key, gauge);
         if self.consumers.is_empty() {
             let dispatch = first_one(alloc, mode, seat)?;
             self.consumers.push(newcomer)?;
@@ -148,15 +157,6 @@ impl Subscription {
                 Err(refused)
             }
         }
-    }
-
-    /// Grants a consumer more permits, unless it would have more than 2^62 in all.
-    pub(crate) fn grant(&mut self, key: ConsumerKey, permits: u64) -> Result<(), TooManyPermits>
-        ensures ok { OnOk result ((is_past permits (find (is_consumer key) self.old.consumers) ≡ false) × (self.new ≡ granted_on key permits self.old)) }
-        ensures err { OnErr result ((is_past permits (find (is_consumer key) self.old.consumers) ≡ true) × (self.new ≡ self.old)) }
-    {
-        self.consumers.grant(key, permits)?;
-        Ok(())
     }
 
     /// Acknowledges positions. A refusal changes nothing.
@@ -184,11 +184,13 @@ impl Subscription {
         self.consumers.len() > 1
     }
 
-    /// Whether the consumer is attached and has a permit left.
-    pub(crate) fn has_permit(&self, key: ConsumerKey) -> bool
-        ensures { result ≡ has_permit (find (is_consumer key) self.now.consumers) }
+    /// Looks whether the consumer is attached and has a permit left.
+    pub(crate) fn look(&mut self, key: ConsumerKey) -> bool
+        ensures learnt { IsLearnt (λ n. learnt_on key n self.old) self.new }
+        ensures exact { G.exact → self.new ≡ self.old }
+        ensures permit { result ≡ has_permit (find (is_consumer key) self.new.consumers) }
     {
-        self.consumers.has_permit(key)
+        self.consumers.look(key)
     }
 
     /// The position that the consumer may get, its permits aside. On Key_Shared the search begins at `from`, below which
@@ -221,18 +223,38 @@ impl Subscription {
         self.dispatch.pick(&backlog, key, place, from)
     }
 
-    /// Whether something is open, and a consumer of the session has a permit for it. What is acknowledged or held in front is
-    /// passed over once, and not by later calls.
+    /// Whether something is open, and a consumer of the session has a permit for it: where something is, it is looked what was
+    /// granted to them.
     pub(crate) fn may_serve(&mut self, who: u64, committed: u64) -> bool
         requires { committed ≤ 2 ^ 62 }
-        ensures same { self.new ≡ self.old }
-        ensures quiet { result ≡ false → IsQuietOn who committed self.old }
-        ensures busy { result ≡ true → IsQuietOn who committed self.old → ⊥ }
+        ensures learnt { HasLearntOn who self.old self.new }
+        ensures exact { G.exact → self.new ≡ self.old }
+        ensures quiet { result ≡ false → IsQuietOn who committed self.new }
+        ensures busy { result ≡ true → IsQuietOn who committed self.new → ⊥ }
     {
-        if self.progress.settle(committed).is_none() {
+        if !self.has_open(committed) {
             return false;
         }
-        has_permits(self.consumers.as_slice(), who)
+        self.have_permit(who)
+    }
+
+    /// Whether a position is open. What is acknowledged or held in front is passed over once, and not by later calls.
+    fn has_open(&mut self, committed: u64) -> bool
+        requires { committed ≤ 2 ^ 62 }
+        ensures same { self.new ≡ self.old }
+        ensures none { result ≡ false → (i : ℕ) → IsOpenAt committed self.old.acked self.old.deliveries i → ⊥ }
+        ensures some { result ≡ true → ((i : ℕ) → IsOpenAt committed self.old.acked self.old.deliveries i → ⊥) → ⊥ }
+    {
+        self.progress.settle(committed).is_some()
+    }
+
+    /// Looks whether a consumer of the session has a permit left, up to the first one that has.
+    fn have_permit(&mut self, who: u64) -> bool
+        ensures learnt { HasLearntOn who self.old self.new }
+        ensures exact { G.exact → self.new ≡ self.old }
+        ensures permit { result ≡ has_permits who self.new.consumers }
+    {
+        self.consumers.have_permit(who)
     }
 
     /// Whether each consumer gets the entries of its ranges.
@@ -253,7 +275,8 @@ impl Subscription {
         requires fits { committed ≤ 2 ^ 62 }
         requires permit { has_permit (find (is_consumer key) self.old.consumers) ≡ true }
         requires is_open { IsOpenAt committed self.old.acked self.old.deliveries position }
-        ensures ok { OnOk result (self.new ≡ sent_on key position self.old) }
+        ensures ok { OnOk result (IsLearnt (λ n. learnt_on key n (sent_on key position self.old)) self.new) }
+        ensures exact { G.exact → OnOk result (self.new ≡ sent_on key position self.old) }
         ensures before { IfOk result (λ before. before ≡ times self.old.deliveries position) }
         ensures err { OnErr result (self.new ≡ self.old) }
     {
@@ -314,6 +337,17 @@ impl Subscription {
     }
 }
 
+impl<G: Grant> Subscription<G> {
+    /// Grants a consumer more permits, unless it would have more than 2^62 in all.
+    pub(crate) fn grant(&mut self, key: ConsumerKey, permits: u64) -> Result<(), TooManyPermits>
+        ensures ok { OnOk result ((is_past permits (find (is_consumer key) self.old.consumers) ≡ false) × (self.new ≡ granted_on key permits self.old)) }
+        ensures err { OnErr result ((is_past permits (find (is_consumer key) self.old.consumers) ≡ true) × (self.new ≡ self.old)) }
+    {
+        self.consumers.grant(key, permits)?;
+        Ok(())
+    }
+}
+
 fn same_mode(a: Mode, b: Mode) -> bool
     ensures { result ≡ same_mode a b }
 {
@@ -367,41 +401,21 @@ fn first_one(alloc: Global, mode: Mode, seat: Seat) -> Result<Dispatch, AllocErr
     Ok(dispatch)
 }
 
-/// A consumer without permits.
-fn newcomer(key: ConsumerKey) -> Consumer
-    ensures { result ≡ record { key = key; granted = 0; sent = 0 } }
-{
-    Consumer {
-        key,
-        granted: 0,
-        sent: 0,
-    }
-}
-
 /// Whether one of the consumers is of the session.
-fn has_session(consumers: &[Consumer], who: u64) -> bool
+fn has_session<G: Gauge>(consumers: &[Consumer<G>], who: u64) -> bool
     ensures { result ≡ list_any (λ c. nat_eq c.key.session who) consumers.now }
 {
-    consumers.iter().any(|c| c.key.session == who)
-}
-
-/// Whether a consumer of the session has a permit left.
-fn has_permits(consumers: &[Consumer], who: u64) -> bool
-    ensures { result ≡ has_permits who consumers.now }
-{
-    consumers
-        .iter()
-        .any(|c| c.key.session == who && c.sent < c.granted)
+    consumers.iter().any(|c| c.key().session == who)
 }
 
 /// What the consumers of the session hold is free.
-fn free_all(progress: &mut Progress, consumers: &[Consumer], who: u64)
+fn free_all<G: Gauge>(progress: &mut Progress, consumers: &[Consumer<G>], who: u64)
     ensures acked { progress.new.acked ≡ progress.old.acked }
     ensures freed { (q : ℕ) → map.get progress.new.deliveries q ≡ option_map (freed_among who consumers.now) (map.get progress.old.deliveries q) }
 {
     for consumer in consumers {
-        if consumer.key.session == who {
-            progress.give_back(consumer.key);
+        if consumer.key().session == who {
+            progress.give_back(consumer.key());
         }
     }
 }
@@ -436,13 +450,13 @@ fn asked_from(mode: Mode, asked: Option<&[u64]>) -> u64
 }
 
 /// The dispatcher lets the session's consumers go.
-fn detach_all(dispatch: &mut Dispatch, consumers: &[Consumer], who: u64)
+fn detach_all<G: Gauge>(dispatch: &mut Dispatch, consumers: &[Consumer<G>], who: u64)
     requires { each (λ (seat : TheSeat). seat.key) (seats_of dispatch.old) ≡ keys consumers.now }
     ensures mode { mode_of dispatch.new ≡ mode_of dispatch.old }
     ensures seats { seats_of dispatch.new ≡ filter (λ c. not (nat_eq c.key.session who)) (seats_of dispatch.old) }
 {
     for consumer in consumers {
-        detach_of(dispatch, consumer.key, who);
+        detach_of(dispatch, consumer.key(), who);
     }
 }
 

@@ -1,16 +1,16 @@
 ghost use Rattle.std.specs.Prelude.{◌≡◌, ◌+◌, ◌^◌, ◌<◌, ◌≤◌, ◌++◌, ◌∷◌, [], ℕ, List, All, IfOk, IfNone, IfSome, OnOk, OnErr, Some, None, true, false, drop, take, length, nat_le, position, vec_len, vec_capacity, map as each};
-ghost use Rattle.std.specs.List.{AllByRecursion, IsDistinct, find};
+ghost use Rattle.std.specs.List.{AllByRecursion, AllZip, IsDistinct, find};
 ghost use Rattle.std.specs.Str.{bytes_eq};
 ghost use Rattle.records.specs.declared.kept_cursor.KeptCursor.{KeptCursor};
 ghost use Rattle.records.specs.declared.record.Record.TheVariants.{Acknowledged as acknowledged_change, Made as made_of};
-ghost use Rattle.subscriptions.specs.Steps.{none_yet, opened_one, opened_all, first_changed, is_on, is_named, has_consumer, first_standing, making_refusals, subscribe_refusals, attach_refusals, refuses_ranges, attached_to, attached, attached_at, start_of, made, granted, granted_on, is_past_on, grants_too_many, acknowledged, acked_on, acknowledged_through, acked_through_on, is_shared, unsubscribe_refusals, unsubscribed, Admits, AdmitsAt, AdmitsOn, sent, sent_on, sent_before, times_at, left, left_on, detached, detached_on, redelivered, redelivered_on, shares, is_among_many, settled, slotted};
+ghost use Rattle.subscriptions.specs.Steps.{none_yet, opened_one, opened_all, first_changed, is_on, is_named, has_consumer, first_standing, making_refusals, subscribe_refusals, attach_refusals, refuses_ranges, attached_to, attached, attached_at, start_of, made, granted, granted_on, grants_too_many, learnt, learnt_on, IsLearnt, HasLearnt, HasLearntOn, has_permit_at, acknowledged, acked_on, acknowledged_through, acked_through_on, is_shared, unsubscribe_refusals, unsubscribed, Admits, AdmitsAt, AdmitsOn, sent, sent_on, sent_before, times_at, left, left_on, detached, detached_on, redelivered, redelivered_on, shares, is_among_many, settled, slotted};
 ghost use Rattle.std.specs.Option.{option_copied};
 ghost use Rattle.subscriptions.specs.Hints.{AreHintsOf, AreHintsOn};
 ghost use Rattle.subscriptions.specs.Quiet.{IsQuiet};
 ghost use Rattle.subscriptions.specs.Statuses.{AreStatuses};
 ghost use Rattle.holds.specs.declared.consumer.ConsumerKey.{ConsumerKey as Key};
 
-use crate::consumer::{Mode, Refusal, TooManyPermits};
+use crate::consumer::{Mode, Refusal};
 use crate::directory::Directory;
 use crate::hint::Hint;
 use crate::hints::Hints;
@@ -21,6 +21,7 @@ use crate::statuses::{sort_by_name, statuses_of};
 use crate::subscription::{Subscription, is_key_shared};
 use holds::{Consumer, ConsumerKey, SlotRange};
 use key_shared::are_refused;
+use permits::{Gauge, Grant, TooManyPermits};
 use records::{KeptCursor, Name, Record};
 use std::alloc::{AllocError, Global};
 use std::marker::Model;
@@ -38,9 +39,9 @@ const KEPT_ROOM: usize = 1_024;
 /// that finds a consumer's subscription however many there are, the sessions for which nothing was found, and the changes that
 /// aren't durable yet.
 #[derive(Drop)]
-pub struct Subscriptions {
+pub struct Subscriptions<G: Gauge> {
     alloc: Global,
-    subs: Vec<Subscription>,
+    subs: Vec<Subscription<G>>,
     changes: Vec<Record>,
     slots: Vec<u16>,
     hints: Vec<Hints>,
@@ -48,7 +49,7 @@ pub struct Subscriptions {
     quiet: Quiet,
 }
 
-impl Model for Subscriptions {
+impl<G: Gauge> Model for Subscriptions<G> {
     ghost use Rattle.std.specs.Coded.{codes};
     ghost use Rattle.cursor.specs.Positions.{positions_code};
     ghost use Rattle.holds.specs.Deliveries.{deliveries_code};
@@ -68,9 +69,9 @@ impl Model for Subscriptions {
     ghost invariant = { λ t. HasLimits (record { subs = t.subs.items; changes = t.changes.items; slots = t.slots.items }) × AreHints (record { subs = t.subs.items; changes = t.changes.items; slots = t.slots.items }) t.hints.items × ArePlaces t.subs.items t.directory × AreQuiet t.subs.items t.quiet };
 }
 
-impl Subscriptions {
+impl<G: Gauge> Subscriptions<G> {
     /// No subscription, and no change.
-    pub fn new(alloc: Global) -> Subscriptions
+    pub fn new(alloc: Global) -> Subscriptions<G>
         ensures { result ≡ none_yet }
     {
         Subscriptions {
@@ -89,7 +90,7 @@ impl Subscriptions {
         alloc: Global,
         kept: Vec<KeptCursor>,
         slots: Vec<u16>,
-    ) -> Result<Subscriptions, AllocError>
+    ) -> Result<Subscriptions<G>, AllocError>
         requires few { length kept.items ≤ 64 }
         requires distinct { IsDistinct bytes_eq (each (λ (c : KeptCursor). c.name) kept.items) }
         ensures { IfOk result (λ t. t ≡ slotted (opened_all (each (λ (c : KeptCursor). (c.name, c.acked)) kept.items)) slots.items) }
@@ -164,28 +165,31 @@ impl Subscriptions {
     }
 
     /// SUBSCRIBE: a name that is there gains a consumer, and another name is made with it. A
-    /// refusal changes nothing.
+    /// refusal changes nothing, and the gauge goes.
     pub fn attach(
         &mut self,
         name: &str,
         mode: Mode,
         seat: Consumer,
+        gauge: G,
         initial: InitialPosition,
         committed: u64,
     ) -> Result<(), AllocError>
         requires fits { committed ≤ 2 ^ 62 }
         requires allowed { first_standing (subscribe_refusals self.old name.now mode seat.ranges) ≡ None }
+        requires none_known { G.known gauge ≡ 0 }
+        requires none_taken { G.taken gauge ≡ 0 }
         ensures ok { OnOk result (self.new ≡ attached self.old name.now mode seat (start_of initial committed)) }
         ensures err { OnErr result (self.new ≡ self.old) }
     {
         let Some(place) = place_named(self.subs.as_slice(), name) else {
-            return self.make(name, mode, seat, start_of(initial, committed));
+            return self.make(name, mode, seat, gauge, start_of(initial, committed));
         };
         let key = seat.key;
         let former = self.directory.of(key);
         self.directory.add(key, place)?;
         let sub = &mut self.subs[place];
-        match sub.attach(self.alloc, mode, seat) {
+        match sub.attach(self.alloc, mode, seat, gauge) {
             Ok(()) => {
                 let hints = &mut self.hints[place];
                 hints.forget(key);
@@ -199,36 +203,30 @@ impl Subscriptions {
     }
 
     /// A subscription of a name that isn't there yet is made, with its first consumer.
-    fn make(&mut self, name: &str, mode: Mode, seat: Consumer, start: u64) -> Result<(), AllocError>
+    fn make(
+        &mut self,
+        name: &str,
+        mode: Mode,
+        seat: Consumer,
+        gauge: G,
+        start: u64,
+    ) -> Result<(), AllocError>
         requires fits { start ≤ 2 ^ 62 }
         requires absent { position (is_named name.now) self.old.subs ≡ None }
         requires allowed { first_standing (subscribe_refusals self.old name.now mode seat.ranges) ≡ None }
+        requires none_known { G.known gauge ≡ 0 }
+        requires none_taken { G.taken gauge ≡ 0 }
         ensures ok { OnOk result (self.new ≡ attached self.old name.now mode seat start) }
         ensures err { OnErr result (self.new ≡ self.old) }
     {
         let key = seat.key;
         reserve_one(&mut self.changes, &mut self.subs, &mut self.hints)?;
-        let sub = new_subscription(self.alloc, name, mode, seat, start)?;
+        let sub = new_subscription(self.alloc, name, mode, seat, gauge, start)?;
         let change = made_change(self.alloc, name, start)?;
         self.directory.add(key, self.subs.len())?;
         self.changes.push(change).unwrap();
         self.subs.push(sub).unwrap();
         self.hints.push(Hints::new(self.alloc)).unwrap();
-        Ok(())
-    }
-
-    /// FLOW: the consumer has so many permits more, unless it would have more than 2^62 in all. An
-    /// unknown consumer changes nothing.
-    pub fn grant(&mut self, key: ConsumerKey, permits: u64) -> Result<(), TooManyPermits>
-        ensures ok { OnOk result ((grants_too_many self.old key permits ≡ false) × (self.new ≡ granted self.old key permits)) }
-        ensures err { OnErr result ((grants_too_many self.old key permits ≡ true) × (self.new ≡ self.old)) }
-    {
-        let Some(place) = self.directory.of(key) else {
-            return Ok(());
-        };
-        let sub = &mut self.subs[place];
-        sub.grant(key, permits)?;
-        self.quiet.forget(key.session);
         Ok(())
     }
 
@@ -308,23 +306,52 @@ impl Subscriptions {
         Ok(())
     }
 
-    /// The position that the consumer may get: one exactly where one is admitted. What is passed over on Key_Shared is
-    /// remembered, as far as memory goes.
+    /// The position that the consumer may get: one exactly where one is admitted, once it was
+    /// looked what was granted to it. What is passed over on Key_Shared is remembered, as far as
+    /// memory goes. Takes no permit.
     pub fn pick(&mut self, key: ConsumerKey, committed: u64) -> Option<u64>
         requires fits { committed ≤ 2 ^ 62 }
         requires known { committed ≤ length self.old.slots }
+        ensures learnt { IsLearnt (learnt self.old key) self.new }
+        ensures exact { G.exact → self.new ≡ self.old }
+        ensures some { IfSome result (Admits self.new key committed) }
+        ensures none { IfNone result ((i : ℕ) → Admits self.new key committed i → ⊥) }
+    {
+        if !self.look(key) {
+            return None;
+        }
+        self.pick_permitted(key, committed)
+    }
+
+    /// Looks whether the consumer is attached and has a permit left. Takes none.
+    pub fn look(&mut self, key: ConsumerKey) -> bool
+        ensures learnt { IsLearnt (learnt self.old key) self.new }
+        ensures exact { G.exact → self.new ≡ self.old }
+        ensures permit { result ≡ has_permit_at key (find (is_on key) self.new.subs) }
+    {
+        self.directory.remember(key);
+        let Some(place) = self.directory.of(key) else {
+            return false;
+        };
+        let sub = &mut self.subs[place];
+        let has_permit = sub.look(key);
+        self.quiet.forget(key.session);
+        has_permit
+    }
+
+    /// The position that a consumer may get, which has a permit left.
+    fn pick_permitted(&mut self, key: ConsumerKey, committed: u64) -> Option<u64>
+        requires fits { committed ≤ 2 ^ 62 }
+        requires known { committed ≤ length self.old.slots }
+        requires permit { has_permit_at key (find (is_on key) self.old.subs) ≡ true }
         ensures same { self.new ≡ self.old }
         ensures some { IfSome result (Admits self.old key committed) }
         ensures none { IfNone result ((i : ℕ) → Admits self.old key committed i → ⊥) }
     {
-        self.directory.remember(key);
         let Some(place) = self.directory.of(key) else {
             return None;
         };
         let sub = &mut self.subs[place];
-        if !sub.has_permit(key) {
-            return None;
-        }
         let hints = &self.hints[place];
         let from = hints.beginning(key);
         let picked = sub.pick(key, self.slots.as_slice(), committed, from);
@@ -336,24 +363,33 @@ impl Subscriptions {
         picked
     }
 
-    /// Whether nothing is for the session's consumers: where one of them has a permit, nothing is open on its subscription. What
-    /// was found is remembered until something may change it, as far as memory goes, so that asking again costs the same however
-    /// many consumers there are.
+    /// Whether nothing is for the session's consumers: where one of them has a permit, nothing is open on its subscription. On
+    /// each subscription on which something is open it is looked what was granted to them, up to the first one that has a permit.
+    /// That nothing was found is remembered until something may change it, as far as that is known.
     pub fn is_quiet(&mut self, who: u64, committed: u64) -> bool
         requires fits { committed ≤ 2 ^ 62 }
-        ensures same { self.new ≡ self.old }
-        ensures quiet { result ≡ true → IsQuiet who committed self.old.subs }
-        ensures busy { result ≡ false → IsQuiet who committed self.old.subs → ⊥ }
-        ensures none { result ≡ true → (id i : ℕ) → Admits self.old (record { session = who; id = id }) committed i → ⊥ }
+        ensures learnt { HasLearnt who self.old self.new }
+        ensures exact { G.exact → self.new ≡ self.old }
+        ensures quiet { result ≡ true → IsQuiet who committed self.new.subs }
+        ensures busy { result ≡ false → IsQuiet who committed self.new.subs → ⊥ }
+        ensures none { result ≡ true → (id i : ℕ) → Admits self.new (record { session = who; id = id }) committed i → ⊥ }
     {
-        if self.quiet.is_noted(who, committed) {
-            return true;
-        }
-        if may_serve(&mut self.subs, who, committed) {
+        let is_served = may_serve(&mut self.subs, who, committed);
+        self.quiet.forget(who);
+        if is_served {
             return false;
         }
         self.quiet.note(who, committed);
         true
+    }
+
+    /// Whether nothing was found for the session's consumers at this committed length, and nothing has changed that since, as far
+    /// as is known: what was granted to them in the meantime isn't looked at. Costs the same however many consumers there are.
+    pub fn was_quiet(&self, who: u64, committed: u64) -> bool
+        ensures quiet { result ≡ true → IsQuiet who committed self.now.subs }
+        ensures none { result ≡ true → (id i : ℕ) → Admits self.now (record { session = who; id = id }) committed i → ⊥ }
+    {
+        self.quiet.is_noted(who, committed)
     }
 
     /// MESSAGE: the consumer holds a position that it may get, and has one permit less. The answer
@@ -366,7 +402,8 @@ impl Subscriptions {
     ) -> Result<u32, AllocError>
         requires fits { committed ≤ 2 ^ 62 }
         requires admitted { Admits self.old key committed position }
-        ensures ok { OnOk result (self.new ≡ sent self.old key position) }
+        ensures ok { OnOk result (IsLearnt (learnt (sent self.old key position) key) self.new) }
+        ensures exact { G.exact → OnOk result (self.new ≡ sent self.old key position) }
         ensures before { IfOk result (λ before. before ≡ sent_before self.old key position) }
         ensures err { OnErr result (self.new ≡ self.old) }
     {
@@ -375,6 +412,7 @@ impl Subscriptions {
         };
         let sub = &mut self.subs[place];
         let before = sub.send(key, position, committed)?;
+        self.quiet.forget(key.session);
         Ok(before)
     }
 
@@ -446,6 +484,23 @@ impl Subscriptions {
     }
 }
 
+impl<G: Grant> Subscriptions<G> {
+    /// FLOW: the consumer has so many permits more, unless it would have more than 2^62 in all. An
+    /// unknown consumer changes nothing.
+    pub fn grant(&mut self, key: ConsumerKey, permits: u64) -> Result<(), TooManyPermits>
+        ensures ok { OnOk result ((grants_too_many self.old key permits ≡ false) × (self.new ≡ granted self.old key permits)) }
+        ensures err { OnErr result ((grants_too_many self.old key permits ≡ true) × (self.new ≡ self.old)) }
+    {
+        let Some(place) = self.directory.of(key) else {
+            return Ok(());
+        };
+        let sub = &mut self.subs[place];
+        sub.grant(key, permits)?;
+        self.quiet.forget(key.session);
+        Ok(())
+    }
+}
+
 /// The position below which all is acknowledged on a new subscription.
 fn start_of(initial: InitialPosition, committed: u64) -> u64
     requires { committed ≤ 2 ^ 62 }
@@ -459,19 +514,22 @@ fn start_of(initial: InitialPosition, committed: u64) -> u64
 }
 
 /// A new subscription with its first consumer.
-fn new_subscription(
+fn new_subscription<G: Gauge>(
     alloc: Global,
     name: &str,
     mode: Mode,
     seat: Consumer,
+    gauge: G,
     start: u64,
-) -> Result<Subscription, AllocError>
+) -> Result<Subscription<G>, AllocError>
     requires fits { start ≤ 2 ^ 62 }
+    requires none_known { G.known gauge ≡ 0 }
+    requires none_taken { G.taken gauge ≡ 0 }
     requires allowed { refuses_ranges mode [] seat.ranges ≡ false }
     ensures { IfOk result (λ s. s ≡ attached_to mode seat (made name.now mode start)) }
 {
     let mut sub = Subscription::new(alloc, Name::new(alloc, name)?, mode, start);
-    sub.attach(alloc, mode, seat)?;
+    sub.attach(alloc, mode, seat, gauge)?;
     Ok(sub)
 }
 
@@ -484,9 +542,9 @@ fn made_change(alloc: Global, name: &str, start: u64) -> Result<Record, AllocErr
 }
 
 /// Room for a subscription more, its change and its hints.
-fn reserve_one(
+fn reserve_one<G: Gauge>(
     changes: &mut Vec<Record>,
-    subs: &mut Vec<Subscription>,
+    subs: &mut Vec<Subscription<G>>,
     hints: &mut Vec<Hints>,
 ) -> Result<(), AllocError>
     ensures same { (changes.new.items ≡ changes.old.items) × (subs.new.items ≡ subs.old.items) × (hints.new.items ≡ hints.old.items) }
@@ -498,7 +556,10 @@ fn reserve_one(
 }
 
 /// Durable subscriptions, without consumers and deliveries.
-fn open_all(alloc: Global, kept: Vec<KeptCursor>) -> Result<Vec<Subscription>, AllocError>
+fn open_all<G: Gauge>(
+    alloc: Global,
+    kept: Vec<KeptCursor>,
+) -> Result<Vec<Subscription<G>>, AllocError>
     ensures { IfOk result (λ subs. subs.items ≡ each opened_one (each (λ (c : KeptCursor). (c.name, c.acked)) kept.items)) }
 {
     let mut subs = Vec::with_capacity(alloc, kept.len())?;
@@ -522,7 +583,7 @@ fn without_hints(alloc: Global, count: usize) -> Result<Vec<Hints>, AllocError>
 }
 
 /// Where the subscription of this name stands.
-fn place_named(subs: &[Subscription], name: &str) -> Option<usize>
+fn place_named<G: Gauge>(subs: &[Subscription<G>], name: &str) -> Option<usize>
     ensures place { result ≡ position (is_named name.now) subs.now }
     ensures within { IfSome result (λ place. place < length subs.now) }
 {
@@ -530,14 +591,14 @@ fn place_named(subs: &[Subscription], name: &str) -> Option<usize>
 }
 
 /// Where the subscription of this consumer stands, by a search of all.
-fn place_of(subs: &[Subscription], key: ConsumerKey) -> Option<usize>
+fn place_of<G: Gauge>(subs: &[Subscription<G>], key: ConsumerKey) -> Option<usize>
     ensures { result ≡ position (is_on key) subs.now }
 {
     subs.iter().position(|s| s.is_on(key))
 }
 
 /// Whether the subscription at this place has more than one consumer.
-fn is_shared(subs: &[Subscription], place: Option<usize>) -> bool
+fn is_shared<G: Gauge>(subs: &[Subscription<G>], place: Option<usize>) -> bool
     requires { IfSome place (λ place. place < length subs.now) }
     ensures { (key : Key) → place ≡ position (is_on key) subs.now → result ≡ is_shared (find (is_on key) subs.now) }
 {
@@ -549,7 +610,7 @@ fn is_shared(subs: &[Subscription], place: Option<usize>) -> bool
 }
 
 /// Whether the mode of the subscription at this place serves many.
-fn is_among_many(subs: &[Subscription], place: Option<usize>) -> bool
+fn is_among_many<G: Gauge>(subs: &[Subscription<G>], place: Option<usize>) -> bool
     requires { IfSome place (λ place. place < length subs.now) }
     ensures { (key : Key) → place ≡ position (is_on key) subs.now → result ≡ is_among_many (find (is_on key) subs.now) }
 {
@@ -560,12 +621,13 @@ fn is_among_many(subs: &[Subscription], place: Option<usize>) -> bool
     sub.shares()
 }
 
-/// Whether something is for the session's consumers on one of the subscriptions.
-fn may_serve(subs: &mut Vec<Subscription>, who: u64, committed: u64) -> bool
+/// Looks whether something is for the session's consumers on one of the subscriptions.
+fn may_serve<G: Gauge>(subs: &mut Vec<Subscription<G>>, who: u64, committed: u64) -> bool
     requires { committed ≤ 2 ^ 62 }
-    ensures same { subs.new.items ≡ subs.old.items }
-    ensures quiet { result ≡ false → IsQuiet who committed subs.old.items }
-    ensures busy { result ≡ true → IsQuiet who committed subs.old.items → ⊥ }
+    ensures learnt { AllZip (HasLearntOn who) subs.old.items subs.new.items }
+    ensures exact { G.exact → subs.new.items ≡ subs.old.items }
+    ensures quiet { result ≡ false → IsQuiet who committed subs.new.items }
+    ensures busy { result ≡ true → IsQuiet who committed subs.new.items → ⊥ }
 {
     for i in 0..subs.len() {
         let sub = &mut subs[i];
@@ -613,7 +675,7 @@ fn push_acknowledgements(
 }
 
 /// The session leaves each subscription.
-fn leave_all(subs: &mut Vec<Subscription>, hints: &mut Vec<Hints>, who: u64)
+fn leave_all<G: Gauge>(subs: &mut Vec<Subscription<G>>, hints: &mut Vec<Hints>, who: u64)
     requires { length hints.old.items ≡ length subs.old.items }
     ensures left { subs.new.items ≡ each (λ s. left_on who s) subs.old.items }
     ensures hints { (slots : List ℕ) → AreHintsOf slots subs.old.items hints.old.items → AreHintsOf slots subs.new.items hints.new.items }
@@ -626,7 +688,7 @@ fn leave_all(subs: &mut Vec<Subscription>, hints: &mut Vec<Hints>, who: u64)
 }
 
 /// The session leaves a subscription. Where no consumer of it is attached, the hints stay.
-fn leave_one(sub: &mut Subscription, hints: &mut Hints, who: u64)
+fn leave_one<G: Gauge>(sub: &mut Subscription<G>, hints: &mut Hints, who: u64)
     ensures left { sub.new ≡ left_on who sub.old }
     ensures hints { (slots : List ℕ) → AreHintsOn slots sub.old hints.old → AreHintsOn slots sub.new hints.new }
 {

@@ -3,12 +3,13 @@ use crate::reading;
 use crate::topic::{Topic, add_entries};
 use anyhow::{Error, bail};
 use holds::ConsumerKey;
+use permits::Gauge;
 use std::alloc::AllocError;
 use subscriptions::{Refusal, Subscriptions};
 
 /// The position that a consumer may get of so many committed ones.
-fn pick(
-    subs: &mut Subscriptions,
+pub(crate) fn pick<G: Gauge>(
+    subs: &mut Subscriptions<G>,
     key: ConsumerKey,
     committed: u32,
 ) -> Result<Option<u64>, AllocError> {
@@ -17,8 +18,8 @@ fn pick(
 }
 
 /// What a consumer gets of so many committed positions: one of them, and how often it was sent before.
-fn send(
-    subs: &mut Subscriptions,
+pub(crate) fn send<G: Gauge>(
+    subs: &mut Subscriptions<G>,
     key: ConsumerKey,
     committed: u32,
 ) -> Result<Option<(u64, u32)>, AllocError> {
@@ -31,8 +32,8 @@ fn send(
 }
 
 /// Acknowledges one position where there is room, and answers whether there was.
-fn acknowledge(
-    subs: &mut Subscriptions,
+fn acknowledge<G: Gauge>(
+    subs: &mut Subscriptions<G>,
     key: ConsumerKey,
     position: u32,
 ) -> Result<bool, AllocError> {
@@ -44,8 +45,8 @@ fn acknowledge(
 }
 
 /// Acknowledges all positions up to one where there is room, and answers whether there was.
-fn acknowledge_through(
-    subs: &mut Subscriptions,
+fn acknowledge_through<G: Gauge>(
+    subs: &mut Subscriptions<G>,
     key: ConsumerKey,
     position: u32,
 ) -> Result<bool, AllocError> {
@@ -57,7 +58,10 @@ fn acknowledge_through(
 }
 
 /// Removes the consumer's subscription where nothing is against it.
-fn unsubscribe(subs: &mut Subscriptions, key: ConsumerKey) -> Result<Option<Refusal>, AllocError> {
+fn unsubscribe<G: Gauge>(
+    subs: &mut Subscriptions<G>,
+    key: ConsumerKey,
+) -> Result<Option<Refusal>, AllocError> {
     let refusal = subs.unsubscribe_refusal(key);
     if refusal.is_some() {
         return Ok(refusal);

@@ -6,6 +6,8 @@
 mod consumers;
 mod cursors;
 mod reading;
+#[cfg(test)]
+mod tests;
 mod told;
 mod topic;
 

@@ -1,5 +1,6 @@
 // What a topic tells of its changes and of its subscriptions.
 use anyhow::Error;
+use permits::Gauge;
 use records::Record;
 use std::alloc::{AllocError, Global};
 use subscriptions::{SubscriptionStatus, Subscriptions};
@@ -21,7 +22,7 @@ fn change(alloc: Global, change: &Record) -> Result<String, AllocError> {
 }
 
 /// Each change, the earliest first.
-pub(crate) fn changes(alloc: Global, subs: &Subscriptions) -> Result<String, Error> {
+pub(crate) fn changes<G: Gauge>(alloc: Global, subs: &Subscriptions<G>) -> Result<String, Error> {
     let mut said = String::new(alloc);
     for record in subs.changes() {
         said.push_str(change(alloc, record)?.as_str())?;
@@ -35,7 +36,7 @@ fn status(alloc: Global, status: &SubscriptionStatus) -> Result<String, AllocErr
 }
 
 /// The status of each subscription.
-pub(crate) fn statuses(alloc: Global, subs: &Subscriptions) -> Result<String, Error> {
+pub(crate) fn statuses<G: Gauge>(alloc: Global, subs: &Subscriptions<G>) -> Result<String, Error> {
     let mut said = String::new(alloc);
     for one in &subs.statuses()? {
         said.push_str(status(alloc, one)?.as_str())?;

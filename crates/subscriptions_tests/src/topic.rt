@@ -4,6 +4,7 @@ ghost use Rattle.std.specs.Prelude.{◌≤◌, OnOk, length};
 use crate::{consumers, reading, told};
 use anyhow::{Error, bail};
 use holds::{Consumer as Seat, SlotRanges};
+use permits::{BothEnds, Fresh, Gauge};
 use std::alloc::{AllocError, Global};
 use subscriptions::{InitialPosition, Mode, Refusal, Subscriptions};
 
@@ -11,7 +12,7 @@ use subscriptions::{InitialPosition, Mode, Refusal, Subscriptions};
 #[derive(Drop)]
 pub(crate) struct Topic {
     pub(crate) alloc: Global,
-    pub(crate) subs: Subscriptions,
+    pub(crate) subs: Subscriptions<BothEnds>,
     pub(crate) committed: u32,
 }
 
@@ -26,7 +27,10 @@ impl Topic {
 }
 
 /// Adds so many entries of slot 0, so that each committed one has a slot. What stands behind them nobody gets.
-pub(crate) fn add_entries(subs: &mut Subscriptions, count: u32) -> Result<(), AllocError>
+pub(crate) fn add_entries<G: Gauge>(
+    subs: &mut Subscriptions<G>,
+    count: u32,
+) -> Result<(), AllocError>
     ensures { OnOk result (count ≤ length subs.new.slots) }
 {
     for i in 0..count {
@@ -35,20 +39,23 @@ pub(crate) fn add_entries(subs: &mut Subscriptions, count: u32) -> Result<(), Al
     Ok(())
 }
 
-/// Attaches a consumer where nothing is against it.
+/// Attaches a consumer without permits where nothing is against it.
 fn attach(
-    subs: &mut Subscriptions,
+    topic: &mut Topic,
     name: &str,
     mode: Mode,
     seat: Seat,
     initial: InitialPosition,
-    committed: u32,
 ) -> Result<Option<Refusal>, AllocError> {
-    let refusal = subs.refusal(name, mode, seat.ranges.as_slice());
+    let refusal = topic.subs.refusal(name, mode, seat.ranges.as_slice());
     if refusal.is_some() {
         return Ok(refusal);
     }
-    subs.attach(name, mode, seat, initial, u64::from(committed))?;
+    let gauge = BothEnds::fresh(topic.alloc, &mut None)?;
+    let committed = u64::from(topic.committed);
+    topic
+        .subs
+        .attach(name, mode, seat, gauge, initial, committed)?;
     Ok(None)
 }
 
@@ -68,7 +75,7 @@ fn subscribe(topic: &mut Topic, asked: &[&str]) -> Result<String, Error> {
         return Ok(String::from_str(topic.alloc, "attached")?);
     }
     let (mode, initial) = (reading::mode(mode)?, reading::initial(initial)?);
-    let refusal = attach(&mut topic.subs, name, mode, seat, initial, topic.committed)?;
+    let refusal = attach(topic, name, mode, seat, initial)?;
     Ok(format!(in topic.alloc; "{refusal:?}")?)
 }
 
@@ -83,14 +90,14 @@ fn refusal(topic: &Topic, asked: &[&str]) -> Result<String, Error> {
 }
 
 /// The entries that follow have these slots.
-fn add_slots(subs: &mut Subscriptions, slots: &[&str]) -> Result<(), Error> {
+fn add_slots<G: Gauge>(subs: &mut Subscriptions<G>, slots: &[&str]) -> Result<(), Error> {
     for slot in slots {
         subs.add_slot(slot.parse()?)?;
     }
     Ok(())
 }
 
-fn settle(subs: &mut Subscriptions, count: usize) -> Result<(), Error> {
+fn settle<G: Gauge>(subs: &mut Subscriptions<G>, count: usize) -> Result<(), Error> {
     if count > subs.changes().len() {
         bail!("fewer changes wait than {count}");
     }

@@ -1,5 +1,5 @@
 -- How the counts of producers follow their list.
-use Rattle.std.proofs.Common.{◌≡◌, ℕ, ◌+◌, ◌-◌, ◌<◌, ◌≤◌, ◌^◌, Bool, true, false, cond, not, ◌&&◌, ◌||◌, nat_eq, Option, Some, None, List, [], ◌∷◌, ◌++◌, length, take, get_or, map, filter, String, BTreeMap, refl, ap, sym, subst, ◌∙◌, arith, unwrap_or}
+use Rattle.std.proofs.Common.{◌≡◌, ℕ, ◌+◌, ◌-◌, ◌<◌, ◌^◌, Bool, true, false, cond, not, ◌&&◌, ◌||◌, nat_eq, Option, List, [], ◌∷◌, ◌++◌, length, take, get_or, map, filter, String, BTreeMap, refl, ap, sym, subst, ◌∙◌, arith, unwrap_or}
 use Rattle.std.specs.Ordering.{nat_cmp, ordering_then, is_eq}
 use Rattle.std.specs.Cmp.{both_tied, unsigned_ties, nat_eq_equiv}
 use Rattle.std.specs.Cmp.Lexicographic.{bytes_decides}

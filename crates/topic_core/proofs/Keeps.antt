@@ -30,7 +30,7 @@ use Rattle.subscriptions.specs.State.{Subscriptions}
 use Rattle.subscriptions.specs.Soundness.{IsCommitted, IsSound as AreSound}
 use Rattle.records.specs.declared.record.Record.{Record}
 use Rattle.subscriptions.specs.Laws.{AreDurable}
-use Rattle.subscriptions.specs.declared.consumer.TooManyPermits.{TooManyPermits}
+use Rattle.permits.specs.declared.plain.TooManyPermits.{TooManyPermits}
 use Rattle.subscriptions.proofs.Limits.{each_sound, each_committed, picked}
 use Rattle.subscriptions.proofs.Durable.{are_kept}
 use Rattle.topic_core.specs.declared.dispatch.Outgoing.{Outgoing}
@@ -38,7 +38,7 @@ use Rattle.reply_queues.specs.Replies.{SessionReplies, is_for, due_to, pending_t
 use Rattle.topic_core.specs.Slots.{slot_of_entry}
 use Rattle.topic_core.specs.State.{Topic, opened, entries_of, changes_of, entries_in_doubt, changes_in_doubt}
 use Rattle.topic_core.specs.Soundness.{IsSound, AreReceipts, IsSoundTopic}
-use Rattle.topic_core.specs.Steps.{TopicStep, Outcome, Collects, GrantStep, outcome_of, refused_or, first_standing, producer_refusals, send_refusals, bytes_of, subscribe_refusal, close_refusals, unsubscribe_refusal, ack_refusals, ack_accepted, detach_refusals, asked_back, key_of, seat_of, start_of, granted, grants_too_many, left}
+use Rattle.topic_core.specs.Steps.{TopicStep, Outcome, Collects, GrantStep, outcome_of, refused_or, first_standing, producer_refusals, send_refusals, bytes_of, subscribe_refusal, close_refusals, unsubscribe_refusal, ack_refusals, ack_accepted, detach_refusals, asked_back, has_consumer, key_of, seat_of, start_of, granted, grants_too_many, learnt, HasLearnt, left}
 use Rattle.topic_core.specs.Dispatch.{Admits, DispatchStep, sent}
 use Rattle.topic_core.specs.Flush.{has_no_flush, is_idle, handed_on, finished, taken_back, failed, TakeStep, FinishStep, FlushStep, FlushIn, FlushEnds}
 use Rattle.topic_core.specs.Crashes.{IsLeft, TopicCrash, ReopenStep, ReopenEnds, ReopenIn, reopened, longer, changed}
@@ -205,6 +205,24 @@ stays-sound old new stays sound = record {
 
 pub command-sound : (old : Topic) (who : ℕ) (c : TopicCommand) (answer : Answer) (new : Topic) → TopicStep old who c answer new → IsSoundTopic old → IsSoundTopic new
 command-sound old who c answer new step sound = stays-sound old new (step-keeps old who c answer new step sound.state sound.receipts) sound
+
+-- what is learnt of a consumer's permits
+pub known-keeps : (t : Topic) (key : ConsumerKey) (known : ℕ) → (subscriptions.has_consumer t.subs key ≡ true → known ≤ 2 ^ 62) → Keeps t (record t { subs = subscriptions.learnt t.subs key known })
+known-keeps t key known bound =
+    with-subs t _ (λ s. each_sound.learn t.subs key known bound s) (λ s. each_committed.learn t.committed t.subs key known s) (λ kept is. are_kept.learn t.committed kept t.subs key known is)
+    refl refl
+
+pub learn-sound : (t : Topic) (who id known : ℕ) → (has_consumer t who id ≡ true → known ≤ 2 ^ 62) → IsSoundTopic t → IsSoundTopic (learnt t who id known)
+learn-sound t who id known bound sound = stays-sound t (learnt t who id known) (known-keeps t (key_of who id) known bound sound.state sound.receipts) sound
+
+pub look-keeps : (t : Topic) (who : ℕ) (new : Topic) → HasLearnt who t new → Keeps t new
+look-keeps t who new h =
+    to t new (record t { subs = new.subs }) h.same
+    (with-subs t new.subs (λ s. each_sound.look t.subs new.subs who h.subs s) (λ s. each_committed.look t.committed t.subs new.subs who h.subs s)
+    (λ kept is. are_kept.look t.committed kept t.subs new.subs who h.subs is) (ap (λ (s : Subscriptions). s.changes) h.subs.same) (ap (λ (s : Subscriptions). s.slots) h.subs.same))
+
+pub look-sound : (t : Topic) (who : ℕ) (new : Topic) → HasLearnt who t new → IsSoundTopic t → IsSoundTopic new
+look-sound t who new h sound = stays-sound t new (look-keeps t who new h sound.state sound.receipts) sound
 
 -- a FLOW
 permitted-keeps : (t : Topic) (permits : ℕ) (key : ConsumerKey) → subscriptions.grants_too_many t.subs key permits ≡ false → Keeps t (record t { subs = subscriptions.granted t.subs key permits })

@@ -19,3 +19,4 @@ pub mod Keeps
 pub mod Ranges
 pub mod Reading
 pub mod HandingOut
+pub mod Learning

@@ -17,16 +17,19 @@ use Rattle.records.specs.Maps.{Kept}
 use Rattle.records.specs.Records.{AreFormed, after_all}
 use Rattle.holds.specs.declared.consumer.ConsumerKey.{ConsumerKey}
 use Rattle.subscriptions.specs.Laws.{IsKept}
-use Rattle.subscriptions.proofs.Durable.{formed_take, formed_longer}
+use Rattle.subscriptions.proofs.Durable.{are_kept, formed_take, formed_longer}
 use Rattle.topic_core.specs.Slots.{slot_of_entry}
 use Rattle.topic_core.specs.State.{Topic, entries_of, changes_of, entries_in_doubt, changes_in_doubt}
-use Rattle.topic_core.specs.Soundness.{IsSound, AreReceipts}
+use Rattle.topic_core.specs.Soundness.{IsSound}
 use Rattle.topic_core.specs.Flush.{has_no_flush, handed_on, finished, taken_back, failed, flushed, FinishStep, FlushStep, FlushIn}
 use Rattle.topic_core.specs.Crashes.{IsLeft, reopened, longer, changed}
 use Rattle.topic_core.specs.Laws.{FlushesKeep, TopicsGoOn}
-use Rattle.topic_core.specs.Steps.{left}
-use Rattle.topic_core.specs.Dispatch.{Admits, sent}
-use Rattle.topic_core.proofs.Keeps.{Stays, moved, kept-finished, step-keeps, grant-keeps, sent-keeps, dispatch-keeps, collect-keeps, leave-keeps}
+use Rattle.subscriptions.specs.State.{Subscriptions}
+use Rattle.subscriptions.specs.Steps as subscriptions
+use Rattle.subscriptions.specs.Steps.{IsLearnt}
+use Rattle.topic_core.specs.Steps.{key_of, learnt, HasLearnt, left}
+use Rattle.topic_core.specs.Dispatch.{sent}
+use Rattle.topic_core.proofs.Keeps.{Stays, moved, kept-finished, step-keeps, grant-keeps, look-keeps, dispatch-keeps, collect-keeps, leave-keeps}
 use Rattle.topic_core.specs.Standing.{Phase, Before, Written, Lost, phase_after, phase_then, resting, IsFor, Match, Holds, Standing, GoesOn}
 use Rattle.topic_core.proofs.Flushing.{ends, begun, finished-handed_on, taken_back-handed_on, and_first, and_second}
 
@@ -303,13 +306,67 @@ goes_on old new stays = record {
   slots = stays.slots;
 }
 
-pub sent-goes_on : (t : Topic) (key : ConsumerKey) (i : ℕ) → Admits t key i → IsSound t → AreReceipts t → GoesOn t (sent t key i)
-sent-goes_on t key i admits sound are = goes_on t (sent t key i) (sent-keeps t key i admits sound are)
+-- so far as GoesOn says nothing of permits, no bound is asked for
+pub known-goes_on : (t : Topic) (who id known : ℕ) → GoesOn t (learnt t who id known)
+known-goes_on t who id known = record {
+  committed = refl;
+  ledger = refl;
+  durable = refl;
+  failed = refl;
+  doubt = refl;
+  entries = refl;
+  changes = refl;
+  per_ledger = refl;
+  kept = λ kept is. are_kept.learn t.committed kept t.subs (key_of who id) known is;
+  slots = λ ledger is. is;
+}
+
+pub is_learnt-goes_on : (t new : Topic) (who id : ℕ) → IsLearnt (learnt t who id) new → GoesOn t new
+is_learnt-goes_on t new who id l = subst (λ (x : Topic). GoesOn t x) (sym l.same) (known-goes_on t who id l.granted)
+
+given_goes_on : (t : Topic) (key : ConsumerKey) (i n : ℕ) → GoesOn t (learnt (sent t key i) key.session key.id n)
+given_goes_on t key i n = record {
+  committed = refl;
+  ledger = refl;
+  durable = refl;
+  failed = refl;
+  doubt = refl;
+  entries = refl;
+  changes = refl;
+  per_ledger = refl;
+  kept = λ kept is. are_kept.learn t.committed kept (subscriptions.sent t.subs key i) key n (are_kept.send t.committed kept t.subs key i is);
+  slots = λ ledger is. is;
+}
+
+pub given-goes_on : (t : Topic) (key : ConsumerKey) (i : ℕ) (subs : Subscriptions) → IsLearnt (subscriptions.learnt (subscriptions.sent t.subs key i) key) subs → GoesOn t (record t { subs = subs })
+given-goes_on t key i subs l = subst (λ (s : Subscriptions). GoesOn t (record t { subs = s })) (sym l.same) (given_goes_on t key i l.granted)
+
+pub same_goes_on : (t : Topic) → GoesOn t t
+same_goes_on t = record { committed = refl; ledger = refl; durable = refl; failed = refl; doubt = refl; entries = refl; changes = refl; per_ledger = refl; kept = λ kept is. is; slots = λ ledger is. is }
+
+looked_goes_on : (t : Topic) (who : ℕ) (subs : Subscriptions) → subscriptions.HasLearnt who t.subs subs → GoesOn t (record t { subs = subs })
+looked_goes_on t who subs h = record {
+  committed = refl;
+  ledger = refl;
+  durable = refl;
+  failed = refl;
+  doubt = refl;
+  entries = refl;
+  changes = ap (λ (s : Subscriptions). take (changes_of t.doubt) s.changes) h.same;
+  per_ledger = refl;
+  kept = λ kept is. are_kept.look t.committed kept t.subs subs who h is;
+  slots = λ ledger is. ap (λ (s : Subscriptions). s.slots) h.same ∙ is;
+}
+
+pub looked-goes_on : (t new : Topic) (who : ℕ) → HasLearnt who t new → GoesOn t new
+looked-goes_on t new who h = subst (λ (x : Topic). GoesOn t x) (sym h.same) (looked_goes_on t who new.subs h.subs)
 
 pub topics-go_on : TopicsGoOn
 topics-go_on = record {
   command = λ old who c answer new step sound are. goes_on old new (step-keeps old who c answer new step sound are);
   grant = λ old who id permits result new step sound are. goes_on old new (grant-keeps old who id permits result new step sound are);
+  learn = λ old who id known sound are. known-goes_on old who id known;
+  look = λ old who new h sound are. goes_on old new (look-keeps old who new h sound are);
   dispatch = λ old who id result new step sound are. goes_on old new (dispatch-keeps old who id result new step sound are);
   collect = λ old who reply new step sound are. goes_on old new (collect-keeps old who reply new step sound are);
   leave = λ old who sound are. goes_on old (left old who) (leave-keeps old who sound are);

@@ -8,7 +8,7 @@ abbrev pub doubt_of : Option Counts → Option Doubt
 doubt_of None = None
 doubt_of (Some doubt) = Some (record { entries = doubt.entries; changes = doubt.changes })
 
-abbrev pub core_of : Inside → Topic
+abbrev pub core_of : {G Told : Type 0} → Inside G Told → Topic
 core_of t = record {
   per_ledger = t.per_ledger;
   committed = t.committed;

@@ -9,7 +9,7 @@ use Rattle.subscriptions.specs.declared.consumer.Mode.TheVariants.{KeyShared}
 use Rattle.subscriptions.specs.Steps.{is_on, sent_before}
 use Rattle.subscriptions.specs.Laws.{IsOpenFor}
 use Rattle.records.specs.Records.{after_all}
-use Rattle.subscriptions.specs.declared.consumer.TooManyPermits.{TooManyPermits}
+use Rattle.permits.specs.declared.plain.TooManyPermits.{TooManyPermits}
 use Rattle.commands.specs.declared.reply.Reply.{Reply}
 use Rattle.commands.specs.declared.reply.Reply.TheVariants.{Message}
 use Rattle.gated_log.specs.declared.refusal.Refusal.{Refusal}
@@ -26,7 +26,7 @@ use Rattle.topic_core.specs.Slots.{slot_of_entry}
 use Rattle.topic_core.specs.State.{Topic, receipts_due}
 use Rattle.records.specs.Maps.{Kept}
 use Rattle.topic_core.specs.Soundness.{IsSound, AreReceipts, IsSoundTopic}
-use Rattle.topic_core.specs.Steps.{TopicStep, Collects, GrantStep, Fits, bytes_of, key_of, is_open, is_committed, position_at, left}
+use Rattle.topic_core.specs.Steps.{TopicStep, Collects, GrantStep, Fits, bytes_of, has_consumer, key_of, learnt, HasLearnt, is_open, is_committed, position_at, left}
 use Rattle.topic_core.specs.Dispatch.{DispatchStep, Admits}
 use Rattle.topic_core.specs.Flush.{FlushStep, TakeStep, FinishStep, handed_on}
 use Rattle.topic_core.specs.Crashes.{IsLeft, TopicCrash, ReopenStep}
@@ -75,6 +75,8 @@ pub record StaysSound : Type 0 where
   pub reopen : (old : Topic) (result : Result (Unit {0}) Refusal) (new : Topic) → ReopenStep old result new → IsSoundTopic old → IsSoundTopic new
   pub crash : (old new : Topic) → TopicCrash old new → IsSoundTopic old → IsSoundTopic new
   pub grant : (old : Topic) (who id permits : ℕ) (result : Result (Unit {0}) TooManyPermits) (new : Topic) → GrantStep old who id permits result new → IsSoundTopic old → IsSoundTopic new
+  pub learn : (old : Topic) (who id known : ℕ) → (has_consumer old who id ≡ true → known ≤ 2 ^ 62) → IsSoundTopic old → IsSoundTopic (learnt old who id known)
+  pub look : (old : Topic) (who : ℕ) (new : Topic) → HasLearnt who old new → IsSoundTopic old → IsSoundTopic new
   pub dispatch : (old : Topic) (who id : ℕ) (result : Result (Option Outgoing) ReadError) (new : Topic) → DispatchStep old who id result new → IsSoundTopic old → IsSoundTopic new
   pub collect : (old : Topic) (who : ℕ) (reply : Option Reply) (new : Topic) → Collects old who reply new → IsSoundTopic old → IsSoundTopic new
   pub leave : (old : Topic) (who : ℕ) → IsSoundTopic old → IsSoundTopic (left old who)
@@ -127,6 +129,8 @@ FlushesKeep = (old : Topic) (result : Result ℕ WriteError) (new : Topic) → F
 pub record TopicsGoOn : Type 0 where
   pub command : (old : Topic) (who : ℕ) (c : TopicCommand) (answer : Answer) (new : Topic) → TopicStep old who c answer new → IsSound old → AreReceipts old → GoesOn old new
   pub grant : (old : Topic) (who id permits : ℕ) (result : Result (Unit {0}) TooManyPermits) (new : Topic) → GrantStep old who id permits result new → IsSound old → AreReceipts old → GoesOn old new
+  pub learn : (old : Topic) (who id known : ℕ) → IsSound old → AreReceipts old → GoesOn old (learnt old who id known)
+  pub look : (old : Topic) (who : ℕ) (new : Topic) → HasLearnt who old new → IsSound old → AreReceipts old → GoesOn old new
   pub dispatch : (old : Topic) (who id : ℕ) (result : Result (Option Outgoing) ReadError) (new : Topic) → DispatchStep old who id result new → IsSound old → AreReceipts old → GoesOn old new
   pub collect : (old : Topic) (who : ℕ) (reply : Option Reply) (new : Topic) → Collects old who reply new → IsSound old → AreReceipts old → GoesOn old new
   pub leave : (old : Topic) (who : ℕ) → IsSound old → AreReceipts old → GoesOn old (left old who)

@@ -3,9 +3,9 @@ ghost use Rattle.disk.specs.Disk.{Same, Leaves, Kept, Failed};
 ghost use Rattle.gated_log.specs.declared.read_error.ReadError.TheVariants.{Device, NoMemory};
 ghost use Rattle.commands.specs.declared.reply.Reply.TheVariants.{Message};
 ghost use Rattle.ids.specs.Ids.{message_id_at};
-ghost use Rattle.subscriptions.specs.Steps.{sent_before};
-ghost use Rattle.topic_core.specs.State.{CountsStay};
-ghost use Rattle.topic_core.specs.Steps.{key_of};
+ghost use Rattle.subscriptions.specs.Steps.{IsLearnt, sent_before};
+ghost use Rattle.topic_core.specs.State.{Topic, CountsStay};
+ghost use Rattle.topic_core.specs.Steps.{key_of, learnt, HasLearnt};
 ghost use Rattle.topic_core.specs.declared.dispatch.AtHand.TheVariants.{Nothing};
 ghost use Rattle.topic_core.specs.Dispatch.{Admits, sent, DispatchStep, AtHandStep, IsMessageTo, IsAtHandFor};
 ghost use Rattle.topic_core.specs.Standing.{GoesOn, Phase, Standing};
@@ -16,6 +16,7 @@ use commands::Reply;
 use disk::Shelf;
 use holds::ConsumerKey;
 use ids::to_id;
+use permits::Gauge;
 use std::alloc::AllocError;
 use topic_stores::{ReadError, TopicStore};
 
@@ -37,22 +38,30 @@ pub enum AtHand {
     Message(Outgoing),
 }
 
-impl TopicCore {
-    /// Whether there is no message for any consumer of a session. Changes nothing.
+impl<G: Gauge> TopicCore<G> {
+    /// Whether there is no message for any consumer of a session, as far as is known of their permits. Changes nothing but that.
     pub fn is_quiet(&mut self, who: u64) -> bool
-        ensures same { self.new ≡ self.old }
-        ensures none { result ≡ true → (id i : ℕ) → Admits self.old (key_of who id) i → ⊥ }
+        ensures learnt { HasLearnt who self.old self.new }
+        ensures exact { G.exact → self.new ≡ self.old }
+        ensures none { result ≡ true → (id i : ℕ) → Admits self.new (key_of who id) i → ⊥ }
         ensures goes_on { GoesOn self.old self.new }
+        ensures counts { CountsStay self.old self.new }
     {
-        self.failed || self.subs.is_quiet(who, self.committed)
+        if self.failed || self.subs.was_quiet(who, self.committed) {
+            return true;
+        }
+        self.subs.is_quiet(who, self.committed)
     }
 
     /// The position whose entry is a consumer's next message: one exactly where it may get one, which a dispatch then gives it.
-    /// Changes nothing.
+    /// Changes nothing but what is known of the consumer's permits.
     fn pick(&mut self, who: u64, consumer_id: u64) -> Option<u64>
-        ensures same { self.new ≡ self.old }
-        ensures some { IfSome result (Admits self.old (key_of who consumer_id)) }
-        ensures none { IfNone result ((i : ℕ) → Admits self.old (key_of who consumer_id) i → ⊥) }
+        ensures learnt { IsLearnt (learnt self.old who consumer_id) self.new }
+        ensures exact { G.exact → self.new ≡ self.old }
+        ensures some { IfSome result (Admits self.new (key_of who consumer_id)) }
+        ensures none { IfNone result ((i : ℕ) → Admits self.new (key_of who consumer_id) i → ⊥) }
+        ensures goes_on { GoesOn self.old self.new }
+        ensures counts { CountsStay self.old self.new }
     {
         if self.is_failed() {
             return None;
@@ -61,7 +70,7 @@ impl TopicCore {
     }
 
     /// A message for a consumer, which holds it from then on: one exactly where it may get one, with one read of the device.
-    /// A refusal changes nothing. While a flush is under way what is committed is read.
+    /// A refusal changes nothing but what is known of the consumer's permits. While a flush is under way what is committed is read.
     pub fn dispatch<T: TopicStore, S: Shelf>(
         &mut self,
         stores: &T,
@@ -70,14 +79,15 @@ impl TopicCore {
         consumer_id: u64,
     ) -> Result<Option<Outgoing>, ReadError>
         ensures step { (phase : Phase) → Standing T.stands phase self.old (T.view stores.now) (S.disk shelf.old) →
-            DispatchStep self.old who consumer_id result self.new }
+            (t : Topic) × IsLearnt (learnt self.old who consumer_id) t × (G.exact → t ≡ self.old) × DispatchStep t who consumer_id result self.new }
 
         // Whatever the device does.
         ensures message { IfOk result (λ sent. IfSome sent (λ outgoing. IsMessageTo consumer_id outgoing)) }
         ensures goes_on { GoesOn self.old self.new }
         ensures counts { CountsStay self.old self.new }
 
-        ensures refused { IsErr result → self.new ≡ self.old }
+        ensures refused { IsErr result → IsLearnt (learnt self.old who consumer_id) self.new }
+        ensures exact { G.exact → IsErr result → self.new ≡ self.old }
         // A topic that has failed has no message, and refuses none.
         ensures works { IsErr result → self.old.failed ≡ false }
         ensures cause { (T.view stores.now).failed ≡ false → IsErrOf result Device → Failed (S.disk shelf.old) (S.disk shelf.new) }
@@ -85,29 +95,28 @@ impl TopicCore {
         ensures any_moment { (S.disk shelf.old).honest → Leaves (S.disk shelf.old).may_leave (S.disk shelf.old) (S.disk shelf.new) }
         ensures kept { Kept (S.disk shelf.old) (S.disk shelf.new) }
     {
-        if self.failed {
-            return Ok(None);
-        }
-        let key = key_of(who, consumer_id);
-        let Some(position) = self.subs.pick(key, self.committed) else {
+        let Some(position) = self.pick(who, consumer_id) else {
             return Ok(None);
         };
         let bytes = self.read_committed(stores, shelf, position)?;
         let entry = Bytes::from_vec(bytes)?;
-        let outgoing = self.give(key, position, entry)?;
+        let outgoing = self.give(key_of(who, consumer_id), position, entry)?;
         Ok(Some(outgoing))
     }
 
-    /// A message for a consumer, which holds it from then on, where its entry stands in memory. A refusal changes nothing.
+    /// A message for a consumer, which holds it from then on, where its entry stands in memory. A refusal changes nothing but what
+    /// is known of the consumer's permits.
     pub fn dispatch_at_hand(&mut self, who: u64, consumer_id: u64) -> Result<AtHand, AllocError>
-        ensures step { length self.old.ledger ≡ self.old.committed → AtHandStep self.old (key_of who consumer_id) result self.new }
+        ensures step { length self.old.ledger ≡ self.old.committed →
+            (t : Topic) × IsLearnt (learnt self.old who consumer_id) t × (G.exact → t ≡ self.old) × AtHandStep t (key_of who consumer_id) result self.new }
 
         // Whatever the ledger is.
         ensures message { IfOk result (λ at_hand. IsAtHandFor consumer_id at_hand) }
-        ensures nothing { result ≡ Ok Nothing → (i : ℕ) → Admits self.old (key_of who consumer_id) i → ⊥ }
+        ensures nothing { result ≡ Ok Nothing → (i : ℕ) → Admits self.new (key_of who consumer_id) i → ⊥ }
         ensures goes_on { GoesOn self.old self.new }
         ensures counts { CountsStay self.old self.new }
-        ensures refused { IsErr result → self.new ≡ self.old }
+        ensures refused { IsErr result → IsLearnt (learnt self.old who consumer_id) self.new }
+        ensures exact { G.exact → IsErr result → self.new ≡ self.old }
         ensures works { IsErr result → self.old.failed ≡ false }
     {
         let Some(position) = self.pick(who, consumer_id) else {
@@ -130,7 +139,7 @@ impl TopicCore {
         requires admitted { Admits self.old key position }
         ensures reply { IfOk result (λ outgoing. outgoing.reply ≡ Message key.id (message_id_at self.old.per_ledger position) (sent_before self.old.subs key position)) }
         ensures entry { IfOk result (λ outgoing. outgoing.entry ≡ entry) }
-        ensures ok { OnOk result (self.new ≡ sent self.old key position) }
+        ensures ok { OnOk result ((t : Topic) × IsLearnt (learnt self.old key.session key.id) t × (G.exact → t ≡ self.old) × (self.new ≡ sent t key position)) }
         ensures err { OnErr result (self.new ≡ self.old) }
         ensures goes_on { GoesOn self.old self.new }
     {

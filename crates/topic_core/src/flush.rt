@@ -13,10 +13,11 @@ use crate::durable::Durable;
 use crate::topic::{Doubt, TopicCore};
 use bytes::Bytes;
 use disk::Shelf;
+use permits::Gauge;
 use std::alloc::AllocError;
 use topic_stores::{Batch, TopicStore, WriteError};
 
-impl TopicCore {
+impl<G: Gauge> TopicCore<G> {
     /// Commits what waits, the entries before the changes of the subscriptions, and answers how many entries these were; 0
     /// where nothing waits or a flush is under way. Want of memory changes nothing and reaches no device. A failure of the
     /// device fails the topic.
@@ -172,7 +173,8 @@ impl TopicCore {
         let count = self.entries_handed_on();
         let changes = self.changes_handed_on();
         let bytes = bytes_in(&self.waiting[..count]);
-        let durable = self.durable_after();
+        let made = &self.subs.changes()[..changes];
+        let durable = self.durable.after(&self.waiting[..count], made);
         move_first(&mut self.waiting, &mut entries);
         self.durable.commit(durable, entries, bytes);
         self.waiting_bytes -= bytes;
@@ -182,13 +184,6 @@ impl TopicCore {
         self.producers.drop_closed();
         self.doubt = None;
         count
-    }
-
-    /// What is durable once what was handed on is.
-    fn durable_after(&self) -> Durable
-        ensures { (result.ledger ≡ self.now.ledger ++ entries_in_doubt self.now) × (result.kept ≡ after_all (changes_in_doubt self.now) self.now.kept) }
-    {
-        Durable {}
     }
 
     /// What was handed on waits again.

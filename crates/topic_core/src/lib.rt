@@ -35,7 +35,7 @@ pub use laws::{
     flushes_commit, flushes_keep, ids_are_positions, messages_are_admitted,
     messages_go_to_their_ranges, receipts_are_covered, stays_sound, topics_go_on,
 };
+pub use permits::TooManyPermits;
 pub use producer::{Producer, ProducerState};
-pub use subscriptions::TooManyPermits;
 pub use topic::TopicCore;
 pub use topic_stores::{Batch, FileStores, ReadError, TopicStore, TopicStores, WriteError};

@@ -12,12 +12,13 @@ use crate::producers::Producers;
 use crate::recent::Recent;
 use crate::topic::TopicCore;
 use disk::{DeviceError, Shelf};
+use permits::Gauge;
 use reply_queues::ReplyQueues;
 use std::alloc::Global;
 use subscriptions::Subscriptions;
 use topic_stores::TopicStore;
 
-impl TopicCore {
+impl<G: Gauge> TopicCore<G> {
     /// Makes the store of a topic, whatever was in its first segment and its slots, and a topic over it that nothing happened to,
     /// where a ledger id has so many entry ids. Takes no memory. Until the `Ok` a crash may leave anything of these files.
     pub fn create<T: TopicStore, S: Shelf>(
@@ -25,7 +26,7 @@ impl TopicCore {
         shelf: &mut S,
         topic: u16,
         per_ledger: u32,
-    ) -> Result<(TopicCore, T), DeviceError>
+    ) -> Result<(TopicCore<G>, T), DeviceError>
         requires numbered { 0 < per_ledger }
         ensures fresh { IfOk result (λ o. o.0 ≡ opened per_ledger [] [] map.empty) }
         ensures settled { (S.disk shelf.old).honest → IfOk result (λ o. Settled (T.view o.1) (S.disk shelf.new) [] map.empty) }

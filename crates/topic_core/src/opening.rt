@@ -19,12 +19,13 @@ use crate::recent::Recent;
 use crate::topic::TopicCore;
 use disk::{FileId, Shelf};
 use gated_log::Refusal;
+use permits::Gauge;
 use reply_queues::ReplyQueues;
 use std::alloc::Global;
 use subscriptions::Subscriptions;
 use topic_stores::TopicStore;
 
-impl TopicCore {
+impl<G: Gauge> TopicCore<G> {
     /// Opens the store of a topic, where a ledger id has so many entry ids, and the topic over it. Each file is synced once and
     /// read once: the slots of the entries are known from that pass. The first fault is told, and nothing is written.
     pub fn open<T: TopicStore, S: Shelf>(
@@ -32,7 +33,7 @@ impl TopicCore {
         shelf: &mut S,
         topic: u16,
         per_ledger: u32,
-    ) -> Result<(TopicCore, T), Refusal>
+    ) -> Result<(TopicCore<G>, T), Refusal>
         requires numbered { 0 < per_ledger }
         ensures opened { IfOk result (λ o. (length o.0.ledger ≡ (T.view o.1).count) × (o.0 ≡ opened per_ledger o.0.ledger (map slot_of_entry o.0.ledger) (T.view o.1).kept)) }
         ensures settled { (S.disk shelf.old).honest → IfOk result (λ o. Settled (T.view o.1) (S.disk shelf.new) o.0.ledger (T.view o.1).kept) }
@@ -47,7 +48,7 @@ impl TopicCore {
         ensures any_moment { (S.disk shelf.old).honest → Leaves (S.disk shelf.old).may_leave (S.disk shelf.old) (S.disk shelf.new) }
         ensures kept { Counted (S.disk shelf.old) (S.disk shelf.new) }
     {
-        let opened: Opened<T> = open_stores(alloc, shelf, topic, per_ledger)?;
+        let opened: Opened<G, T> = open_stores(alloc, shelf, topic, per_ledger)?;
         let Opened {
             stores,
             subs,
@@ -110,7 +111,7 @@ impl TopicCore {
             return Ok(());
         }
         let topic = stores.topic();
-        let again: Opened<T> = open_stores(self.alloc, shelf, topic, self.per_ledger)?;
+        let again: Opened<G, T> = open_stores(self.alloc, shelf, topic, self.per_ledger)?;
         if again.stores.len() < self.committed {
             return Err(Refusal::Damaged {
                 file: FileId::Segment { topic, number: 0 },
@@ -122,7 +123,7 @@ impl TopicCore {
     }
 
     /// Goes on over a store that was just opened. What it owes and what it counted stay.
-    fn restart<T: TopicStore>(&mut self, again: Opened<T>) -> T
+    fn restart<T: TopicStore>(&mut self, again: Opened<G, T>) -> T
         requires failed { self.old.failed ≡ true }
         requires more { self.old.committed ≤ (T.view again.stores).count }
         requires few { (T.view again.stores).count ≤ 2 ^ 62 }
@@ -153,19 +154,19 @@ impl TopicCore {
 
 /// A store that was opened: the subscriptions with the slots of all entries, and what is durable.
 #[derive(Drop)]
-struct Opened<T> {
+struct Opened<G: Gauge, T> {
     stores: T,
-    subs: Subscriptions,
+    subs: Subscriptions<G>,
     durable: Durable,
 }
 
 /// Opens the store of a topic, whose entries are known by their slots from the same pass.
-fn open_stores<T: TopicStore, S: Shelf>(
+fn open_stores<G: Gauge, T: TopicStore, S: Shelf>(
     alloc: Global,
     shelf: &mut S,
     topic: u16,
     per_ledger: u32,
-) -> Result<Opened<T>, Refusal>
+) -> Result<Opened<G, T>, Refusal>
     ensures added { IfOk result (λ t. (length t.durable.ledger ≡ (T.view t.stores).count) × (t.subs ≡ slotted (opened_subscriptions (T.view t.stores).kept) (map slot_of_entry t.durable.ledger)) × (t.durable.kept ≡ (T.view t.stores).kept)) }
     ensures durable { IfOk result (λ t. AreDurable (T.view t.stores).kept) }
     ensures settled { (S.disk shelf.old).honest → IfOk result (λ t. Settled (T.view t.stores) (S.disk shelf.new) t.durable.ledger (T.view t.stores).kept) }

@@ -1,9 +1,11 @@
 // What is durable of a topic, with the entries that were committed last.
 ghost use Rattle.std.specs.Prelude.{◌≡◌, ◌≤◌, ◌++◌, Some, length, All, slice_get, IfOk, IfSome};
+ghost use Rattle.records.specs.Records.{after_all};
 ghost use Rattle.topic_core.specs.Recent.{IsRest};
 
 use crate::durable::Durable;
 use bytes::Bytes;
+use records::Record;
 use std::alloc::{AllocError, Global};
 use std::collections::VecDeque;
 use std::marker::Model;
@@ -48,6 +50,13 @@ impl Recent {
             entries: VecDeque::new(alloc),
             bytes: 0,
         }
+    }
+
+    /// What is durable with these entries more, and behind these changes.
+    pub(crate) fn after(&self, entries: &[Bytes], changes: &[Record]) -> Durable
+        ensures { (result.ledger ≡ self.now.ledger ++ entries.now) × (result.kept ≡ after_all changes.now self.now.kept) }
+    {
+        self.durable.after(entries, changes)
     }
 
     /// What is durable now, by these entries more, which have so many bytes. Where memory is refused for their places, none

@@ -18,6 +18,7 @@ use bytes::Bytes;
 use commands::{MessageMeta, Reply, ReplyText, ServerError, Text};
 use holds::ConsumerKey;
 use ids::to_id;
+use permits::{Fresh, Gauge, Granter};
 use reply_queues::ReplyQueues;
 use std::alloc::{AllocError, Global};
 use std::marker::Model;
@@ -44,7 +45,7 @@ pub(crate) struct Doubt {
 
 /// One topic, without the bytes of its committed entries.
 #[derive(Drop)]
-pub struct TopicCore {
+pub struct TopicCore<G: Gauge> {
     pub(crate) alloc: Global,
     pub(crate) per_ledger: u32,
     pub(crate) committed: u64,
@@ -54,13 +55,13 @@ pub struct TopicCore {
     pub(crate) accepted: u64,
     pub(crate) handed: u64,
     pub(crate) producers: Producers,
-    pub(crate) subs: Subscriptions,
+    pub(crate) subs: Subscriptions<G>,
     pub(crate) queues: ReplyQueues,
     pub(crate) doubt: Option<Doubt>,
     pub(crate) failed: bool,
 }
 
-impl Model for TopicCore {
+impl<G: Gauge> Model for TopicCore<G> {
     ghost use Rattle.std.specs.Prelude.{◌≡◌, ℕ, sum_by, length};
     ghost use Rattle.std.specs.Coded.{codes};
     ghost use Rattle.cursor.specs.Positions.{positions_code};
@@ -80,7 +81,7 @@ impl Model for TopicCore {
     ghost invariant = { λ t. (t.waiting_bytes ≡ sum_by length t.waiting.items) × IsSound (core_of t) × AreReceipts (core_of t) };
 }
 
-impl TopicCore {
+impl<G: Gauge> TopicCore<G> {
     /// Whether a device failure ended the topic's work.
     pub fn is_failed(&self) -> bool
         ensures { result ≡ self.now.failed }
@@ -268,34 +269,6 @@ impl TopicCore {
         Ok(())
     }
 
-    /// Works a session's command.
-    pub fn command(&mut self, who: u64, command: TopicCommand) -> Answer
-        ensures step { TopicStep self.old who command result self.new }
-        ensures goes_on { GoesOn self.old self.new }
-        ensures fits { Fits command result }
-    {
-        // The proof reads here what holds of a topic at any time.
-        let _ = &self.alloc;
-        let answer = match command {
-            TopicCommand::Producer {
-                producer_id,
-                request_id,
-                producer_name,
-            } => self.add_producer(who, producer_id, request_id, producer_name),
-            TopicCommand::Send(send) => self.send(who, send),
-            TopicCommand::Subscribe(subscribe) => self.subscribe(who, subscribe),
-            TopicCommand::Ack(ack) => self.acknowledge(who, &ack),
-            TopicCommand::CloseProducer(close) => self.close_producer(who, &close),
-            TopicCommand::Unsubscribe(unsubscribe) => self.unsubscribe(who, &unsubscribe),
-            TopicCommand::CloseConsumer(close) => Ok(self.close_consumer(who, &close)),
-            TopicCommand::Redeliver(redeliver) => {
-                self.redeliver(who, &redeliver);
-                Ok(Answer::Nothing)
-            }
-        };
-        answer.unwrap_or(Answer::NoMemory)
-    }
-
     /// The session's first due reply, which it takes.
     pub fn collect(&mut self, who: u64) -> Option<Reply>
         ensures step { Collects self.old who result self.new }
@@ -316,6 +289,42 @@ impl TopicCore {
         self.producers.forget_session(who);
         self.subs.leave(who);
         self.queues.forget(who);
+    }
+}
+
+impl<G: Fresh> TopicCore<G> {
+    /// Works a session's command. Where SUBSCRIBE attaches a consumer whose permits somebody else is to grant, the granter goes into
+    /// `granter`, which else stays as it is.
+    pub fn command(
+        &mut self,
+        who: u64,
+        command: TopicCommand,
+        granter: &mut Option<Granter>,
+    ) -> Answer
+        ensures step { TopicStep self.old who command result self.new }
+        ensures goes_on { GoesOn self.old self.new }
+        ensures fits { Fits command result }
+    {
+        // The proof reads here what holds of a topic at any time.
+        let _ = &self.alloc;
+        let answer = match command {
+            TopicCommand::Producer {
+                producer_id,
+                request_id,
+                producer_name,
+            } => self.add_producer(who, producer_id, request_id, producer_name),
+            TopicCommand::Send(send) => self.send(who, send),
+            TopicCommand::Subscribe(subscribe) => self.subscribe(who, subscribe, granter),
+            TopicCommand::Ack(ack) => self.acknowledge(who, &ack),
+            TopicCommand::CloseProducer(close) => self.close_producer(who, &close),
+            TopicCommand::Unsubscribe(unsubscribe) => self.unsubscribe(who, &unsubscribe),
+            TopicCommand::CloseConsumer(close) => Ok(self.close_consumer(who, &close)),
+            TopicCommand::Redeliver(redeliver) => {
+                self.redeliver(who, &redeliver);
+                Ok(Answer::Nothing)
+            }
+        };
+        answer.unwrap_or(Answer::NoMemory)
     }
 }
 

@@ -3,6 +3,7 @@
 // drops it before it looks at them.
 mod basics;
 mod failures;
+mod granters;
 mod recent;
 
 ghost use Rattle.std.specs.Prelude.{IfOk};
@@ -14,6 +15,7 @@ use disk_mem::MemShelf;
 use gated_log::Refusal;
 use holds::SlotRanges;
 use ids::MessageIdData;
+use permits::{BothEnds, Fresh, Gauge, Granter};
 use records::is_subscription_name;
 use std::alloc::{AllocError, Global};
 use subscriptions::Mode;
@@ -29,21 +31,24 @@ type Seen = (Option<Refusal>, bool, u64);
 
 // A topic of one entry a ledger over its stores, on a device in memory. Core and stores remember the same, as a flush asks.
 #[derive(Drop)]
-struct Topic {
-    core: TopicCore,
+struct TopicOf<G: Gauge> {
+    core: TopicCore<G>,
     stores: FileStores,
     shelf: MemShelf,
 }
 
-impl Topic {
+// A topic that grants its consumers' permits.
+type Topic = TopicOf<BothEnds>;
+
+impl<G: Fresh> TopicOf<G> {
     // A new topic.
-    fn new(alloc: Global) -> Result<Topic, Refusal>
+    fn new(alloc: Global) -> Result<TopicOf<G>, Refusal>
         ensures { IfOk result (λ t. AreMatched t.core t.stores) }
     {
         let mut shelf = MemShelf::new(alloc);
         drop(FileStores::create(alloc, &mut shelf, 0, 1)?);
         let (core, stores) = TopicCore::open(alloc, &mut shelf, 0, 1)?;
-        Ok(Topic {
+        Ok(TopicOf {
             core,
             stores,
             shelf,
@@ -55,7 +60,20 @@ impl Topic {
         requires { AreMatched self.old.core self.old.stores }
         ensures { AreMatched self.new.core self.new.stores }
     {
-        match self.core.command(who, command) {
+        self.ask_for(who, command, &mut None)
+    }
+
+    // The same, where a granter that comes out is wanted.
+    fn ask_for(
+        &mut self,
+        who: u64,
+        command: TopicCommand,
+        granter: &mut Option<Granter>,
+    ) -> Result<(), AllocError>
+        requires { AreMatched self.old.core self.old.stores }
+        ensures { AreMatched self.new.core self.new.stores }
+    {
+        match self.core.command(who, command, granter) {
             Answer::Now(_) | Answer::Later | Answer::Nothing => Ok(()),
             Answer::NoMemory => Err(AllocError),
         }
@@ -102,11 +120,8 @@ impl Topic {
         Ok(())
     }
 
-    // The position of the next message of a session's consumer 5, which gets a permit. It has the bytes that were sent.
-    fn next(&mut self, who: u64) -> Result<Option<u64>, Refusal> {
-        if self.core.grant(who, 5, 1).is_err() {
-            return Ok(None);
-        }
+    // The position of a message for a session's consumer 5, where it may get one. It has the bytes that were sent.
+    fn message(&mut self, who: u64) -> Result<Option<u64>, Refusal> {
         match self.core.dispatch(&self.stores, &mut self.shelf, who, 5)? {
             Some(outgoing) if outgoing.entry.as_slice() == PLAIN => {
                 Ok(position_in(&outgoing.reply))
@@ -122,6 +137,16 @@ impl Topic {
     // How many entries the topic has, and its store.
     fn counts(&self) -> (u64, u64) {
         (self.core.committed(), self.stores.len())
+    }
+}
+
+impl TopicOf<BothEnds> {
+    // The position of the next message of a session's consumer 5, which gets a permit.
+    fn next(&mut self, who: u64) -> Result<Option<u64>, Refusal> {
+        if self.core.grant(who, 5, 1).is_err() {
+            return Ok(None);
+        }
+        self.message(who)
     }
 }
 

@@ -4,3 +4,4 @@ pub mod Counting
 pub mod Ends
 pub mod Flushing
 pub mod Locked
+pub mod Granting

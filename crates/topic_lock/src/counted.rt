@@ -1,9 +1,11 @@
 // A topic with its shares.
-ghost use Rattle.std.specs.Prelude.{◌≡◌, ◌+◌, ◌<◌, ◌≤◌, ℕ, false, true, length, IfOk, IfErr, IfSome, IsErr, IsErrOf};
+ghost use Rattle.std.specs.Prelude.{◌≡◌, ◌+◌, ◌<◌, ◌≤◌, ℕ, false, true, length, Ok, IfOk, IfErr, IfSome, IsErr, IsErrOf};
 ghost use Rattle.disk.specs.Disk.{Same, Leaves, Kept, Failed};
 ghost use Rattle.gated_log.specs.declared.read_error.ReadError.TheVariants.{Device};
-ghost use Rattle.topic_core.specs.State.{CountsStay};
-ghost use Rattle.topic_core.specs.Steps.{TopicStep, Collects, GrantStep, Fits, key_of, left, has_producer, has_consumer};
+ghost use Rattle.subscriptions.specs.Steps.{IsLearnt};
+ghost use Rattle.topic_core.specs.State.{Topic, CountsStay};
+ghost use Rattle.topic_core.specs.Steps.{TopicStep, Collects, Fits, key_of, left, learnt, HasLearnt, has_producer, has_consumer};
+ghost use Rattle.topic_core.specs.declared.dispatch.AtHand.TheVariants.{Nothing};
 ghost use Rattle.topic_core.specs.Dispatch.{Admits, DispatchStep, AtHandStep, IsAtHandFor, IsMessageTo};
 ghost use Rattle.topic_core.specs.Soundness.{IsSound};
 ghost use Rattle.topic_core.specs.Standing.{GoesOn, Phase, Standing};
@@ -18,14 +20,18 @@ use crate::tally::{
 use crate::waiting::Waiting;
 use commands::Reply;
 use disk::Shelf;
+use permits::{Granter, Taker};
 use std::alloc::AllocError;
 use std::marker::Model;
 use std::sync::ledger::Share;
 use std::sync::{Mutex, Wait};
 use topic_core::{
-    Answer, AtHand, Outgoing, ReadError, TooManyPermits, TopicCommand, TopicCore, TopicStore,
+    Answer, AtHand, Outgoing, ReadError, TopicCommand, TopicCore, TopicStore,
     commands_hand_out_nothing, entries_are_published,
 };
+
+/// A topic behind a lock. Who grants permits to its consumers does so without that lock.
+pub type LockedCore = TopicCore<Taker>;
 
 /// The SENDs that were accepted, behind a lock that is taken last.
 pub type AcceptedTally<K> = Mutex<Tally<AcceptedByTopics<K>, AcceptedByPorts<K>>>;
@@ -49,7 +55,7 @@ pub struct TopicShares<K: Tallies> {
 /// again. Who waits for it stands beside.
 #[derive(Drop)]
 pub struct CountedTopic<K: Tallies> {
-    pub(crate) core: TopicCore,
+    pub(crate) core: LockedCore,
     pub(crate) accepted: Share<AcceptedByTopics<K>>,
     pub(crate) handed: Share<HandedByTopics<K>>,
     pub(crate) committed: Share<DurableByTopics<K>>,
@@ -66,7 +72,7 @@ pub struct CountedTopic<K: Tallies> {
 
 impl<K: Tallies> CountedTopic<K> {
     /// A topic whose shares count what it counts.
-    pub fn new(core: TopicCore, shares: TopicShares<K>) -> CountedTopic<K>
+    pub fn new(core: LockedCore, shares: TopicShares<K>) -> CountedTopic<K>
         requires accepted { shares.accepted.amount ≡ core.accepted }
         requires handed { shares.handed.amount ≡ core.handed }
         requires committed { shares.committed.amount ≡ core.committed }
@@ -116,7 +122,8 @@ impl<K: Tallies> CountedTopic<K> {
         self.core.has_consumer(who, id)
     }
 
-    /// The topic's step. A SEND that is accepted is counted for the port.
+    /// The topic's step. A SEND that is accepted is counted for the port. The granter of a consumer that is attached goes into
+    /// `granter`, which else stays as it is.
     #[tactic(auto, using(crate::proofs::Counts::no_send, crate::proofs::Counts::not_accepted, crate::proofs::Counts::one_send))]
     pub fn command<R: Wait>(
         &mut self,
@@ -125,6 +132,7 @@ impl<K: Tallies> CountedTopic<K> {
         port: &mut Share<AcceptedByPorts<K>>,
         who: u64,
         command: TopicCommand,
+        granter: &mut Option<Granter>,
     ) -> Answer
         requires { 0 < port.old.parts }
         ensures step { TopicStep self.old.core who command result self.new.core }
@@ -137,7 +145,7 @@ impl<K: Tallies> CountedTopic<K> {
         commands_hand_out_nothing();
         let CountedTopic { core, accepted, .. } = self;
         let is_send = is_send(&command);
-        let answer = core.command(who, command);
+        let answer = core.command(who, command, granter);
         if is_send && is_later(&answer) {
             tally.lock(rt).count(accepted, port);
         }
@@ -166,39 +174,45 @@ impl<K: Tallies> CountedTopic<K> {
         Some(reply)
     }
 
-    /// FLOW, as the topic works it.
-    pub fn grant(&mut self, who: u64, consumer_id: u64, permits: u32) -> Result<(), TooManyPermits>
-        ensures step { GrantStep self.old.core who consumer_id permits result self.new.core }
+    /// Looks what was granted to a consumer. An unknown consumer changes nothing.
+    pub fn look(&mut self, who: u64, consumer_id: u64)
+        ensures learnt { IsLearnt (learnt self.old.core who consumer_id) self.new.core }
         ensures goes_on { GoesOn self.old.core self.new.core }
+        ensures counts { CountsStay self.old.core self.new.core }
     {
         let CountedTopic { core, .. } = self;
-        core.grant(who, consumer_id, permits)
+        core.look(who, consumer_id)
     }
 
-    /// Whether there is no message for any consumer of a session. Changes nothing.
+    /// Whether there is no message for any consumer of a session, as far as is known of their permits. Changes nothing but that.
     pub fn is_quiet(&mut self, who: u64) -> bool
-        ensures same { self.new.core ≡ self.old.core }
-        ensures none { result ≡ true → (id i : ℕ) → Admits self.old.core (key_of who id) i → ⊥ }
+        ensures learnt { HasLearnt who self.old.core self.new.core }
+        ensures none { result ≡ true → (id i : ℕ) → Admits self.new.core (key_of who id) i → ⊥ }
         ensures goes_on { GoesOn self.old.core self.new.core }
+        ensures counts { CountsStay self.old.core self.new.core }
     {
         let CountedTopic { core, .. } = self;
         core.is_quiet(who)
     }
 
-    /// A message for a consumer, which holds it from then on, where its entry stands in memory. A refusal changes nothing.
+    /// A message for a consumer, which holds it from then on, where its entry stands in memory. A refusal changes nothing but what
+    /// is known of the consumer's permits.
     pub fn dispatch_at_hand(&mut self, who: u64, consumer_id: u64) -> Result<AtHand, AllocError>
-        ensures step { length self.old.core.ledger ≡ self.old.core.committed → AtHandStep self.old.core (key_of who consumer_id) result self.new.core }
+        ensures step { length self.old.core.ledger ≡ self.old.core.committed →
+            (t : Topic) × IsLearnt (learnt self.old.core who consumer_id) t × AtHandStep t (key_of who consumer_id) result self.new.core }
         ensures message { IfOk result (λ at_hand. IsAtHandFor consumer_id at_hand) }
+        ensures nothing { result ≡ Ok Nothing → (i : ℕ) → Admits self.new.core (key_of who consumer_id) i → ⊥ }
         ensures goes_on { GoesOn self.old.core self.new.core }
         ensures counts { CountsStay self.old.core self.new.core }
-        ensures refused { IsErr result → self.new.core ≡ self.old.core }
+        ensures refused { IsErr result → IsLearnt (learnt self.old.core who consumer_id) self.new.core }
         ensures works { IsErr result → self.old.core.failed ≡ false }
     {
         let CountedTopic { core, .. } = self;
         core.dispatch_at_hand(who, consumer_id)
     }
 
-    /// A message for a consumer, which holds it from then on, with one read of the topic's stores where there is one.
+    /// A message for a consumer, which holds it from then on, with one read of the topic's stores where there is one. A refusal
+    /// changes nothing but what is known of the consumer's permits.
     pub fn dispatch<T: TopicStore, S: Shelf + Drop>(
         &mut self,
         stores: &mut CountedStores<T, S, K>,
@@ -206,11 +220,11 @@ impl<K: Tallies> CountedTopic<K> {
         consumer_id: u64,
     ) -> Result<Option<Outgoing>, ReadError>
         ensures step { (phase : Phase) → Standing T.stands phase self.old.core (T.view stores.old.stores) (S.disk stores.old.shelf) →
-            DispatchStep self.old.core who consumer_id result self.new.core }
+            (t : Topic) × IsLearnt (learnt self.old.core who consumer_id) t × DispatchStep t who consumer_id result self.new.core }
         ensures message { IfOk result (λ sent. IfSome sent (λ outgoing. IsMessageTo consumer_id outgoing)) }
         ensures goes_on { GoesOn self.old.core self.new.core }
         ensures counts { CountsStay self.old.core self.new.core }
-        ensures refused { IsErr result → self.new.core ≡ self.old.core }
+        ensures refused { IsErr result → IsLearnt (learnt self.old.core who consumer_id) self.new.core }
         ensures works { IsErr result → self.old.core.failed ≡ false }
         ensures stores { stores.new.stores ≡ stores.old.stores }
         ensures cause { (T.view stores.old.stores).failed ≡ false → IsErrOf result Device → Failed (S.disk stores.old.shelf) (S.disk stores.new.shelf) }

@@ -3,7 +3,7 @@ ghost use Rattle.std.specs.Prelude.{◌≡◌, ◌⊎◌, ◌+◌, length};
 ghost use Rattle.catalog.specs.Catalogs.{remembered};
 ghost use Rattle.session.specs.declared.port.Found.TheVariants.{NoMemory, Failed};
 
-use crate::counted::{CountedTopic, TopicShares};
+use crate::counted::{CountedTopic, LockedCore, TopicShares};
 use crate::durable::DurableTally;
 use crate::parts::TopicParts;
 use crate::places::{Known, Place, SharedTopic};
@@ -15,7 +15,7 @@ use gated_log::Refusal;
 use session::Found;
 use std::alloc::Global;
 use std::sync::{Mutex, Wait};
-use topic_core::{TopicCore, TopicStore};
+use topic_core::TopicStore;
 
 /// What is kept for a topic that isn't there yet: the device of its number, and shares that count nothing.
 #[derive(Drop)]
@@ -46,7 +46,7 @@ pub type LockedCatalog<'a, T, S, K> = Mutex<SharedCatalog<'a, T, S, K>>;
 pub(crate) fn share<T: TopicStore, S: Shelf + Drop, K: Tallies, R: Wait>(
     rt: &R,
     tally: &DurableTally<K>,
-    core: TopicCore,
+    core: LockedCore,
     stores: T,
     spare: Spare<S, K>,
 ) -> SharedTopic<T, S, K>

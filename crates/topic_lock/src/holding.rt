@@ -9,6 +9,7 @@ use crate::stores::CountedStores;
 use crate::tally::{AcceptedByPorts, Tallies};
 use bells::{Bells, Marks};
 use disk::Shelf;
+use permits::Granter;
 use std::sync::ledger::Share;
 use std::sync::{MutexGuard, Wait};
 use topic_core::{Answer, AtHand, ReadError, TopicCommand, TopicStore};
@@ -45,7 +46,7 @@ impl<'t, T: TopicStore, S: Shelf + Drop, K: Tallies> Hold<'t, T, S, K> {
         }
     }
 
-    /// The topic's step, for the connection at this place.
+    /// The topic's step, for the connection at this place, as `CountedTopic::command` says.
     pub(crate) fn command<R: Wait>(
         &mut self,
         rt: &R,
@@ -54,6 +55,7 @@ impl<'t, T: TopicStore, S: Shelf + Drop, K: Tallies> Hold<'t, T, S, K> {
         port: &mut Share<AcceptedByPorts<K>>,
         who: u64,
         command: TopicCommand,
+        granter: &mut Option<Granter>,
     ) -> Answer
         requires { 0 < port.old.parts }
         ensures fits { Fits command result }
@@ -69,12 +71,18 @@ impl<'t, T: TopicStore, S: Shelf + Drop, K: Tallies> Hold<'t, T, S, K> {
         if may_give_back(&command) {
             *gives_back = true;
         }
-        let answer = topic.command(rt, tally, port, who, command);
+        let answer = topic.command(rt, tally, port, who, command, granter);
         let is_owed = matches!(&answer, Answer::Later | Answer::Nothing);
         if (is_owed && topic.waiting.owe(place)) || topic.is_failed() {
             *rings_flusher = true;
         }
         answer
+    }
+
+    /// Looks what was granted to a consumer of the session.
+    pub(crate) fn look(&mut self, who: u64, consumer_id: u64) {
+        let Hold { topic, .. } = self;
+        topic.look(who, consumer_id);
     }
 
     /// Whether the topic has no message for any consumer of the session at this place, whose writer is woken when there may be one.

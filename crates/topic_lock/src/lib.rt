@@ -28,7 +28,7 @@ mod waiting;
 mod written;
 
 pub use broker::{Seat, SharedBroker};
-pub use counted::{AcceptedTally, CountedTopic, HandedTally, TopicShares};
+pub use counted::{AcceptedTally, CountedTopic, HandedTally, LockedCore, TopicShares};
 pub use directory::{LockedCatalog, SharedCatalog, Spare};
 pub use durable::{Durable, DurableByStores, DurableByTopics, DurableTally};
 pub use fault::FlushFault;

@@ -1,8 +1,9 @@
 // A port over the topics' locks.
-ghost use Rattle.std.specs.Prelude.{◌≡◌, ◌+◌, ◌-◌, ◌<◌, ◌≤◌, ◌^◌, ℕ, true, length, min, IfOk, IfSome};
+ghost use Rattle.std.specs.Prelude.{◌≡◌, ◌+◌, ◌-◌, ◌<◌, ◌≤◌, ◌^◌, ℕ, true, false, length, min, IfOk, IfSome};
 ghost use Rattle.topic_core.specs.Steps.{Fits, has_producer, has_consumer};
-ghost use Rattle.session.specs.Broker.{CommandStep, CollectedAt, FindStep, IfFound, IfFailed};
-ghost use Rattle.topic_lock.specs.Counting.{sends_of, receipts_collected};
+ghost use Rattle.session.specs.Broker.{CommandStep, GrantAt, CollectedAt, FindStep, IfFound, IfFailed};
+ghost use Rattle.topic_lock.specs.Counting.{sends_of, receipts_collected, is_later};
+ghost use Rattle.topic_lock.specs.Granting.{GrantsBy};
 ghost use Rattle.topic_lock.specs.Locked.{unknown_broker};
 
 use crate::asking::length_of;
@@ -16,13 +17,14 @@ use crate::turns::Turns;
 use commands::Reply;
 use disk::Shelf;
 use names::TopicName;
+use permits::{Granter, TooManyPermits};
 use session::{Found, Port};
 use std::alloc::{AllocError, Global};
 use std::cell::Cell;
 use std::sync::Wait;
 use std::sync::atomic::Ordering;
 use std::sync::ledger::Share;
-use topic_core::{Answer, Outgoing, ReadError, TooManyPermits, TopicCommand, TopicStore};
+use topic_core::{Answer, Outgoing, ReadError, TopicCommand, TopicStore};
 
 /// A port over the topics' locks, with shares of what all ports were told. It knows the topics that were there when it last looked.
 /// In a turn it keeps the lock of the topic that it was asked for last, until it is asked for another one or for something else.
@@ -35,6 +37,8 @@ pub struct LockedPort<'p, 'a, T: TopicStore, S: Shelf + Drop, K: Tallies, R: Wai
     known: Vec<Known<'a, T, S, K>>,
     accepted: Share<AcceptedByPorts<K>>,
     handed: Share<HandedByPorts<K>>,
+    /// Of the consumer that the last command attached, until it is taken.
+    lent: Option<Granter>,
     held: Cell<Option<Hold<'a, T, S, K>>>,
     is_in_turn: bool,
     ghost parts: { (accepted.parts ≡ 1) × (handed.parts ≡ 1) },
@@ -61,6 +65,7 @@ impl<'p, 'a, T: TopicStore, S: Shelf + Drop, K: Tallies, R: Wait> LockedPort<'p,
             alloc,
             accepted,
             handed,
+            lent: None,
             held: Cell::new(None),
             is_in_turn: false,
         }
@@ -267,6 +272,7 @@ impl<'p, 'a, T: TopicStore, S: Shelf + Drop, K: Tallies, R: Wait> Port
         ensures passes { length self.new.known.items ≡ length self.old.known.items }
         ensures accepted { self.new.accepted.amount ≡ self.old.accepted.amount + sends_of command result }
         ensures handed { self.new.handed.amount ≡ self.old.handed.amount }
+        ensures lent { is_later result ≡ false → self.new.lent ≡ None }
     {
         let mut hold = self.hold(topic, length_of(&command));
         let LockedPort {
@@ -274,29 +280,49 @@ impl<'p, 'a, T: TopicStore, S: Shelf + Drop, K: Tallies, R: Wait> Port
             broker,
             seat,
             accepted,
+            lent,
             ..
         } = self;
         let tally = &broker.totals.accepted;
-        let answer = hold.command(*rt, seat.place, tally, accepted, who, command);
+        let mut granter = None;
+        let answer = hold.command(*rt, seat.place, tally, accepted, who, command, &mut granter);
+        *lent = if_later(&answer, granter);
         self.keep(hold);
         answer
     }
 
+    fn take_granter(&mut self) -> Option<Granter>
+        ensures same { ⊥ → unknown_broker ≡ unknown_broker }
+        ensures passes { length self.new.known.items ≡ length self.old.known.items }
+        ensures given { result ≡ self.old.lent }
+        ensures once { self.new.lent ≡ None }
+    {
+        self.lent.take()
+    }
+
+    // No lock is taken for it, and the one that is kept stays.
     fn grant(
         &mut self,
-        topic: u64,
-        who: u64,
-        consumer_id: u64,
+        _topic: u64,
+        _who: u64,
+        _consumer_id: u64,
+        granter: &mut Option<Granter>,
         permits: u32,
-    ) -> Result<(), TooManyPermits> {
-        self.let_go();
-        let granted = self
-            .topic(topic)
-            .topic
-            .lock(self.rt)
-            .grant(who, consumer_id, permits);
+    ) -> Result<(), TooManyPermits>
+        requires { _topic < length self.old.known.items }
+        ensures step { ⊥ → GrantAt unknown_broker _topic _who _consumer_id permits result unknown_broker }
+        ensures passes { length self.new.known.items ≡ length self.old.known.items }
+        ensures granted { GrantsBy granter.old permits result granter.new }
+    {
+        let granted = grant_by(granter, permits);
         self.broker.bells.ring_writer(self.seat.place);
         granted
+    }
+
+    fn look(&mut self, topic: u64, who: u64, consumer_id: u64) {
+        let mut hold = self.hold(topic, None);
+        hold.look(who, consumer_id);
+        self.keep(hold);
     }
 
     fn dispatch(
@@ -385,4 +411,25 @@ impl<'p, 'a, T: TopicStore, S: Shelf + Drop, K: Tallies, R: Wait> Port
     ghost passes_count = { λ a b passes. omega (arith, passes) };
 
     ghost counts_topics = { λ port sole. elim sole [ ] };
+}
+
+/// The granter that a command which was answered so lends: one that isn't answered later has attached no consumer.
+fn if_later(answer: &Answer, granter: Option<Granter>) -> Option<Granter>
+    ensures later { is_later answer.now ≡ true → result ≡ granter }
+    ensures none { is_later answer.now ≡ false → result ≡ None }
+{
+    match answer {
+        Answer::Later => granter,
+        Answer::Now(_) | Answer::Nothing | Answer::NoMemory => None,
+    }
+}
+
+/// Grants so many permits more by a granter, where there is one.
+fn grant_by(granter: &mut Option<Granter>, permits: u32) -> Result<(), TooManyPermits>
+    ensures { GrantsBy granter.old permits result granter.new }
+{
+    match granter {
+        Some(granter) => granter.grant(u64::from(permits)),
+        None => Ok(()),
+    }
 }

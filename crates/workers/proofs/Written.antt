@@ -63,15 +63,19 @@ module _ {W : Type 0} (contents : W → Option (List ℕ)) where
   pub wrote_none : (a : Outgoing W) → Wrote contents a a
   wrote_none a = record { outs = []; written = appends_none (contents a.writer); took = sym (append-nil (taken a)); rising = omega arith; counted = counted_none a.replied }
 
-  -- more replies were seen in the ring
-  pub wrote_looked : (a b : Outgoing W) → b.writer ≡ a.writer → received b.replies ≡ received a.replies → b.next ≡ a.next → b.replied ≡ a.replied → Wrote contents a b
-  wrote_looked a b writer same next replied = record {
+  -- numbers that no output has were passed over
+  pub wrote_passed : (a b : Outgoing W) → b.writer ≡ a.writer → received b.replies ≡ received a.replies → a.next ≤ b.next → b.replied ≡ a.replied → Wrote contents a b
+  wrote_passed a b writer same next replied = record {
     outs = [];
     written = subst (λ (w : W). Appends (contents a.writer) (contents w) []) (sym writer) (appends_none (contents a.writer));
     took = ap (map shown) same ∙ sym (append-nil (taken a));
-    rising = omega arith;
+    rising = next;
     counted = ap saturated replied ∙ counted_none a.replied;
   }
+
+  -- more replies were seen in the ring
+  pub wrote_looked : (a b : Outgoing W) → b.writer ≡ a.writer → received b.replies ≡ received a.replies → b.next ≡ a.next → b.replied ≡ a.replied → Wrote contents a b
+  wrote_looked a b writer same next replied = wrote_passed a b writer same (omega arith) replied
 
   pub wrote_both : (a b c : Outgoing W) → Wrote contents a b → Wrote contents b c → Wrote contents a c
   wrote_both a b c p q = record {

@@ -1,10 +1,11 @@
-//! The loops of a connection's two threads: one reads and feeds its session, one pumps it and writes. What the writer took from
-//! the ring and what is left there are the reader's replies, in order, each once; outputs are whole frames, written whole, in
-//! rising numbers. Each thread tells the other where its loop is over.
+//! The loops of a connection's two threads: one reads and feeds its session; one lists by what the session is served, serves it so
+//! without its lock, and writes. What the writer took from the ring and what is left there are the reader's replies, in order, each
+//! once; outputs are whole frames, written whole, in rising numbers. Each thread tells the other where its loop is over.
 #![tactic(auto)]
 
 mod connection;
 mod flushing;
+mod listing;
 mod loops;
 mod numbered;
 mod outgoing;
@@ -12,7 +13,8 @@ mod resting;
 
 pub use connection::{Ends, Served, serve_connection};
 pub use flushing::flush_loop;
+pub use listing::{Listing, Pumped};
 pub use loops::{Point, Turnstile, read_loop, write_loop};
-pub use numbered::{Numbered, Pumped};
+pub use numbered::Numbered;
 pub use outgoing::{Outgoing, Output};
 pub use resting::PortAtRest;

@@ -3,7 +3,8 @@ ghost use Rattle.std.specs.Prelude.{◌≡◌, ◌<◌, ◌≤◌, ◌++◌, [],
 ghost use Rattle.rtrb.specs.Ring.{known_free, known_items, SameConsumer};
 ghost use Rattle.workers.specs.Writes.{Wrote, Extends, FinishesAfter};
 
-use crate::numbered::{NUMBERS, Numbered, Pumped};
+use crate::listing::{Listing, Pumped};
+use crate::numbered::{NUMBERS, Numbered};
 use crate::outgoing::{Outgoing, Output};
 use rtrb::{Finished, Producer};
 use session::Port;
@@ -123,29 +124,43 @@ pub fn read_loop<I: Read, P: Port + Turns, T: Turnstile, R: Wait>(
     replies.finish()
 }
 
-// Says what is written, and pumps, where the session goes on.
-fn pump_locked<P: Port + Turns, R: Wait>(
+// Says what is written, and lists by what the session is served, where it goes on.
+fn list_locked<P: Port, R: Wait>(
     rt: &R,
     session: &Mutex<Numbered>,
     port: &mut P,
     next: u64,
     replied: u64,
-) -> Pumped {
+) -> Option<Listing> {
     let mut session = session.lock(rt);
     session.tell_written(next, replied);
     if session.is_over() {
-        return Pumped {
-            output: None,
-            ended: true,
-        };
+        return None;
     }
+    session.list(port)
+}
+
+// Serves by a list, without the session's lock.
+fn serve<P: Port + Turns>(listing: Listing, port: &mut P) -> Pumped {
     port.begin_turn();
-    let pumped = session.pump(port);
+    let pumped = listing.serve(port);
     port.end_turn();
     pumped
 }
 
-// Pumps and writes once. Answers whether the session has ended; what stood in the ring is then written.
+// Writes what was served, or passes its number over.
+fn write_served<W: Write>(outgoing: &mut Outgoing<W>, pumped: &Pumped) -> io::Result<()>
+    ensures ring { SameConsumer outgoing.old.replies outgoing.new.replies }
+    ensures wrote { OnOk result (Wrote W.contents outgoing.old outgoing.new) }
+{
+    match &pumped.output {
+        Some(output) => outgoing.write_pumped(output),
+        None => outgoing.pass_over(pumped.number),
+    }
+}
+
+// Serves and writes once. The session's lock is held for its list, and then to tell it of the answer, and not in between. Answers
+// whether the session has ended; what stood in the ring is then written.
 fn write_turn<W: Write, P: Port + Turns, R: Wait>(
     rt: &R,
     session: &Mutex<Numbered>,
@@ -156,17 +171,19 @@ fn write_turn<W: Write, P: Port + Turns, R: Wait>(
     ensures wrote { OnOk result (Wrote W.contents outgoing.old outgoing.new) }
     ensures ended { IfOk result (λ ended. ended ≡ true → known_items outgoing.new.replies ≡ []) }
 {
-    let pumped = pump_locked(rt, session, port, outgoing.next, outgoing.replied);
-    let Some(output) = &pumped.output else {
+    let listed = list_locked(rt, session, port, outgoing.next, outgoing.replied);
+    let Some(listing) = listed else {
         outgoing.write_below(NUMBERS)?;
-        return Ok(pumped.ended);
+        return Ok(true);
     };
-    outgoing.write_pumped(output)?;
+    let pumped = serve(listing, port);
+    let ended = session.lock(rt).served(&pumped.answer);
+    write_served(outgoing, &pumped)?;
     outgoing.write_below(NUMBERS)?;
-    Ok(pumped.ended)
+    Ok(ended)
 }
 
-/// Writes what the session's pumps give and the reader's replies, in rising numbers, until the session ends or no turn is let
+/// Writes what the session is served and the reader's replies, in rising numbers, until the session ends or no turn is let
 /// pass. Answers whether the session has ended; all that was seen in the ring is then written.
 pub fn write_loop<W: Write, P: Port + Turns, T: Turnstile, R: Wait>(
     rt: &R,

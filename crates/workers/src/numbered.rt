@@ -1,18 +1,17 @@
 // A session and the numbers of its outputs, which stand together behind its lock.
-ghost use Rattle.std.specs.Prelude.{◌≡◌, ◌+◌, ◌<◌, ◌^◌, ◌++◌, [], List, ℕ, Result, true, false, is_none};
+ghost use Rattle.std.specs.Prelude.{◌≡◌, ◌+◌, ◌<◌, ◌^◌, ◌++◌, ◌||◌, [], List, ℕ, true, false, is_none, is_some, IfSome, IfNone};
 ghost use Rattle.rtrb.specs.Ring.{known_free, SameProducer};
 ghost use Rattle.workers.specs.Outputs.{AreFrames};
-ghost use Rattle.session.specs.declared.pumping.More.{More};
-ghost use Rattle.session.specs.declared.pumping.PumpFault.{PumpFault};
+ghost use Rattle.session.specs.Broker.{left_all};
 ghost use Rattle.session.specs.Client.{play};
-ghost use Rattle.session.specs.Pumping.{PumpStep};
 ghost use Rattle.session.specs.Working.{FeedStep, feed_result};
-ghost use Rattle.workers.specs.Numbers.{is_over, has_room, Numbers, Feeds, Pumps, bytes_of_replies, bytes_of_output};
+ghost use Rattle.workers.specs.Numbers.{is_over, has_room, is_more, IsOutput, Numbers, Feeds, Lists, without_memory, as_served, bytes_of_replies};
 ghost use Rattle.workers.specs.Writes.{pushed};
 
+use crate::listing::Listing;
 use crate::outgoing::Output;
 use rtrb::Producer;
-use session::{More, Port, PumpFault, Session};
+use session::{Fault, More, Port, PumpFault, Session};
 use std::alloc::Global;
 
 /// The loops end at this number.
@@ -37,17 +36,9 @@ pub struct Numbered {
     /// connection reaches: what stands unwritten would then seem less, and the bound on the number of outputs goes on.
     replied: u64,
     replied_written: u64,
-    /// Its last pump stopped at a bound of its own, so that more may be due or admitted.
+    /// What was last served of it stopped at a bound of its own, so that more may be due or admitted.
     more: bool,
     ended: bool,
-}
-
-/// What a turn of the writer has to write.
-#[derive(Drop)]
-pub struct Pumped {
-    pub output: Option<Output>,
-    /// No further output comes.
-    pub ended: bool,
 }
 
 impl Numbered {
@@ -81,7 +72,14 @@ impl Numbered {
         self.next
     }
 
-    /// Whether the last pump stopped at a bound of its own.
+    /// How many bytes the replies of its feeds have, at most 2^64 - 1.
+    pub fn replied(&self) -> u64
+        ensures { result ≡ self.now.replied }
+    {
+        self.replied
+    }
+
+    /// Whether what was last served stopped at a bound of its own.
     pub fn has_more(&self) -> bool
         ensures { result ≡ self.now.more }
     {
@@ -136,23 +134,40 @@ impl Numbered {
         goes_on
     }
 
-    /// Pumps the session.
-    pub fn pump<P: Port>(&mut self, port: &mut P) -> Pumped
+    /// Lists by what it is served without its lock, and gives the output that is to come of that the next number. Want of memory
+    /// ends the session, which then leaves each topic.
+    #[tactic(auto, using(crate::proofs::Serving::number_stays))]
+    pub fn list<P: Port>(&mut self, port: &mut P) -> Option<Listing>
         requires { is_over self.old ≡ false }
-        ensures pumps { Pumps self.old result.output self.new }
-        ensures step { P.sole port.old → (how : Result More PumpFault) × PumpStep (λ why. P.refuses port.old why port.new) (play self.old.session (P.broker port.old) [])
-            how (play self.new.session (P.broker port.new) (bytes_of_output result.output)) }
-        ensures ended { result.ended ≡ self.new.ended }
+        ensures lists { IfSome result (λ listing. Lists self.old listing.number listing.list self.new) }
+        ensures refused { IfNone result (self.new ≡ without_memory self.old) }
+        ensures left { IfNone result (P.sole port.old → P.broker port.new ≡ left_all (P.broker port.old) self.old.session.number) }
+        ensures same { IfSome result (λ _. P.sole port.old → P.broker port.new ≡ P.broker port.old) }
     {
-        let mut bytes = Vec::new(self.alloc);
-        let pumped = self.session.pump(port, &mut bytes);
-        self.more = matches!(&pumped, Ok(More::Yes));
-        self.ended = matches!(&pumped, Err(PumpFault::Ended(_)));
-        let output = self.number(bytes);
-        Pumped {
-            output,
-            ended: self.ended,
-        }
+        let Ok(list) = self.session.list() else {
+            self.served(&Err(PumpFault::Ended(Fault::NoMemory)));
+            self.session.end(port);
+            return None;
+        };
+        let number = self.next;
+        self.next = number + 1;
+        Some(Listing {
+            alloc: self.alloc,
+            list,
+            number,
+        })
+    }
+
+    /// Takes in what the serving of its list answered. Answers whether the session has ended, by that or since it was listed.
+    #[tactic(auto, using(crate::proofs::Serving::client_is))]
+    pub fn served(&mut self, answer: &Result<More, PumpFault>) -> bool
+        ensures served { self.new ≡ as_served self.old answer.now }
+        ensures ended { result ≡ self.new.ended }
+    {
+        self.session.end_as_served(answer);
+        self.more = is_more(answer);
+        self.ended = has_ended(self.ended, &self.session);
+        self.ended
     }
 
     // These bytes as an output of the next number. No byte is none.
@@ -161,12 +176,9 @@ impl Numbered {
         requires number { self.old.next < 2 ^ 62 }
         ensures { Numbers self.old bytes.items result self.new }
     {
-        if bytes.is_empty() {
-            return None;
-        }
-        let number = self.next;
+        let output = output_of(self.next, bytes)?;
         self.next += 1;
-        Some(Output { number, bytes })
+        Some(output)
     }
 
     /// No further turn is made, and the session leaves each topic.
@@ -183,4 +195,30 @@ impl Numbered {
     {
         self.ended = true;
     }
+}
+
+/// Whether what was served stopped at a bound of its own.
+fn is_more(answer: &Result<More, PumpFault>) -> bool
+    ensures { result ≡ is_more answer.now }
+{
+    matches!(answer, Ok(More::Yes))
+}
+
+/// Whether it has ended, as was known or by its session.
+fn has_ended(ended: bool, session: &Session) -> bool
+    ensures { result ≡ (ended || is_some session.now.fault) }
+{
+    ended || session.fault().is_some()
+}
+
+/// These bytes as the output of a number. No byte is none.
+pub(crate) fn output_of(number: u64, bytes: Vec<u8>) -> Option<Output>
+    requires whole { AreFrames bytes.items }
+    requires small { number < 2 ^ 62 }
+    ensures { IsOutput number bytes.items result }
+{
+    if bytes.is_empty() {
+        return None;
+    }
+    Some(Output { number, bytes })
 }

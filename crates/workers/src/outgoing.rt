@@ -95,4 +95,17 @@ impl<W: Write> Outgoing<W> {
         self.next = output.number + 1;
         Ok(())
     }
+
+    /// Passes over a number that no output has, behind the replies of smaller numbers that stand in the ring.
+    pub fn pass_over(&mut self, number: u64) -> io::Result<()>
+        requires { number < 2 ^ 62 }
+        ensures ring { SameConsumer self.old.replies self.new.replies }
+        ensures wrote { OnOk result (Wrote W.contents self.old self.new) }
+        ensures behind { OnOk result (NoneBelow number (known_items self.new.replies)) }
+        ensures passed { OnOk result (number < self.new.next) }
+    {
+        self.write_below(number)?;
+        self.next = self.next.max(number + 1);
+        Ok(())
+    }
 }

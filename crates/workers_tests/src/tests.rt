@@ -2,12 +2,18 @@
 // test looks at the session's fault before it looks at what came out.
 mod desk;
 mod limits;
+mod meanwhile;
 mod one_thread;
 mod places;
 mod sockets;
 mod streams;
 
 use session::{Fault, Session};
+use std::sync::atomic::{AtomicBool, Ordering};
+use std::thread;
+
+// How long a thread waits for another one, in turns.
+const TURNS: u32 = 100_000;
 
 // Of a client.
 const CONNECT: &[u8] = b"\0\0\0\x0d\0\0\0\x09\x08\x02\x12\x05\x0a\x01c\x20\x05";
@@ -28,4 +34,15 @@ fn ample(session: &Session) -> Result<(), Fault> {
         Some(Fault::NoMemory) => Err(Fault::NoMemory),
         _ => Ok(()),
     }
+}
+
+// Waits until a flag is set, for so many turns at most.
+fn waits_for(flag: &AtomicBool) -> bool {
+    for _ in 0..TURNS {
+        if flag.load(Ordering::SeqCst) {
+            return true;
+        }
+        thread::yield_now();
+    }
+    false
 }

@@ -5,9 +5,10 @@ use bytes::Bytes;
 use commands::Reply;
 use ids::MessageId;
 use names::TopicName;
+use permits::{Granter, TooManyPermits};
 use session::{Found, Port, PumpFault};
 use std::alloc::{AllocError, Global};
-use topic_core::{Answer, Outgoing, ReadError, TooManyPermits, TopicCommand};
+use topic_core::{Answer, Outgoing, ReadError, TopicCommand};
 
 /// The size of the metadata, the metadata (producer `p`, sequence id 0, time 8000) and the payload 5.
 const ENTRY: &[u8] = b"\0\0\0\x0a\x0a\x01p\x10\0\x18\x01\xc0>\x05";
@@ -22,8 +23,8 @@ pub enum Outage {
     Device,
 }
 
-/// A broker that tells names apart by their last byte. A FLOW that reaches it brings too many permits, and each command but
-/// PRODUCER and SUBSCRIBE finds no memory: either ends the session.
+/// A broker that tells names apart by their last byte. A FLOW of a consumer without a granter brings too many permits, and each
+/// command but PRODUCER and SUBSCRIBE finds no memory: either ends the session.
 #[derive(Drop)]
 pub struct Board {
     /// The last byte of each topic's name, by its number.
@@ -35,6 +36,14 @@ pub struct Board {
     pub due: Option<Reply>,
     /// What the next dispatches answer, the last one first: a message, or why there is none. Behind them there is no message.
     pub dispatches: Vec<Option<PumpFault>>,
+    /// The granter of the next consumer, where the session is to keep it.
+    pub granter: Option<Granter>,
+    /// How many permits the granter of the last FLOW granted.
+    pub granted: u64,
+    /// How often it was asked to look for permits.
+    pub looks: u32,
+    /// The consumer whose permits it was asked to look for last, and how many dispatches were to come then.
+    pub looked: Option<(u64, usize)>,
     /// How often it was asked whether a topic is quiet.
     pub questions: u32,
     /// The session that left last.
@@ -49,6 +58,10 @@ impl Board {
             outage: None,
             due: None,
             dispatches: Vec::new(alloc),
+            granter: None,
+            granted: 0,
+            looks: 0,
+            looked: None,
             questions: 0,
             left: None,
         }
@@ -187,14 +200,29 @@ impl Port for Board {
         }
     }
 
+    fn take_granter(&mut self) -> Option<Granter> {
+        self.granter.take()
+    }
+
     fn grant(
         &mut self,
         _topic: u64,
         _who: u64,
         _consumer_id: u64,
-        _permits: u32,
+        granter: &mut Option<Granter>,
+        permits: u32,
     ) -> Result<(), TooManyPermits> {
-        Err(TooManyPermits)
+        let Some(granter) = granter else {
+            return Err(TooManyPermits);
+        };
+        granter.grant(u64::from(permits))?;
+        self.granted = granter.count();
+        Ok(())
+    }
+
+    fn look(&mut self, _topic: u64, _who: u64, consumer_id: u64) {
+        self.looks = self.looks.saturating_add(1);
+        self.looked = Some((consumer_id, self.dispatches.len()));
     }
 
     fn dispatch(

@@ -1,61 +1,13 @@
-use super::{CONNECT, PING, PONG, SUBSCRIBE, Stage};
-use commands::Reply;
+use super::{PING, PONG, RECEIPT_AND_MESSAGE, SUBSCRIBE, SUBSCRIBE_NEXT, Stage};
 use disk::FileId;
-use ids::MessageId;
 use session::{Fault, More, PumpFault};
-use std::alloc::{AllocError, Global};
+use std::alloc::Global;
 use std::process::Abort;
 use std::test::Fail;
-
-// RECEIPT of the first entry to producer 1, and MESSAGE for consumer 2 behind it.
-const RECEIPT_AND_MESSAGE: &[u8] =
-    b"\0\0\0\x12\0\0\0\x0e\x08\x07\x3a\x0a\x08\x01\x10\0\x1a\x04\x08\0\x10\0\
-\0\0\0\x1e\0\0\0\x0c\x08\x09\x4a\x08\x08\x02\x12\x04\x08\0\x10\0\0\0\0\x0a\x0a\x01p\x10\0\x18\x01\xc0>\x05";
 
 // MESSAGE for consumer 2 with the first entry.
 const MESSAGE: &[u8] =
     b"\0\0\0\x1e\0\0\0\x0c\x08\x09\x4a\x08\x08\x02\x12\x04\x08\0\x10\0\0\0\0\x0a\x0a\x01p\x10\0\x18\x01\xc0>\x05";
-
-// SUBSCRIBE of consumer 3, to the same subscription.
-const SUBSCRIBE_NEXT: &[u8] =
-    b"\0\0\0\x27\0\0\0\x23\x08\x04\x22\x1f\x0a\x12persistent://a/b/c\x12\x01s\x18\0\x20\x03\x28\x08\x68\x01";
-
-impl Stage {
-    // A consumer for each of these, and dispatches to come, the last one first.
-    fn begin(
-        &mut self,
-        consumers: &[&[u8]],
-        dispatches: &[Option<PumpFault>],
-    ) -> Result<(), Fault> {
-        self.feed(CONNECT)?;
-        for subscribe in consumers {
-            self.feed(subscribe)?;
-        }
-        match self.lay(dispatches) {
-            Ok(()) => Ok(()),
-            Err(_) => Err(Fault::NoMemory),
-        }
-    }
-
-    fn lay(&mut self, dispatches: &[Option<PumpFault>]) -> Result<(), AllocError> {
-        for dispatch in dispatches {
-            self.board.dispatches.push(*dispatch)?;
-        }
-        Ok(())
-    }
-
-    // A receipt is due.
-    fn owe(&mut self) {
-        self.board.due = Some(Reply::SendReceipt {
-            producer_id: 1,
-            sequence_id: 0,
-            message_id: MessageId {
-                ledger_id: 0,
-                entry_id: 0,
-            },
-        });
-    }
-}
 
 // How the first pump went whose second dispatch fails so, and whether it handed out what it had; then the same of the next one;
 // and whether a PING behind them is answered.

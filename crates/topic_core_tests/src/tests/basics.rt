@@ -5,6 +5,7 @@ ghost use Rattle.topic_core_tests.specs.Matching.{AreMatched};
 use super::{PLAIN, Seen, Topic, producer, refusal, send, subscribe};
 use disk::{CrashShelf, FileId, Fuse, Shelf};
 use gated_log::Refusal;
+use permits::BothEnds;
 use std::alloc::Global;
 use std::test::Fail;
 use topic_core::{
@@ -128,7 +129,7 @@ fn a_file_cut_behind_an_open_topic_is_damage(rt: HostRuntime) -> Result<(), Fail
 }
 
 // Whether session 0 has its producer, and session 1 its consumer.
-fn has(core: &TopicCore) -> (bool, bool) {
+fn has(core: &TopicCore<BothEnds>) -> (bool, bool) {
     (core.has_producer(0, 1), core.has_consumer(1, 5))
 }
 
@@ -157,7 +158,7 @@ fn what_a_session_had_goes_with_it(rt: HostRuntime) -> Result<(), Fail> {
 const MOST_BYTES: usize = 16_777_216;
 
 // Whether there is room for so many bytes beside what waits, and for one more.
-fn room(core: &TopicCore, len: usize) -> (bool, bool)
+fn room(core: &TopicCore<BothEnds>, len: usize) -> (bool, bool)
     requires { len ≤ 16777216 }
 {
     (core.has_room(len), core.has_room(len + 1))

@@ -4,6 +4,7 @@ ghost use Rattle.topic_core_tests.specs.Matching.{AreMatched};
 use super::{PLAIN, Topic, position_in, producer, send, subscribe};
 use disk::CrashShelf;
 use gated_log::Refusal;
+use permits::BothEnds;
 use std::alloc::{AllocError, Global};
 use std::test::Fail;
 use topic_core::{AtHand, TopicCore};
@@ -12,7 +13,7 @@ use topic_core::{AtHand, TopicCore};
 type Told = (bool, Option<u64>);
 
 // What is at hand for session 1's consumer 5, which gets a permit.
-fn at_hand(core: &mut TopicCore) -> Result<Told, AllocError> {
+fn at_hand(core: &mut TopicCore<BothEnds>) -> Result<Told, AllocError> {
     if core.grant(1, 5, 1).is_err() {
         return Ok((false, None));
     }
@@ -57,7 +58,7 @@ fn read(topic: &mut Topic) -> Result<(Told, Option<u64>), Refusal> {
 }
 
 // The position of a message whose entry is at hand. One that has to be read had no place, for want of memory.
-fn next_at_hand(core: &mut TopicCore) -> Result<Option<u64>, AllocError> {
+fn next_at_hand(core: &mut TopicCore<BothEnds>) -> Result<Option<u64>, AllocError> {
     match at_hand(core)? {
         (false, position) => Ok(position),
         (true, _) => Err(AllocError),

@@ -77,7 +77,11 @@ fn receives<P: Port>(alloc: Global, port: &mut P, who: u64, topic: u64) -> Resul
     if topic >= port.topics() {
         return Ok(false);
     }
-    if port.grant(topic, who, 5, 1).is_err() {
+    let mut granter = port.take_granter();
+    if topic >= port.topics() {
+        return Ok(false);
+    }
+    if port.grant(topic, who, 5, &mut granter, 1).is_err() {
         return Ok(false);
     }
     if topic >= port.topics() {

@@ -1,5 +1,7 @@
-// What the ports of two sending sessions settle. Whoever waits goes on up to a limit of turns, so allocations of these tests are not refused in turn.
+// What the ports of two sending sessions settle, and that nobody waits for a session that is pumped or served. Whoever waits goes on up to a limit of turns, so allocations of these tests are not refused in turn.
+mod flows;
 mod pumped;
+mod talk;
 mod waiting_port;
 
 ghost use Rattle.topic_lock.specs.Ledgers.{IsOf};

@@ -1,26 +1,75 @@
+use super::waits_for;
 use commands::Reply;
 use names::TopicName;
+use permits::{Granter, TooManyPermits};
 use rtrb::{Finished, Producer};
 use session::{Found, Port};
 use std::io::{Read, Write};
+use std::sync::atomic::{AtomicBool, Ordering};
 use std::sync::{Mutex, Wait};
-use topic_core::{Answer, Outgoing as Sent, ReadError, TooManyPermits, TopicCommand};
+use topic_core::{Answer, Outgoing as Sent, ReadError, TopicCommand};
 use topic_lock::Turns;
 use workers::{Numbered, Outgoing, Output, PortAtRest, Turnstile, read_loop, write_loop};
 
-/// A broker of one topic, which owes the session so many replies, all alike, and answers commands without working them.
+/// Where a desk is held that owes a reply, until it may go on.
 #[derive(Drop)]
-pub struct Desk {
-    pub due: u32,
+pub struct Gate {
+    pub is_held: AtomicBool,
+    pub may_go_on: AtomicBool,
 }
 
-impl Turns for Desk {
+impl Gate {
+    pub fn new() -> Gate {
+        Gate {
+            is_held: AtomicBool::new(false),
+            may_go_on: AtomicBool::new(false),
+        }
+    }
+
+    // Waits until it may go on, for so many turns at most, and answers whether it may.
+    fn hold(&self) -> bool {
+        self.is_held.store(true, Ordering::SeqCst);
+        waits_for(&self.may_go_on)
+    }
+}
+
+/// A broker of one topic, of whatever name, which owes the session so many replies, all alike, and answers commands without working
+/// them. It takes each permit.
+#[derive(Drop)]
+pub struct Desk<'g> {
+    pub due: u32,
+    pub gate: Option<&'g Gate>,
+    /// Whether it was let go on, each time that it was held.
+    pub was_let: bool,
+}
+
+impl<'g> Desk<'g> {
+    /// One that is never held.
+    pub fn new() -> Desk<'g> {
+        Desk {
+            due: 0,
+            gate: None,
+            was_let: true,
+        }
+    }
+
+    /// One that owes a reply, and is held here.
+    pub fn held(gate: &'g Gate) -> Desk<'g> {
+        Desk {
+            due: 1,
+            gate: Some(gate),
+            was_let: true,
+        }
+    }
+}
+
+impl<'g> Turns for Desk<'g> {
     fn begin_turn(&mut self) {}
 
     fn end_turn(&mut self) {}
 }
 
-impl PortAtRest for Desk {
+impl<'g> PortAtRest for Desk<'g> {
     fn read<I: Read, G: Turnstile, R: Wait>(
         self,
         rt: &R,
@@ -30,7 +79,7 @@ impl PortAtRest for Desk {
         input: &mut I,
         buffer: &mut [u8],
         replies: Producer<Output>,
-    ) -> (Desk, Option<Finished<Output>>) {
+    ) -> (Desk<'g>, Option<Finished<Output>>) {
         let mut desk = self;
         let finished = read_loop(rt, number, gate, session, input, buffer, &mut desk, replies);
         (desk, finished)
@@ -43,14 +92,14 @@ impl PortAtRest for Desk {
         gate: &G,
         session: &Mutex<Numbered>,
         outgoing: &mut Outgoing<W>,
-    ) -> Desk {
+    ) -> Desk<'g> {
         let mut desk = self;
         let _ = write_loop(rt, number, gate, session, &mut desk, outgoing);
         desk
     }
 }
 
-impl Port for Desk {
+impl<'g> Port for Desk<'g> {
     ghost use Rattle.std.specs.Prelude.{None, []};
     ghost use Rattle.session.specs.Broker.{Broker};
 
@@ -85,7 +134,7 @@ impl Port for Desk {
     }
 
     fn find(&mut self, _name: &TopicName) -> Found {
-        Found::TooMany
+        Found::Topic(0)
     }
 
     fn command(&mut self, _topic: u64, _who: u64, command: TopicCommand) -> Answer {
@@ -110,15 +159,22 @@ impl Port for Desk {
         }
     }
 
+    fn take_granter(&mut self) -> Option<Granter> {
+        None
+    }
+
     fn grant(
         &mut self,
         _topic: u64,
         _who: u64,
         _consumer_id: u64,
+        _granter: &mut Option<Granter>,
         _permits: u32,
     ) -> Result<(), TooManyPermits> {
-        Err(TooManyPermits)
+        Ok(())
     }
+
+    fn look(&mut self, _topic: u64, _who: u64, _consumer_id: u64) {}
 
     fn dispatch(
         &mut self,
@@ -144,6 +200,9 @@ impl Port for Desk {
     fn collect(&mut self, _topic: u64, _who: u64) -> Option<Reply> {
         if self.due == 0 {
             return None;
+        }
+        if let Some(gate) = self.gate {
+            self.was_let = gate.hold() && self.was_let;
         }
         self.due -= 1;
         Some(Reply::Success { request_id: 7 })

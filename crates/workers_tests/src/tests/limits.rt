@@ -76,8 +76,8 @@ fn serve<R: Threads + Wait + Sync>(
         &ReaderGate::new(rt, bells, session, 0),
         &WriterGate::new(rt, bells, session, 0),
         &HangUp::new(bells, line),
-        Desk { due: 0 },
-        Desk { due: 0 },
+        Desk::new(),
+        Desk::new(),
     );
     match served.end? {
         Some((outgoing, _)) => Ok(outgoing.writer.bytes),

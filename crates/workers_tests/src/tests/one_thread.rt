@@ -8,7 +8,7 @@ use std::io;
 use std::sync::Mutex;
 use std::sync::atomic::AtomicU64;
 use std::test::Fail;
-use workers::{Numbered, Outgoing, Output, Pumped, read_loop};
+use workers::{Listing, Numbered, Outgoing, Output, Pumped, read_loop};
 
 // Above each number of an output.
 const ABOVE: u64 = 1 << 62;
@@ -17,7 +17,7 @@ const ABOVE: u64 = 1 << 62;
 #[derive(Drop)]
 struct Feeder {
     numbered: Numbered,
-    desk: Desk,
+    desk: Desk<'static>,
     replies: Producer<Output>,
 }
 
@@ -25,7 +25,7 @@ struct Feeder {
 fn over_a_ring(alloc: Global, places: usize) -> Result<(Feeder, Consumer<Output>), AllocError> {
     let (replies, ring) = RingBuffer::new(alloc, places)?;
     let numbered = Numbered::new(alloc, Session::new(alloc, 3));
-    let desk = Desk { due: 0 };
+    let desk = Desk::new();
     let feeder = Feeder {
         numbered,
         desk,
@@ -35,6 +35,22 @@ fn over_a_ring(alloc: Global, places: usize) -> Result<(Feeder, Consumer<Output>
 }
 
 impl Feeder {
+    // What a turn of the writer is served by, where so many replies are due.
+    fn list(&mut self, due: u32) -> Option<Listing> {
+        if self.numbered.is_over() {
+            return None;
+        }
+        self.desk.due = due;
+        self.numbered.list(&mut self.desk)
+    }
+
+    // What that gives. Tells, too, whether the session has ended.
+    fn serve(&mut self, listing: Listing) -> (Pumped, bool) {
+        let pumped = listing.serve(&mut self.desk);
+        let ended = self.numbered.served(&pumped.answer);
+        (pumped, ended)
+    }
+
     // Whether the session goes on behind these bytes.
     fn feed(&mut self, bytes: &[u8]) -> bool {
         if self.replies.slots() == 0 {
@@ -46,21 +62,24 @@ impl Feeder {
         self.numbered.feed(bytes, &mut self.desk, &mut self.replies)
     }
 
-    // What a pump gives, where so many replies are due.
-    fn pump(&mut self, due: u32) -> Option<Output> {
-        if self.numbered.is_over() {
-            return None;
-        }
-        self.desk.due = due;
-        let Pumped { output, ended: _ } = self.numbered.pump(&mut self.desk);
-        output
+    // What a turn of the writer gives, where so many replies are due.
+    fn pump(&mut self, due: u32) -> Option<Pumped> {
+        let listing = self.list(due)?;
+        let (pumped, _) = self.serve(listing);
+        Some(pumped)
     }
 }
 
 // Feeds, pumps and feeds, and writes what was pumped, and then the rest. Tells how many bytes stood written in between.
 fn write_between(feeder: &mut Feeder, outgoing: &mut Outgoing<Vec<u8>>) -> io::Result<usize> {
     feeder.feed(CONNECT);
-    let Some(output) = feeder.pump(1) else {
+    let Some(
+        Pumped {
+            output: Some(output),
+            ..
+        },
+    ) = feeder.pump(1)
+    else {
         return Ok(0);
     };
     feeder.feed(PING);
@@ -92,6 +111,79 @@ fn writes_outputs_in_the_order_of_their_numbers(rt: HostRuntime) -> Result<(), F
         None => false,
     };
     assert!(rt; is_in_order);
+    Ok(())
+}
+
+// Feeds, serves nothing and feeds, and passes over the number of what was served. Tells how many bytes stood written in between.
+fn pass_between(feeder: &mut Feeder, outgoing: &mut Outgoing<Vec<u8>>) -> io::Result<usize> {
+    feeder.feed(CONNECT);
+    let Some(
+        Pumped {
+            number,
+            output: None,
+            ..
+        },
+    ) = feeder.pump(0)
+    else {
+        return Ok(0);
+    };
+    feeder.feed(PING);
+    outgoing.pass_over(number)?;
+    let written = outgoing.writer.len();
+    outgoing.write_below(ABOVE)?;
+    Ok(written)
+}
+
+// A number whose turn gives nothing stands unwritten for nobody.
+#[test]
+fn passes_over_a_number_without_an_output(rt: HostRuntime) -> Result<(), Fail> {
+    let (mut feeder, ring) = over_a_ring(rt.alloc(), 4)?;
+    let mut outgoing = Outgoing {
+        writer: Vec::with_capacity(rt.alloc(), 100)?,
+        replies: ring,
+        next: 0,
+        replied: 0,
+    };
+    let written = pass_between(&mut feeder, &mut outgoing);
+    ample(feeder.numbered.session())?;
+    let next = feeder.numbered.next();
+    let Outgoing {
+        writer,
+        next: passed,
+        ..
+    } = outgoing;
+    drop(feeder);
+    assert_eq!(rt; written.ok(), Some(CONNECTED.len()));
+    assert_eq!(rt; (next, passed), (3, 3));
+    assert!(rt; writer.ends_with(PONG));
+    Ok(())
+}
+
+// Lists the session, and then has its reader feed a second CONNECT, which ends it, or end it. Tells whether the turn finds that.
+fn ends_meanwhile(feeder: &mut Feeder, by_a_fault: bool) -> Option<bool> {
+    feeder.feed(CONNECT);
+    let listing = feeder.list(1)?;
+    if by_a_fault {
+        feeder.feed(CONNECT);
+    } else {
+        feeder.numbered.end(&mut feeder.desk);
+    }
+    let (_, ended) = feeder.serve(listing);
+    Some(ended)
+}
+
+// A session that its reader ended while it was served doesn't go on.
+#[test]
+fn ends_where_its_reader_ended_it_meanwhile(rt: HostRuntime) -> Result<(), Fail> {
+    for by_a_fault in [true, false] {
+        let (mut feeder, ring) = over_a_ring(rt.alloc(), 4)?;
+        let ended = ends_meanwhile(&mut feeder, by_a_fault);
+        ample(feeder.numbered.session())?;
+        let is_over = feeder.numbered.is_over();
+        drop(feeder);
+        drop(ring);
+        assert_eq!(rt; (ended, is_over), (Some(true), true));
+    }
     Ok(())
 }
 

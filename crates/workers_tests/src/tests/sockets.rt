@@ -30,8 +30,8 @@ fn serve<R: Threads + Wait + Sync>(
         &ReaderGate::new(rt, bells, session, 7),
         &WriterGate::new(rt, bells, session, 7),
         &Parting::new(bells, 7, socket),
-        Desk { due: 0 },
-        Desk { due: 0 },
+        Desk::new(),
+        Desk::new(),
     );
     served.end.is_ok()
 }

@@ -7,8 +7,8 @@ use Rattle.session.proofs.Noting.{remove-insert}
 use Rattle.session.proofs.Places.{position-within}
 use Rattle.session.proofs.consuming.keep_if.Goals as goal
 
-pub returns-then-not-accepted : goal.returns-then-not-accepted
-returns-then-not-accepted c = λ earlier id topic at is.
+pub returns-then-not-accepted-clause-entry : goal.returns-then-not-accepted-clause-entry
+returns-then-not-accepted-clause-entry g c = λ earlier id topic at is.
     let place = position_or_len (λ (entry : Entry). nat_lt id entry.id) earlier in
     let entry : Entry = record { id = id; topic = topic } in
     let gone : remove (insert earlier place entry) place ≡ earlier = remove-insert earlier place entry (position-within (λ (entry : Entry). nat_lt id entry.id) earlier) in

@@ -5,10 +5,10 @@ use Rattle.subscriptions.proofs.Numbered.{place_from}
 use Rattle.subscriptions.proofs.consumers.number.Given as goal
 
 abbrev pub invariant-loop-place : goal.invariant-loop-place
-invariant-loop-place l = record {
+invariant-loop-place g l = record {
   within : l.place ≤ length l.consumers;
   places : (k : ConsumerKey) → place_in l.places k ≡ numbered (place_from l.place k l.consumers) (place_in l.initial.places k);
 }
 
 abbrev pub decreases-loop-place : goal.decreases-loop-place
-decreases-loop-place l = l.place
+decreases-loop-place g l = l.place

@@ -7,10 +7,10 @@ use Rattle.subscriptions.proofs.Passed.{hints_at, hints_set}
 use Rattle.subscriptions.proofs.table.leave_all.Goals as goal
 
 pub loop-i-init : goal.loop-i-init
-loop-i-init c = record { left = refl; places = c.requires; hints = λ slots are. are }
+loop-i-init g c = record { left = refl; places = c.requires; hints = λ slots are. are }
 
 pub loop-i-preserved : goal.loop-i-preserved
-loop-i-preserved c = record {
+loop-i-preserved g c = record {
   left = firsts-next (λ s. left_on c.args.who s) c.loop-i.i _ _ c.index_mut-sub.result.now _ c.loop-i.invariant.left c.index_mut-sub.ensures.value c.leave_one.ensures.left;
   places = length-set c.loop-i.hints.items c.loop-i.i c.leave_one.new.hints ∙ c.loop-i.invariant.places ∙ sym (length-set c.loop-i.subs.items c.loop-i.i c.leave_one.new.sub);
   hints = λ slots are.
@@ -22,4 +22,4 @@ loop-i-preserved c = record {
 }
 
 pub returns-clause-left : goal.returns-clause-left
-returns-clause-left c = c.loop-i.invariant.left ∙ firsts-all (λ s. left_on c.args.who s) c.loop-i.i _ (omega arith)
+returns-clause-left g c = c.loop-i.invariant.left ∙ firsts-all (λ s. left_on c.args.who s) c.loop-i.i _ (omega arith)

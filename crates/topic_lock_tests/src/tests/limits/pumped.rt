@@ -3,10 +3,11 @@ ghost use Rattle.std.specs.Prelude.{◌≡◌};
 ghost use Rattle.topic_lock.specs.Ledgers.{IsOf};
 
 use super::super::{TURNS, flush_first, new_broker, waits_for};
-use super::waiting_port::WaitingPort;
+use super::talk::{RECEIPT, SEND, feed, greet};
+use super::waiting_port::{Pause, WaitingPort};
 use disk_mem::MemShelf;
 use gated_log::Refusal;
-use session::{Fault, Port, Session};
+use session::{Port, Session};
 use std::alloc::Global;
 use std::marker::Brand;
 use std::sync::Wait;
@@ -16,19 +17,8 @@ use std::thread;
 use std::thread::Threads;
 use topic_core::FileStores;
 use topic_lock::{
-    Blanks, Flusher, Ledgers, RestingPort, Seat, SharedBroker, Tallies, Turns, empty_places,
+    Blanks, Flusher, Ledgers, RestingPort, Seat, SharedBroker, Tallies, empty_places,
 };
-
-const CONNECT: &[u8] = b"\0\0\0\x0d\0\0\0\x09\x08\x02\x12\x05\x0a\x01c\x20\x05";
-
-// Of the topic `persistent://a/b/c`, as producer 1.
-const PRODUCER: &[u8] =
-    b"\0\0\0\x20\0\0\0\x1c\x08\x05\x2a\x18\x0a\x12persistent://a/b/c\x10\x01\x18\x07";
-
-const SEND: &[u8] =
-    b"\0\0\0\x1a\0\0\0\x08\x08\x06\x32\x04\x08\x01\x10\0\0\0\0\x0a\x0a\x01p\x10\0\x18\x01\xc0>\x05";
-
-const RECEIPT: &[u8] = b"\0\0\0\x12\0\0\0\x0e\x08\x07\x3a\x0a\x08\x01\x10\0\x1a\x04\x08\0\x10\0";
 
 // A port over topics in memory, at rest.
 type MemPort<'p, 'a, K, R> = RestingPort<'p, 'a, FileStores, MemShelf, K, R>;
@@ -39,37 +29,6 @@ struct Gate {
     is_held: AtomicBool,
     is_told: AtomicBool,
     is_over: AtomicBool,
-}
-
-// What ended a session, where memory was refused.
-fn refusal(fault: Fault) -> Refusal {
-    match fault {
-        Fault::NoMemory => Refusal::NoMemory,
-        _ => Refusal::Device,
-    }
-}
-
-// Feeds a session in one turn.
-fn feed<P: Port + Turns>(
-    session: &mut Session,
-    bytes: &[u8],
-    port: &mut P,
-    out: &mut Vec<u8>,
-) -> Result<(), Refusal> {
-    port.begin_turn();
-    let fed = session.feed(bytes, port, out);
-    port.end_turn();
-    fed.map_err(refusal)
-}
-
-// CONNECT, and a producer of the topic.
-fn greet<P: Port + Turns>(
-    session: &mut Session,
-    port: &mut P,
-    out: &mut Vec<u8>,
-) -> Result<(), Refusal> {
-    feed(session, CONNECT, port, out)?;
-    feed(session, PRODUCER, port, out)
 }
 
 // Pumps the first session, which is held in `collect` until the second one has its receipt. Answers whether it was let go on.
@@ -84,6 +43,7 @@ fn is_held<'p, 'a, K: Tallies, R: Wait>(
     let greeted = greet(&mut session, &mut port, &mut out);
     let mut waiting = WaitingPort {
         port,
+        pause: Pause::BeforeCollecting,
         is_held: &gate.is_held,
         may_go_on: &gate.is_told,
         was_let: true,
@@ -99,7 +59,7 @@ fn is_held<'p, 'a, K: Tallies, R: Wait>(
 }
 
 // Sends in the second session, and pumps until the receipt is there, for so many turns at most.
-fn is_receipted<P: Port + Turns>(alloc: Global, port: &mut P) -> Result<bool, Refusal> {
+fn is_receipted<P: Port>(alloc: Global, port: &mut P) -> Result<bool, Refusal> {
     let mut session = Session::new(alloc, 1);
     let mut out = Vec::new(alloc);
     greet(&mut session, port, &mut out)?;

@@ -1,18 +1,49 @@
+ghost use Rattle.std.specs.Prelude.{◌≡◌};
+
 use super::super::waits_for;
 use commands::Reply;
 use names::TopicName;
+use permits::{Granter, TooManyPermits};
 use session::{Found, Port};
 use std::sync::atomic::{AtomicBool, Ordering};
-use topic_core::{Answer, Outgoing, ReadError, TooManyPermits, TopicCommand};
+use topic_core::{Answer, Outgoing, ReadError, TopicCommand};
 
-/// A port whose `collect` waits, before it takes a topic's lock, until another session was told what it waited for.
+/// Where a port waits.
+#[derive(Clone, Copy, Debug, PartialEq, Eq)]
+pub enum Pause {
+    /// In `collect`, before it takes a topic's lock.
+    BeforeCollecting,
+    /// In `dispatch`, behind it, so that in a turn it has the topic's lock.
+    BehindDispatch,
+}
+
+/// A port that waits in one of its calls, until somebody else got what he waited for.
 #[derive(Drop)]
 pub struct WaitingPort<'g, P: Port> {
     pub port: P,
+    pub pause: Pause,
     pub is_held: &'g AtomicBool,
     pub may_go_on: &'g AtomicBool,
     /// Whether it was let go on, each time that it waited.
     pub was_let: bool,
+}
+
+impl<'g, P: Port> WaitingPort<'g, P> {
+    /// Says that it is held, and waits, where this is where it waits.
+    fn wait(&mut self, pause: Pause)
+        ensures { self.new.port ≡ self.old.port }
+    {
+        if self.pause != pause {
+            return;
+        }
+        self.is_held.store(true, Ordering::SeqCst);
+        let WaitingPort {
+            may_go_on,
+            was_let,
+            ..
+        } = self;
+        *was_let = waits_for(*may_go_on) && *was_let;
+    }
 }
 
 impl<'g, P: Port> Port for WaitingPort<'g, P> {
@@ -56,15 +87,26 @@ impl<'g, P: Port> Port for WaitingPort<'g, P> {
         port.command(topic, who, command)
     }
 
+    fn take_granter(&mut self) -> Option<Granter> {
+        let WaitingPort { port, .. } = self;
+        port.take_granter()
+    }
+
     fn grant(
         &mut self,
         topic: u64,
         who: u64,
         consumer_id: u64,
+        granter: &mut Option<Granter>,
         permits: u32,
     ) -> Result<(), TooManyPermits> {
         let WaitingPort { port, .. } = self;
-        port.grant(topic, who, consumer_id, permits)
+        port.grant(topic, who, consumer_id, granter, permits)
+    }
+
+    fn look(&mut self, topic: u64, who: u64, consumer_id: u64) {
+        let WaitingPort { port, .. } = self;
+        port.look(topic, who, consumer_id)
     }
 
     fn dispatch(
@@ -74,7 +116,9 @@ impl<'g, P: Port> Port for WaitingPort<'g, P> {
         consumer_id: u64,
     ) -> Result<Option<Outgoing>, ReadError> {
         let WaitingPort { port, .. } = self;
-        port.dispatch(topic, who, consumer_id)
+        let sent = port.dispatch(topic, who, consumer_id);
+        self.wait(Pause::BehindDispatch);
+        sent
     }
 
     fn is_quiet(&mut self, topic: u64, who: u64) -> bool {
@@ -87,14 +131,8 @@ impl<'g, P: Port> Port for WaitingPort<'g, P> {
     }
 
     fn collect(&mut self, topic: u64, who: u64) -> Option<Reply> {
-        self.is_held.store(true, Ordering::SeqCst);
-        let WaitingPort {
-            port,
-            may_go_on,
-            was_let,
-            ..
-        } = self;
-        *was_let = waits_for(*may_go_on) && *was_let;
+        self.wait(Pause::BeforeCollecting);
+        let WaitingPort { port, .. } = self;
         port.collect(topic, who)
     }
 

@@ -14,9 +14,9 @@ pub invariant_of-self-2 : goal.invariant_of-self-2
 invariant_of-self-2 c =
     let entries = c.self.inside.entries.items in
     let one : Entry = record { id = c.args.id; topic = c.args.topic } in
-    let at : c.place_of-place.result ≡ position_or_len (λ (entry : Entry). nat_lt c.args.id entry.id) entries =
-    rw c.as_slice.ensures.value at c.place_of-place.ensures.place in
-    rw c.in_ok-insert.ensures.items (
-      noted-insert c.note.new.topics.items entries c.place_of-place.result _ c.in_ok-note.ensures.ok (c.note.ensures.kept entries c.self.invariant.0),
+    let at : c.place_behind-place.result ≡ position_or_len (λ (entry : Entry). nat_lt c.args.id entry.id) entries =
+    rw c.as_slice.ensures.value at c.place_behind-place.ensures.place in
+    rw (c.in_ok-insert.ensures.items, c.new-entry.ensures) (
+      noted-insert c.note.new.topics.items entries c.place_behind-place.result _ c.in_ok-note.ensures.ok (c.note.ensures.kept entries c.self.invariant.0),
       subst (λ place. AreRising (insert entries place one)) (sym at) (rising-with entries true c.args.id c.args.topic (rw (← c.self.view_is) at c.requires.fresh) c.self.invariant.1),
     )

@@ -1,4 +1,4 @@
-use Rattle.std.proofs.Common.{refl}
+use Rattle.std.proofs.Common.{refl, rules}
 use Rattle.session.proofs.Unknown.{grants-unknown}
 use Rattle.session.proofs.session.Session.flow.Goals as goal
 
@@ -9,7 +9,7 @@ pub returns-clause-step : goal.returns-clause-step
 returns-clause-step g c = λ s.
     rw c.in-Some.ensures.topic (record {
       result = c.grant-granted.result;
-      step = rw c.number.ensures at (c.grant-granted.ensures.step s);
-      client = c.end_if_too_many.ensures;
+      step = rw c.number-who.ensures at (c.grant-granted.ensures.step s);
+      client = search rules;
       out = refl;
     })

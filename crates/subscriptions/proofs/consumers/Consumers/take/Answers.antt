@@ -1,36 +1,45 @@
-use Rattle.std.proofs.Common.{◌≡◌, List, Some, None, ap, sym, ◌∙◌, subst, refl, rules, arith}
+use Rattle.std.proofs.Common.{◌≡◌, List, Some, None, ap, sym, ◌∙◌, set, subst, refl, rules}
 use Rattle.std.specs.List.{find, position}
-use Rattle.std.proofs.lemmas.Bool.Decides.{nat_tests}
-use Rattle.subscriptions.specs.declared.consumer.Consumer.{Consumer}
 use Rattle.subscriptions.specs.Directory.{ArePlacesAmong}
-use Rattle.subscriptions.specs.Steps.{is_consumer, first_changed, has_permit, sent_one}
-use Rattle.subscriptions.proofs.Numbered.{places_taken}
-use Rattle.subscriptions.proofs.Places.{changes, finds, stays}
-use Rattle.subscriptions.proofs.Sound.{permit_of}
+use Rattle.subscriptions.specs.State.{Consumer}
+use Rattle.subscriptions.specs.Steps.{is_consumer, first_changed, has_permit, sent_one, learnt_to, IsLearnt}
+use Rattle.subscriptions.proofs.Found.{none_permitted}
+use Rattle.subscriptions.proofs.Learning.{learnt_twice}
+use Rattle.subscriptions.proofs.Numbered.{places_learnt_to, places_taken}
+use Rattle.subscriptions.proofs.Places.{changes, finds, misses}
 use Rattle.subscriptions.proofs.consumers.Consumers.take.Goals as goal
 
-pub returns-in_default : goal.returns-in_default
-returns-in_default c =
+pub unreachable-requires : goal.unreachable-requires
+unreachable-requires g c =
     let at : position (is_consumer c.args.key) c.args.self.now ≡ None = search rules in
-    stays (is_consumer c.args.key) (λ k. sent_one k) c.args.self.now at
+    none_permitted _ (misses (is_consumer c.args.key) c.args.self.now at) c.requires
 
-pub returns : goal.returns
-returns c =
-    let at : position (is_consumer c.args.key) c.self.inside.list.items ≡ Some c.in-Some.place = search rules in
-    changes (is_consumer c.args.key) (λ k. sent_one k) c.self.inside.list.items c.in-Some.place c.index_mut-consumer.result.now _ at c.index_mut-consumer.ensures.value refl
+pub take-requires : goal.take-requires
+take-requires g c =
+    let cs = c.self.inside.list.items in
+    let at : position (is_consumer c.args.key) cs ≡ Some c.in-Some.place = search rules in
+    sym (ap has_permit (finds (is_consumer c.args.key) cs c.in-Some.place c.index_mut-consumer.result.now at c.index_mut-consumer.ensures.value))
+    ∙ ap (λ (xs : List Consumer). has_permit (find (is_consumer c.args.key) xs)) c.self.view_is ∙ c.requires
+
+pub returns-clause-learnt : goal.returns-clause-learnt
+returns-clause-learnt g c =
+    let cs = c.self.inside.list.items in
+    let at : position (is_consumer c.args.key) cs ≡ Some c.in-Some.place = search rules in
+    subst (λ (xs : List Consumer). IsLearnt (λ n. first_changed (is_consumer c.args.key) (learnt_to n) (first_changed (is_consumer c.args.key) (λ k. sent_one k) xs)) (set cs c.in-Some.place c.take.new.self)) c.self.view_is
+    (learnt_twice (is_consumer c.args.key) learnt_to (λ k. sent_one k) (λ _. refl) cs c.in-Some.place c.index_mut-consumer.result.now c.take.new.self at c.index_mut-consumer.ensures.value c.take.ensures.learnt)
+
+pub returns-clause-exact : goal.returns-clause-exact
+returns-clause-exact g c = λ e.
+    let cs = c.self.inside.list.items in
+    let at : position (is_consumer c.args.key) cs ≡ Some c.in-Some.place = search rules in
+    changes (is_consumer c.args.key) (λ k. sent_one k) cs c.in-Some.place c.index_mut-consumer.result.now c.take.new.self at c.index_mut-consumer.ensures.value (c.take.ensures.exact e)
     ∙ ap (first_changed (is_consumer c.args.key) (λ k. sent_one k)) c.self.view_is
 
 pub invariant_of-self : goal.invariant_of-self
-invariant_of-self c =
-    let at : position (is_consumer c.args.key) c.self.inside.list.items ≡ Some c.in-Some.place = search rules in
-    subst (λ (cs : List Consumer). ArePlacesAmong cs c.remember.new.self)
-    (sym (changes (is_consumer c.args.key) (λ k. sent_one k) c.self.inside.list.items c.in-Some.place c.index_mut-consumer.result.now _ at c.index_mut-consumer.ensures.value refl))
-    (places_taken c.self.inside.list.items c.remember.new.self c.args.key (subst (λ places. ArePlacesAmong c.self.inside.list.items places) (sym c.remember.ensures) c.self.invariant))
-
-pub prove-unreachable-requires : goal.prove-unreachable-requires
-prove-unreachable-requires c =
-    let at : position (is_consumer c.args.key) c.self.inside.list.items ≡ Some c.in-Some.place = search rules in
-    let found = finds (is_consumer c.args.key) c.self.inside.list.items c.in-Some.place c.index_mut-consumer.result.now at c.index_mut-consumer.ensures.value in
-    let permit = ap (λ (cs : List Consumer). has_permit (find (is_consumer c.args.key) cs)) c.self.view_is ∙ c.requires in
-    let left = permit_of c.index_mut-consumer.result.now (ap has_permit (sym found) ∙ permit) in
-    grind (arith, nat_tests, left)
+invariant_of-self g c =
+    let cs = c.self.inside.list.items in
+    let at : position (is_consumer c.args.key) cs ≡ Some c.in-Some.place = search rules in
+    let l = learnt_twice (is_consumer c.args.key) learnt_to (λ k. sent_one k) (λ _. refl) cs c.in-Some.place c.index_mut-consumer.result.now c.take.new.self at c.index_mut-consumer.ensures.value c.take.ensures.learnt in
+    let places = subst (λ places. ArePlacesAmong cs places) (sym c.remember.ensures) c.self.invariant in
+    subst (λ (xs : List Consumer). ArePlacesAmong xs c.remember.new.self) (sym l.same)
+    (places_learnt_to (first_changed (is_consumer c.args.key) (λ k. sent_one k) cs) c.remember.new.self c.args.key l.granted (places_taken cs c.remember.new.self c.args.key places))

@@ -13,27 +13,27 @@ use Rattle.subscriptions.proofs.Seats.{said_some, said_none, admits_given, gives
 use Rattle.subscriptions.proofs.subscription.Subscription.pick.Goals as goal
 
 pub unreachable-requires : goal.unreachable-requires
-unreachable-requires c =
+unreachable-requires g c =
     let cs = c.self.inside.consumers in
     let at : position (is_consumer c.args.key) cs ≡ None = search rules in
     let there = subst (λ (x : Subscription). is_on c.args.key x ≡ true) (sym c.self.view_is) c.requires.there in
     true≢false (sym there ∙ no_place (is_consumer c.args.key) cs at)
 
 pub pick-requires-clause-there : goal.pick-requires-clause-there
-pick-requires-clause-there c =
+pick-requires-clause-there g c =
     let s = subscription_of c.self.inside in
     let at : position (is_consumer c.args.key) s.consumers ≡ Some c.in-Some.place = search rules in
     place_seated c.args.key s.seats s.consumers c.self.invariant.seated ∙ at
 
 pub returns-clause-some : goal.returns-clause-some
-returns-clause-some c =
+returns-clause-some g c =
     let s = subscription_of c.self.inside in
     let Opens : ℕ → Type 0 = IsOpenAt c.args.committed s.acked s.deliveries in
     let given = subst (λ (p : State). IfSome c.pick.result (Gives s.mode s.seats c.args.key c.args.slots.now (IsOpenAt c.args.committed p.acked p.deliveries))) c.settle-first.ensures.same c.pick.ensures.some in
     rw (← c.self.view_is) (said_some c.pick.result _ _ (λ i g. admits_given s.mode c.args.key s c.args.slots.now Opens i c.self.invariant.seated g) given)
 
 pub returns-clause-none : goal.returns-clause-none
-returns-clause-none c =
+returns-clause-none g c =
     let s = subscription_of c.self.inside in
     let Opens : ℕ → Type 0 = IsOpenAt c.args.committed s.acked s.deliveries in
     let there = subst (λ (x : Subscription). is_on c.args.key x ≡ true) (sym c.self.view_is) c.requires.there in

@@ -17,13 +17,13 @@ use Rattle.subscriptions.proofs.Noted.{notes_acknowledged}
 use Rattle.subscriptions.proofs.table.Subscriptions.acknowledge.Goals as goal
 
 pub returns-in_default-clause-ok : goal.returns-in_default-clause-ok
-returns-in_default-clause-ok c =
+returns-in_default-clause-ok g c =
     let t : Subscriptions = record { subs = c.self.inside.subs.items; changes = c.self.inside.changes.items; slots = c.self.inside.slots.items } in
     let at : position (is_on c.args.key) c.self.inside.subs.items ≡ None = search rules in
     subst (λ (x : Subscriptions). x ≡ acknowledged x c.args.key c.args.positions.now) c.self.view_is (acknowledges_none t c.args.key c.args.positions.now at)
 
 pub invariant_of-self-in_default-acknowledge : goal.invariant_of-self-in_default-acknowledge
-invariant_of-self-in_default-acknowledge c =
+invariant_of-self-in_default-acknowledge g c =
     let t : Subscriptions = record { subs = c.self.inside.subs.items; changes = c.self.inside.changes.items; slots = c.self.inside.slots.items } in
     let at : position (is_on c.args.key) c.self.inside.subs.items ≡ Some c.in-Some.place = search rules in
     let grown : c.add_acknowledgements.new.changes.items ≡ c.self.inside.changes.items ++ each (λ p. Acknowledged c.index_mut-sub.result.now.name p) c.args.positions.now = search rules in
@@ -35,7 +35,7 @@ invariant_of-self-in_default-acknowledge c =
     (limits_acknowledged t c.args.key c.args.positions.now room c.self.invariant.0, hints_acknowledged t c.args.key c.args.positions.now c.self.inside.hints.items c.self.invariant.1, places_acked t.subs c.self.inside.directory c.args.key c.args.positions.now c.self.invariant.2, notes_acknowledged t.subs c.self.inside.quiet c.args.key c.args.positions.now c.self.invariant.3)
 
 pub returns-clause-ok : goal.returns-clause-ok
-returns-clause-ok c =
+returns-clause-ok g c =
     let t : Subscriptions = record { subs = c.self.inside.subs.items; changes = c.self.inside.changes.items; slots = c.self.inside.slots.items } in
     let at : position (is_on c.args.key) c.self.inside.subs.items ≡ Some c.in-Some.place = search rules in
     let grown : c.add_acknowledgements.new.changes.items ≡ c.self.inside.changes.items ++ each (λ p. Acknowledged c.index_mut-sub.result.now.name p) c.args.positions.now = search rules in

@@ -16,13 +16,13 @@ use Rattle.subscriptions.proofs.Noted.{notes_through}
 use Rattle.subscriptions.proofs.table.Subscriptions.acknowledge_through.Goals as goal
 
 pub returns-in_default-clause-ok : goal.returns-in_default-clause-ok
-returns-in_default-clause-ok c =
+returns-in_default-clause-ok g c =
     let t : Subscriptions = record { subs = c.self.inside.subs.items; changes = c.self.inside.changes.items; slots = c.self.inside.slots.items } in
     let at : position (is_on c.args.key) c.self.inside.subs.items ≡ None = search rules in
     subst (λ (x : Subscriptions). x ≡ acknowledged_through x c.args.key c.args.position) c.self.view_is (through_none t c.args.key c.args.position at)
 
 pub invariant_of-self-2 : goal.invariant_of-self-2
-invariant_of-self-2 c =
+invariant_of-self-2 g c =
     let t : Subscriptions = record { subs = c.self.inside.subs.items; changes = c.self.inside.changes.items; slots = c.self.inside.slots.items } in
     let at : position (is_on c.args.key) c.self.inside.subs.items ≡ Some c.in-Some.place = search rules in
     let grown : c.push.new.self.items ≡ c.self.inside.changes.items ++ AcknowledgedThrough c.index_mut-sub.result.now.name c.args.position ∷ [] = search rules in
@@ -33,7 +33,7 @@ invariant_of-self-2 c =
     (limits_through t c.args.key c.args.position room c.self.invariant.0, hints_through t c.args.key c.args.position c.self.inside.hints.items c.self.invariant.1, places_acked_through t.subs c.self.inside.directory c.args.key c.args.position c.self.invariant.2, notes_through t.subs c.self.inside.quiet c.args.key c.args.position c.self.invariant.3)
 
 pub returns-clause-ok : goal.returns-clause-ok
-returns-clause-ok c =
+returns-clause-ok g c =
     let t : Subscriptions = record { subs = c.self.inside.subs.items; changes = c.self.inside.changes.items; slots = c.self.inside.slots.items } in
     let at : position (is_on c.args.key) c.self.inside.subs.items ≡ Some c.in-Some.place = search rules in
     let grown : c.push.new.self.items ≡ c.self.inside.changes.items ++ AcknowledgedThrough c.index_mut-sub.result.now.name c.args.position ∷ [] = search rules in

@@ -10,15 +10,15 @@ use Rattle.subscriptions.proofs.Standing.{places_joined, places_back}
 use Rattle.subscriptions.proofs.Noted.{notes_joined}
 use Rattle.subscriptions.proofs.table.Subscriptions.attach.Goals as goal
 
-pub attach-requires : goal.attach-requires
-attach-requires c =
+pub attach-requires-clause-allowed : goal.attach-requires-clause-allowed
+attach-requires-clause-allowed g c =
     let t : Subscriptions = record { subs = c.self.inside.subs.items; changes = c.self.inside.changes.items; slots = c.self.inside.slots.items } in
     let at : position (is_named c.args.name.now) c.self.inside.subs.items ≡ Some c.in-Some.place = search rules in
     allowed_some t c.args.name.now c.args.mode c.args.seat.ranges c.in-Some.place c.index_mut-sub.result.now at c.index_mut-sub.ensures.value
     (ap (λ (x : Subscriptions). first_standing (subscribe_refusals x c.args.name.now c.args.mode c.args.seat.ranges)) c.self.view_is ∙ c.requires.allowed)
 
 pub invariant_of-self-in-Ok : goal.invariant_of-self-in-Ok
-invariant_of-self-in-Ok c =
+invariant_of-self-in-Ok g c =
     let t : Subscriptions = record { subs = c.self.inside.subs.items; changes = c.self.inside.changes.items; slots = c.self.inside.slots.items } in
     let at : position (is_named c.args.name.now) c.self.inside.subs.items ≡ Some c.in-Some.place = search rules in
     let low = (is_place (is_named c.args.name.now) c.self.inside.subs.items c.in-Some.place c.index_mut-sub.result.now at).within in
@@ -32,7 +32,7 @@ invariant_of-self-in-Ok c =
     )
 
 pub returns-in-Ok-clause-ok : goal.returns-in-Ok-clause-ok
-returns-in-Ok-clause-ok c =
+returns-in-Ok-clause-ok g c =
     let t : Subscriptions = record { subs = c.self.inside.subs.items; changes = c.self.inside.changes.items; slots = c.self.inside.slots.items } in
     let at : position (is_named c.args.name.now) c.self.inside.subs.items ≡ Some c.in-Some.place = search rules in
     let start = start_of c.args.initial c.args.committed in
@@ -40,7 +40,7 @@ returns-in-Ok-clause-ok c =
     ∙ ap (λ (x : Subscriptions). attached x c.args.name.now c.args.mode c.args.seat start) c.self.view_is
 
 pub invariant_of-self-in-Err : goal.invariant_of-self-in-Err
-invariant_of-self-in-Err c =
+invariant_of-self-in-Err g c =
     let same : set c.self.inside.subs.items c.in-Some.place c.attach.new.self ≡ c.self.inside.subs.items =
     ap (set c.self.inside.subs.items c.in-Some.place) c.in-Err.ensures.err ∙ same_at (is_named c.args.name.now) c.self.inside.subs.items c.in-Some.place c.index_mut-sub.result.now c.index_mut-sub.ensures.value in
     rw same (
@@ -51,6 +51,6 @@ invariant_of-self-in-Err c =
     )
 
 pub make-requires-clause-absent : goal.make-requires-clause-absent
-make-requires-clause-absent c =
+make-requires-clause-absent g c =
     let at : position (is_named c.args.name.now) c.self.inside.subs.items ≡ None = search rules in
     ap (λ (x : Subscriptions). position (is_named c.args.name.now) x.subs) (sym c.self.view_is) ∙ at

@@ -11,13 +11,13 @@ use Rattle.subscriptions.proofs.Noted.{notes_granted}
 use Rattle.subscriptions.proofs.table.Subscriptions.grant.Goals as goal
 
 pub returns-in_default-clause-ok : goal.returns-in_default-clause-ok
-returns-in_default-clause-ok c =
+returns-in_default-clause-ok g c =
     let t : Subscriptions = record { subs = c.self.inside.subs.items; changes = c.self.inside.changes.items; slots = c.self.inside.slots.items } in
     let at : position (is_on c.args.key) c.self.inside.subs.items ≡ None = search rules in
     subst (λ (x : Subscriptions). (grants_too_many x c.args.key c.args.permits ≡ false) × (x ≡ granted x c.args.key c.args.permits)) c.self.view_is (grants_none t c.args.key c.args.permits at)
 
 pub invariant_of-self-2 : goal.invariant_of-self-2
-invariant_of-self-2 c =
+invariant_of-self-2 g c =
     let t : Subscriptions = record { subs = c.self.inside.subs.items; changes = c.self.inside.changes.items; slots = c.self.inside.slots.items } in
     let at : position (is_on c.args.key) c.self.inside.subs.items ≡ Some c.in-Some.place = search rules in
     let new : set c.self.inside.subs.items c.in-Some.place c.grant.new.self ≡ first_changed (is_on c.args.key) (granted_on c.args.key c.args.permits) c.self.inside.subs.items =
@@ -25,7 +25,7 @@ invariant_of-self-2 c =
     rw new (limits_changed t (is_on c.args.key) (granted_on c.args.key c.args.permits) (λ _. refl) c.self.invariant.0, hints_granted t c.args.key c.args.permits c.self.inside.hints.items c.self.invariant.1, places_granted t.subs c.self.inside.directory c.args.key c.args.permits c.self.invariant.2, notes_granted t.subs c.self.inside.quiet c.forget.new.self c.args.key c.args.permits c.forget.ensures c.self.invariant.3)
 
 pub returns-clause-ok : goal.returns-clause-ok
-returns-clause-ok c =
+returns-clause-ok g c =
     let t : Subscriptions = record { subs = c.self.inside.subs.items; changes = c.self.inside.changes.items; slots = c.self.inside.slots.items } in
     let at : position (is_on c.args.key) c.self.inside.subs.items ≡ Some c.in-Some.place = search rules in (
       ap (λ (x : Subscriptions). grants_too_many x c.args.key c.args.permits) (sym c.self.view_is)
@@ -35,7 +35,7 @@ returns-clause-ok c =
     )
 
 pub returns-in_err-grant-clause-err : goal.returns-in_err-grant-clause-err
-returns-in_err-grant-clause-err c =
+returns-in_err-grant-clause-err g c =
     let t : Subscriptions = record { subs = c.self.inside.subs.items; changes = c.self.inside.changes.items; slots = c.self.inside.slots.items } in
     let at : position (is_on c.args.key) c.self.inside.subs.items ≡ Some c.in-Some.place = search rules in
     let same : set c.self.inside.subs.items c.in-Some.place c.grant.new.self ≡ c.self.inside.subs.items =

@@ -6,7 +6,7 @@ use Rattle.subscriptions.proofs.Standing.{any_place}
 use Rattle.subscriptions.proofs.table.Subscriptions.has_consumer.Goals as goal
 
 pub returns : goal.returns
-returns c =
+returns g c =
     c.is_some.ensures
     ∙ ap (λ (o : Option ℕ). is_some o) (c.of.ensures.place c.self.inside.subs.items c.self.invariant.2)
     ∙ any_place (is_on c.args.key) c.self.inside.subs.items

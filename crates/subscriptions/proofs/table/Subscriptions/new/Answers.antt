@@ -7,7 +7,7 @@ use Rattle.subscriptions.proofs.Noted.{notes_none}
 use Rattle.subscriptions.proofs.table.Subscriptions.new.Goals as goal
 
 pub invariant_of-result : goal.invariant_of-result
-invariant_of-result c =
+invariant_of-result g c =
     let t : Subscriptions = record { subs = c.new.result.items; changes = c.new-2.result.items; slots = c.new-3.result.items } in
     let nobody : t.subs ≡ [] = search rules in
     let cleared : c.new-4.result.items ≡ [] = search rules in

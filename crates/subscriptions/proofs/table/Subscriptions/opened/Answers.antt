@@ -9,7 +9,7 @@ use Rattle.subscriptions.proofs.Noted.{notes_none}
 use Rattle.subscriptions.proofs.table.Subscriptions.opened.Goals as goal
 
 pub invariant_of-result : goal.invariant_of-result
-invariant_of-result c =
+invariant_of-result g c =
     let t : Subscriptions = record { subs = c.in_ok-open_all.field-0.items; changes = c.new.result.items; slots = c.args.slots.items } in
     let known : length c.in_ok-hints.hints.items ≡ length c.args.kept.items = search rules in
     let many : length t.subs ≡ length c.args.kept.items = ap length c.in_ok-open_all.ensures ∙ length-map (pairs c.args.kept.items) opened_one ∙ length-map c.args.kept.items _ in

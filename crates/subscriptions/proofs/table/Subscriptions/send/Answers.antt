@@ -1,32 +1,29 @@
-use Rattle.std.proofs.Common.{◌≡◌, Some, None, ap, sym, ◌∙◌, refl, subst, set, rules}
+use Rattle.std.proofs.Common.{◌≡◌, List, Some, None, ap, sym, ◌∙◌, subst, set, rules}
 use Rattle.std.specs.List.{position}
 use Rattle.subscriptions.specs.State.{Subscription, Subscriptions}
-use Rattle.subscriptions.specs.Steps.{first_changed, is_on, Admits, sent, sent_on, sent_before}
-use Rattle.subscriptions.proofs.Places.{changes}
-use Rattle.subscriptions.proofs.Limits.{limits_changed}
-use Rattle.subscriptions.proofs.Found.{admits_none, admitted, changes_at, before_at}
+use Rattle.subscriptions.specs.Steps.{is_on, Admits, learnt, IsLearnt, sent, sent_before, sent_on}
+use Rattle.subscriptions.proofs.Found.{admits_none, admitted, before_at}
 use Rattle.holds.specs.Backlog.{IsOpenAt}
 use Rattle.subscriptions.proofs.Sound.{opens_of}
-use Rattle.subscriptions.proofs.Passed.{hints_sent}
-use Rattle.subscriptions.proofs.Standing.{places_sent}
-use Rattle.subscriptions.proofs.Noted.{notes_sent}
+use Rattle.subscriptions.proofs.Places.{changes}
+use Rattle.subscriptions.proofs.Learning.{kept_sent, sends_at}
 use Rattle.subscriptions.proofs.table.Subscriptions.send.Goals as goal
 
 pub unreachable-requires : goal.unreachable-requires
-unreachable-requires c =
+unreachable-requires g c =
     let t : Subscriptions = record { subs = c.self.inside.subs.items; changes = c.self.inside.changes.items; slots = c.self.inside.slots.items } in
     let at : position (is_on c.args.key) c.self.inside.subs.items ≡ None = search rules in
     admits_none t c.args.key c.args.committed c.args.position at (subst (λ (x : Subscriptions). Admits x c.args.key c.args.committed c.args.position) (sym c.self.view_is) c.requires.admitted)
 
 pub send-requires-clause-permit : goal.send-requires-clause-permit
-send-requires-clause-permit c =
+send-requires-clause-permit g c =
     let t : Subscriptions = record { subs = c.self.inside.subs.items; changes = c.self.inside.changes.items; slots = c.self.inside.slots.items } in
     let at : position (is_on c.args.key) c.self.inside.subs.items ≡ Some c.in-Some.place = search rules in
     (admitted t c.args.key c.args.committed c.args.position c.in-Some.place c.index_mut-sub.result.now at c.index_mut-sub.ensures.value
     (subst (λ (x : Subscriptions). Admits x c.args.key c.args.committed c.args.position) (sym c.self.view_is) c.requires.admitted)).permit
 
 pub send-requires-clause-is_open : goal.send-requires-clause-is_open
-send-requires-clause-is_open c =
+send-requires-clause-is_open g c =
     let t : Subscriptions = record { subs = c.self.inside.subs.items; changes = c.self.inside.changes.items; slots = c.self.inside.slots.items } in
     let s : Subscription = c.index_mut-sub.result.now in
     let at : position (is_on c.args.key) c.self.inside.subs.items ≡ Some c.in-Some.place = search rules in
@@ -35,22 +32,29 @@ send-requires-clause-is_open c =
     (subst (λ (x : Subscriptions). Admits x c.args.key c.args.committed c.args.position) (sym c.self.view_is) c.requires.admitted)).served
 
 pub invariant_of-self-2 : goal.invariant_of-self-2
-invariant_of-self-2 c =
+invariant_of-self-2 g c =
     let t : Subscriptions = record { subs = c.self.inside.subs.items; changes = c.self.inside.changes.items; slots = c.self.inside.slots.items } in
     let at : position (is_on c.args.key) c.self.inside.subs.items ≡ Some c.in-Some.place = search rules in
-    let new : set c.self.inside.subs.items c.in-Some.place c.send.new.self ≡ first_changed (is_on c.args.key) (sent_on c.args.key c.args.position) c.self.inside.subs.items =
-    changes (is_on c.args.key) (sent_on c.args.key c.args.position) c.self.inside.subs.items c.in-Some.place c.index_mut-sub.result.now c.send.new.self at c.index_mut-sub.ensures.value c.in_ok-before.ensures.ok in
-    rw new (limits_changed t (is_on c.args.key) (sent_on c.args.key c.args.position) (λ _. refl) c.self.invariant.0, hints_sent t c.args.key c.args.position c.self.inside.hints.items c.self.invariant.1, places_sent t.subs c.self.inside.directory c.args.key c.args.position c.self.invariant.2, notes_sent t.subs c.self.inside.quiet c.args.key c.args.position c.self.invariant.3)
+    kept_sent t c.args.key c.args.position c.in-Some.place c.index_mut-sub.result.now c.send.new.self c.self.inside.hints.items c.self.inside.directory c.self.inside.quiet c.forget.new.self c.forget.ensures at
+    c.index_mut-sub.ensures.value c.in_ok-before.ensures.ok c.self.invariant
 
 pub returns-clause-ok : goal.returns-clause-ok
-returns-clause-ok c =
+returns-clause-ok g c =
     let t : Subscriptions = record { subs = c.self.inside.subs.items; changes = c.self.inside.changes.items; slots = c.self.inside.slots.items } in
     let at : position (is_on c.args.key) c.self.inside.subs.items ≡ Some c.in-Some.place = search rules in
-    changes_at t c.args.key (sent_on c.args.key c.args.position) c.in-Some.place c.index_mut-sub.result.now c.send.new.self at c.index_mut-sub.ensures.value c.in_ok-before.ensures.ok
+    let new : Subscriptions = record t { subs = set t.subs c.in-Some.place c.send.new.self } in
+    subst (λ (x : Subscriptions). IsLearnt (learnt (sent x c.args.key c.args.position) c.args.key) new) c.self.view_is (sends_at t c.args.key c.args.position c.in-Some.place c.index_mut-sub.result.now c.send.new.self at c.index_mut-sub.ensures.value c.in_ok-before.ensures.ok)
+
+pub returns-clause-exact : goal.returns-clause-exact
+returns-clause-exact g c = λ e.
+    let t : Subscriptions = record { subs = c.self.inside.subs.items; changes = c.self.inside.changes.items; slots = c.self.inside.slots.items } in
+    let at : position (is_on c.args.key) c.self.inside.subs.items ≡ Some c.in-Some.place = search rules in
+    ap (λ (subs : List Subscription). let new : Subscriptions = record t { subs = subs } in new)
+    (changes (is_on c.args.key) (sent_on c.args.key c.args.position) t.subs c.in-Some.place c.index_mut-sub.result.now c.send.new.self at c.index_mut-sub.ensures.value (c.in_ok-before.ensures.exact e))
     ∙ ap (λ (x : Subscriptions). sent x c.args.key c.args.position) c.self.view_is
 
 pub returns-clause-before : goal.returns-clause-before
-returns-clause-before c =
+returns-clause-before g c =
     let t : Subscriptions = record { subs = c.self.inside.subs.items; changes = c.self.inside.changes.items; slots = c.self.inside.slots.items } in
     let at : position (is_on c.args.key) c.self.inside.subs.items ≡ Some c.in-Some.place = search rules in
     before_at t c.args.key c.args.position c.in-Some.place c.index_mut-sub.result.now c.in_ok-before.before at c.index_mut-sub.ensures.value c.in_ok-before.ensures.before

@@ -13,13 +13,13 @@ use Rattle.subscriptions.proofs.Noted.{notes_gone}
 use Rattle.subscriptions.proofs.table.Subscriptions.unsubscribe.Goals as goal
 
 pub returns-in_default-clause-ok : goal.returns-in_default-clause-ok
-returns-in_default-clause-ok c =
+returns-in_default-clause-ok g c =
     let t : Subscriptions = record { subs = c.self.inside.subs.items; changes = c.self.inside.changes.items; slots = c.self.inside.slots.items } in
     let at : position (is_on c.args.key) c.self.inside.subs.items ≡ None = search rules in
     subst (λ (x : Subscriptions). x ≡ unsubscribed x c.args.key) c.self.view_is (unsubscribes_none t c.args.key at)
 
 pub invariant_of-self-2 : goal.invariant_of-self-2
-invariant_of-self-2 c =
+invariant_of-self-2 g c =
     let t : Subscriptions = record { subs = c.self.inside.subs.items; changes = c.self.inside.changes.items; slots = c.self.inside.slots.items } in
     let at : position (is_on c.args.key) c.self.inside.subs.items ≡ Some c.in-Some.place = search rules in
     let grown : c.push.new.self.items ≡ c.self.inside.changes.items ++ Removed c.index-sub.result.now.name ∷ [] = search rules in
@@ -36,7 +36,7 @@ invariant_of-self-2 c =
     )
 
 pub returns-clause-ok : goal.returns-clause-ok
-returns-clause-ok c =
+returns-clause-ok g c =
     let t : Subscriptions = record { subs = c.self.inside.subs.items; changes = c.self.inside.changes.items; slots = c.self.inside.slots.items } in
     let at : position (is_on c.args.key) c.self.inside.subs.items ≡ Some c.in-Some.place = search rules in
     let grown : c.push.new.self.items ≡ c.self.inside.changes.items ++ Removed c.index-sub.result.now.name ∷ [] = search rules in

@@ -8,7 +8,7 @@ use Rattle.topic_core.proofs.Flushes.{sound-finished, receipts-finished}
 use Rattle.topic_core.proofs.topic.TopicCore.commit.Goals as goal
 
 pub invariant_of-self : goal.invariant_of-self
-invariant_of-self c =
+invariant_of-self g c =
     let t = core_of c.self.inside in
     let count : c.entries_handed_on-count.result ≡ entries_of t.doubt = search rules in
     let changes : c.changes_handed_on-changes.result ≡ changes_of t.doubt = search rules in

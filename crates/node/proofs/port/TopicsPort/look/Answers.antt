@@ -1,0 +1,5 @@
+use Rattle.node.specs.Passing.{passes_nothing}
+use Rattle.node.proofs.port.TopicsPort.look.Goals as goal
+
+pub returns-clause-passes : goal.returns-clause-passes
+returns-clause-passes g c = passes_nothing g.S.Shelf.disk c.args.self.now

@@ -1,0 +1,7 @@
+use Rattle.std.proofs.Common.{rules}
+use Rattle.session.specs.Client.{plain}
+use Rattle.session.proofs.Speaking.{speaks_says}
+use Rattle.session.proofs.speaker.Speaker.say.Goals as goal
+
+pub returns-else-is_err-clause-speaks : goal.returns-else-is_err-clause-speaks
+returns-else-is_err-clause-speaks c = speaks_says _ _ _ _ (plain c.args.reply.now) (search rules)
