@@ -49,6 +49,7 @@ impl<T: TopicStore, S: Shelf> Port for Topics<T, S> {
         self.find_or_make(name)
     }
 
+    #[inline(always)]
     fn command(&mut self, topic: u64, who: u64, command: TopicCommand) -> Answer {
         self.uses.mark(who, topic);
         self.held[topic as usize].command(who, command)

@@ -75,6 +75,7 @@ impl Consumers {
     }
 
     /// The topic of a consumer.
+    #[inline(always)]
     pub(crate) fn topic_of(&self, id: u64) -> Option<u64>
         ensures { result ≡ topic_of self.now id }
     {
@@ -267,6 +268,7 @@ fn place_behind(consumers: &[ConsumerEntry], id: u64) -> usize
 
 /// Where an id stands, where the ids rise. A client counts its ids, so the place that the id tells is looked at first.
 #[tactic(auto, using(crate::proofs::Searched::told))]
+#[inline(always)]
 fn place_among(consumers: &[ConsumerEntry], id: u64) -> Option<usize>
     requires { AreRising consumers.now }
     ensures place { result ≡ position (has_id id) consumers.now }

@@ -132,6 +132,7 @@ impl Session {
     }
 
     /// The topic of a consumer that the session has, where it is there.
+    #[inline(always)]
     pub(crate) fn consumer_topic<P: Port>(&self, consumer_id: u64, port: &P) -> Option<u64>
         ensures topic { IfSome result (λ topic. topic_of self.now.consumers consumer_id ≡ Some topic) }
         ensures there { IfSome result (λ topic. topic < P.count port.now) }
@@ -168,6 +169,7 @@ impl Session {
     }
 
     /// Works ACK ("PulsarApi.proto, CommandAck").
+    #[inline(always)]
     pub(crate) fn ack<P: Port>(&mut self, asked: Ack, port: &mut P, out: &mut Vec<u8>)
         ensures step { P.sole port.old → AckStep (play self.old (P.broker port.old) out.old.items) asked
             (play self.new (P.broker port.new) out.new.items) }
