@@ -3,7 +3,8 @@
 
 Usage: tests/subscriptions.py [--write]
 
-The model follows docs/PROTOCOL.md and the contracts of `cursor` and `subscriptions`. Compares the answers with the file stdout; the last line is
+The model follows docs/PROTOCOL.md and the contracts of `cursor`, `holds`, the modes of dispatch and `subscriptions`. The slots of keys are not computed:
+another program told them. Compares the answers with the file stdout; the last line is
 'subscriptions: N lines, M differ', and the exit status is 1 where any does. With --write it puts lines of its own behind the hand-written ones of
 stdin, and writes stdout."""
 import random
@@ -16,6 +17,8 @@ AT_RANDOM = "# at random"
 SEED = 11
 ROUNDS, ACTIONS = 6, 60  # topics of each mode, and actions of a topic
 CURSORS, STEPS = 24, 12  # and steps of a cursor
+HELD, HELD_STEPS = 6, 30  # and of what is held
+BENCHES, BENCH_STEPS = 4, 60  # and of the consumers of each mode
 
 MODES = ("Exclusive", "Failover", "Shared", "KeyShared")
 SERVING_MANY = ("Shared", "KeyShared")
@@ -25,6 +28,29 @@ MOST_CHANGES = 65_536
 MOST_PERMITS = 2**62
 
 BUSY, TOO_MANY, BAD_RANGES = "Some(ConsumerBusy)", "Some(TooManyRequests)", "Some(ConsumerAssignError)"
+
+# The low 16 bits of what Hashing.murmur3_32_fixed(0) of Google's Guava 31.1 answers to a key
+SLOTS_OF_KEYS = {
+    b"": 0,
+    b"test": 53779,
+    b"hello": 64071,
+    b"a": 27058,
+    b"ab": 55135,
+    b"abc": 37882,
+    b"abcd": 26474,
+    b"abcde": 39670,
+    b"\0": 10423,
+    b"\0\0": 49926,
+    b"\0\0\0": 46119,
+    b"\0\0\0\0": 63966,
+    b"\xff": 61709,
+    b"\x80\xfe": 18456,
+    b"\xff\xfe\xfd": 62172,
+    b"\xff\xfe\xfd\xfc": 32367,
+    b"\xff\xfe\xfd\xfc\xfb": 40123,
+    bytes(at * 7 % 251 for at in range(1000)): 10942,
+    b"\xff" * 1000: 38307,
+}
 
 
 # What is acknowledged
@@ -91,6 +117,48 @@ class CursorLines:
         else:
             acknowledge(self.acked, word, *numbers)
         return str(self.acked)
+
+
+# What is held
+
+
+class HeldLines:
+    """Answers the lines that ask what is held: who holds a position, and how often it was sent."""
+
+    def __init__(self):
+        self.holders, self.times = {}, {}
+
+    def answer(self, word, *words):
+        return getattr(self, word)(*words) or "done"
+
+    def new(self):
+        self.__init__()
+
+    def hold(self, key, *positions):
+        for position in map(int, positions):
+            self.holders[position] = key
+            self.times[position] = self.times.get(position, 0) + 1
+
+    def give_back(self, key):
+        self.holders = {position: holder for position, holder in self.holders.items() if holder != key}
+
+    def release(self, position):
+        self.holders.pop(int(position), None)
+
+    def forget(self, position):
+        self.release(position)
+        self.times.pop(int(position), None)
+
+    def forget_below(self, end):
+        for position in [position for position in self.times if position < int(end)]:
+            self.forget(position)
+
+    def first(self, key):
+        held = [position for position, holder in self.holders.items() if holder == key]
+        return f"Some({min(held)})" if held else "None"
+
+    def look(self, first, end):
+        return "held" + "".join(f" {self.holders.get(position, '-')}x{self.times.get(position, 0)}" for position in range(int(first), int(end)))
 
 
 # The subscriptions of a topic
@@ -227,6 +295,53 @@ def ranges_of(words):
     return [tuple(map(int, word.split("-"))) for word in words]
 
 
+class ModeLines:
+    """Answers the lines that ask a mode without its subscription. Nothing is held of the entries, and permits don't count."""
+
+    def __init__(self):
+        self.mode, self.consumers = "Exclusive", []
+        self.first, self.slots = 0, []
+
+    def answer(self, word, *words):
+        return getattr(self, word)(*words) or "done"
+
+    def new(self, mode):
+        self.mode, self.consumers = mode, []
+
+    def open(self, first, *slots):
+        self.first, self.slots = int(first), list(map(int, slots))
+
+    def refusal(self, ranges):
+        if self.mode == "Exclusive":
+            return "ConsumerBusy" if self.consumers else None
+        if len(self.consumers) >= MOST_CONSUMERS:
+            return "TooManyConsumers"
+        return "ConsumerAssignError" if self.mode == "KeyShared" and are_refused(ranges, self.consumers) else None
+
+    def attach(self, key, *words):
+        ranges = ranges_of(words)
+        if refusal := self.refusal(ranges):
+            return f"Some({refusal}) Err({refusal})"
+        self.consumers.append(Consumer(key, ranges))
+        return "None Ok(())"
+
+    def detach(self, key):
+        self.consumers = [consumer for consumer in self.consumers if consumer.key != key]
+
+    def pick(self, key):
+        consumer = next((consumer for consumer in self.consumers if consumer.key == key), None)
+        if not consumer or self.mode == "Failover" and self.consumers[0] is not consumer:
+            return "None"
+        for position in range(self.first, len(self.slots)):
+            if self.mode != "KeyShared" or consumer.takes(self.slots[position]):
+                return f"Some({position})"
+        return "None"
+
+
+def slot(key=""):
+    return str(SLOTS_OF_KEYS[bytes.fromhex(key)])
+
+
 def truth(value):
     return "true" if value else "false"
 
@@ -356,13 +471,14 @@ class TopicLines:
 
 def answers_to(lines):
     """The answer to each line, one after another."""
-    topic, cursor, answers = TopicLines(), CursorLines(), []
+    topic, answers = TopicLines(), []
+    others = {"cursor": CursorLines().answer, "held": HeldLines().answer, "mode": ModeLines().answer, "slot": slot}
     for line in lines:
         word, *words = line.split(" ")
         if word in ("", "#"):
             answers.append(line)
-        elif word == "cursor":
-            answers.append(cursor.answer(*words))
+        elif word in others:
+            answers.append(others[word](*words))
         else:
             answers.append(getattr(topic, word)(*words))
     return answers
@@ -407,11 +523,36 @@ def cursor_at_random(chance):
     return ["", begin, *(line for _ in range(STEPS) for line in (step(chance), "cursor look 0 41"))]
 
 
+def held_step(chance):
+    """One line about what is held, of the positions below 12."""
+    key, position = chance.choice(list(KEYS)), chance.randrange(12)
+    return "held " + chance.choice(3 * [f"hold {key} {position} {chance.randrange(12)}"] + [
+        f"give_back {key}", f"release {position}", f"forget {position}", f"forget_below {position // 2}", f"first {key}"])
+
+
+def held_at_random(chance):
+    return ["", "held new", *(line for _ in range(HELD_STEPS) for line in (held_step(chance), "held look 0 12"))]
+
+
+def bench_step(chance):
+    """One line about the consumers of a mode."""
+    key = chance.choice(list(KEYS))
+    ranges = KEYS[key] if chance.randrange(8) else chance.choice(("7-6", "0-9 9-9", "0-65535", "60-60"))
+    first = chance.randrange(len(SLOTS) + 1)
+    return "mode " + chance.choice(3 * [f"attach {key} {ranges}"] + 4 * [f"pick {key}"] + [f"detach {key}", f"open {first} {' '.join(map(str, SLOTS))}"])
+
+
+def bench_at_random(chance, mode):
+    return ["", f"mode new {mode}", f"mode open 0 {' '.join(map(str, SLOTS))}", *(bench_step(chance) for _ in range(BENCH_STEPS))]
+
+
 def lines_at_random():
     chance = random.Random(SEED)
     topics = [line for _ in range(ROUNDS) for mode in MODES for line in topic_at_random(chance, mode)]
     cursors = [line for _ in range(CURSORS) for line in cursor_at_random(chance)]
-    return [AT_RANDOM, *topics, *cursors]
+    held = [line for _ in range(HELD) for line in held_at_random(chance)]
+    benches = [line for _ in range(BENCHES) for mode in MODES for line in bench_at_random(chance, mode)]
+    return [AT_RANDOM, *topics, *cursors, *held, *benches]
 
 
 if __name__ == "__main__":

@@ -8,7 +8,7 @@ use std::alloc::AllocError;
 use subscriptions::{Refusal, Subscriptions};
 
 /// The position that a consumer may get of so many committed ones.
-pub(crate) fn pick<G: Gauge>(
+fn pick<G: Gauge>(
     subs: &mut Subscriptions<G>,
     key: ConsumerKey,
     committed: u32,
@@ -18,7 +18,7 @@ pub(crate) fn pick<G: Gauge>(
 }
 
 /// What a consumer gets of so many committed positions: one of them, and how often it was sent before.
-pub(crate) fn send<G: Gauge>(
+fn send<G: Gauge>(
     subs: &mut Subscriptions<G>,
     key: ConsumerKey,
     committed: u32,

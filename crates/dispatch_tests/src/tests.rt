@@ -1,5 +1,0 @@
-mod by_key;
-mod failover;
-mod holding;
-mod sharing;
-mod tail;

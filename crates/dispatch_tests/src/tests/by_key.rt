@@ -1,3 +1,0 @@
-mod dispatch;
-mod keyed;
-mod slots;
