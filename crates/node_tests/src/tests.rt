@@ -1,5 +1,5 @@
 // Each output was worked out by hand from the protocol.
-use disk::{CursorSlot, FileId, Fuse, Shelf};
+use disk::{CursorSlot, DeviceError, FileId, Fuse, Shelf};
 use disk_mem::MemShelf;
 use node::{
     EntriesPerLedger, Event, Fault, Happening, Machine, Node, Octets, Output, Refusal, ReplyText,
@@ -9,9 +9,11 @@ use node::{
 };
 use std::alloc::{AllocError, Global};
 use std::test::Fail;
+use steps::{Step, events, happenings};
 use topic_core::FileStores;
 
 mod exchanges;
+mod steps;
 mod stops;
 
 /// A node and a machine whose device is in memory.
@@ -47,6 +49,13 @@ const SEND: [u8; 30] = [
 const RECEIPT: [u8; 22] = [
     0, 0, 0, 0x12, 0, 0, 0, 0x0e, 8, 7, 0x3a, 0x0a, 8, 1, 0x10, 0, 0x1a, 4, 8, 0, 0x10, 0,
 ];
+
+/// CONNECT in two pieces.
+const CONNECT_HEAD: [u8; 16] = [
+    0, 0, 0, 0x0d, 0, 0, 0, 9, 8, 2, 0x12, 5, 0x0a, 1, 0x63, 0x20,
+];
+
+const CONNECT_END: [u8; 1] = [5];
 
 const PING: [u8; 13] = [0, 0, 0, 9, 0, 0, 0, 5, 8, 0x12, 0x92, 1, 0];
 
@@ -85,58 +94,126 @@ const FILES: [FileId; 7] = [
     },
 ];
 
-/// The site of a new node, whose files were once long, so that its device takes no more memory for their bytes.
-fn made(alloc: Global) -> Result<Site<MemShelf>, Fail> {
-    let mut shelf = MemShelf::new(alloc);
+/// A file that was once long.
+fn was_long(shelf: &mut MemShelf, file: FileId) -> Result<(), DeviceError> {
+    shelf.write_at(file, 0, &[b'-'; 512])?;
+    shelf.sync(file)?;
+    shelf.cut(file, 0)?;
+    shelf.sync(file)
+}
+
+/// Makes a node whose files were once long, so that its device takes no more memory for their bytes.
+fn initialise(alloc: Global, shelf: &mut MemShelf) -> Result<(), Fail> {
     for file in FILES {
-        shelf.write_at(file, 0, &[b'-'; 512])?;
-        shelf.sync(file)?;
-        shelf.cut(file, 0)?;
-        shelf.sync(file)?;
+        was_long(shelf, file)?;
     }
     let Some(entries_per_ledger) = EntriesPerLedger::new(1_000) else {
         return Err(Fail::new("a ledger may have a thousand entries"));
     };
-    MemNode::init(alloc, entries_per_ledger, &mut shelf)?;
-    let url = ReplyText::new(String::from_str(alloc, "pulsar://test")?);
-    Ok(Site { url, shelf })
+    MemNode::init(alloc, entries_per_ledger, shelf)?;
+    Ok(())
 }
 
-/// An output other than want of memory.
-fn worked(output: Output) -> Result<Output, Refusal> {
+/// The site of a new node.
+fn made(alloc: Global) -> Result<Site<MemShelf>, Fail> {
+    let url = ReplyText::new(String::from_str(alloc, "pulsar://test")?);
+    let mut site = Site {
+        url,
+        shelf: MemShelf::new(alloc),
+    };
+    if let Err(fail) = initialise(alloc, &mut site.shelf) {
+        drop(site);
+        return Err(fail);
+    }
+    Ok(site)
+}
+
+/// How an event went, other than by want of memory.
+fn worked(output: &Output) -> Result<Verdict, Refusal> {
     match output.result {
         Verdict::Refused(Refusal::NoMemory) | Verdict::Ended(Fault::NoMemory) => {
             Err(Refusal::NoMemory)
         }
-        Verdict::Done
-        | Verdict::Refused(_)
-        | Verdict::Ended(_)
-        | Verdict::Full
-        | Verdict::Unknown => Ok(output),
+        result => Ok(result),
     }
 }
 
+/// The same of an output that nobody reads.
+fn result_of(output: Output) -> Result<Verdict, Refusal> {
+    let result = worked(&output);
+    drop(output);
+    result
+}
+
 /// Whether the outputs are these, each by its bytes and how it went.
-fn are(outputs: Vec<Output>, expected: &[(&[u8], Verdict)]) -> Result<bool, Refusal> {
+fn are_those(outputs: &[Output], expected: &[(&[u8], Verdict)]) -> Result<bool, Refusal> {
     let mut same = outputs.len() == expected.len();
-    for (output, (bytes, result)) in outputs.into_iter().zip(expected.iter()) {
-        let output = worked(output)?;
-        same = same && output.bytes.as_slice() == *bytes && output.result == *result;
+    for (output, (bytes, wanted)) in outputs.iter().zip(expected.iter()) {
+        let result = worked(output)?;
+        same = same && output.bytes.as_slice() == *bytes && result == *wanted;
     }
     Ok(same)
+}
+
+/// The same of outputs that nobody reads behind this.
+fn are(outputs: Vec<Output>, expected: &[(&[u8], Verdict)]) -> Result<bool, Refusal> {
+    let same = are_those(outputs.as_slice(), expected);
+    drop(outputs);
+    same
+}
+
+/// A node without topics.
+fn opened(alloc: Global) -> Result<MemNode, Fail> {
+    match Node::open(alloc, made(alloc)?) {
+        Ok(node) => Ok(node),
+        Err((refusal, site)) => {
+            drop(site);
+            Err(Fail::from(refusal))
+        }
+    }
+}
+
+/// What a node without topics puts out through these events.
+fn ran(alloc: Global, steps: &[Step]) -> Result<Vec<Output>, Fail> {
+    let events = events(alloc, steps)?;
+    let mut node = match opened(alloc) {
+        Ok(node) => node,
+        Err(fail) => {
+            drop(events);
+            return Err(fail);
+        }
+    };
+    let mut outputs = Vec::new(alloc);
+    let ran = node.run(events, &mut outputs);
+    drop(node);
+    if ran.is_err() {
+        drop(outputs);
+        return Err(Fail::from(AllocError));
+    }
+    Ok(outputs)
 }
 
 #[test]
 fn open_never_has_memory(rt: HostRuntime) -> Result<(), Fail> {
     let mut node = opened(rt.alloc())?;
-    assert_eq!(rt;
-        worked(node.step(Event::Flush(0)))?.result,
-        Verdict::Unknown
-    );
+    let output = node.step(Event::Flush(0));
+    drop(node);
+    assert_eq!(rt; result_of(output)?, Verdict::Unknown);
     Ok(())
 }
 
-/// What a node puts out through `connecting`.
+/// A client that connects in two pieces, pings and goes; another topic is opened again, and the session that is gone pumped.
+const CONNECTING: [Step; 7] = [
+    Step::Open,
+    Step::Bytes(&CONNECT_HEAD),
+    Step::Bytes(&CONNECT_END),
+    Step::Bytes(&PING),
+    Step::Reopen(1),
+    Step::Close,
+    Step::Pump,
+];
+
+/// What a node puts out through these.
 const OF_A_RUN: [(&[u8], Verdict); 7] = [
     (&[], Verdict::Done),
     (&[], Verdict::Done),
@@ -147,37 +224,35 @@ const OF_A_RUN: [(&[u8], Verdict); 7] = [
     (&[], Verdict::Unknown),
 ];
 
-/// A client that connects in two pieces, pings and goes; another topic is opened again, and the session that is gone pumped.
-fn connecting(alloc: Global) -> Result<Vec<Event>, AllocError> {
-    let mut events = Vec::with_capacity(alloc, 7)?;
-    events.push(Event::Open)?;
-    for piece in [&CONNECT[..16], &CONNECT[16..], PING.as_slice()] {
-        events.push(Event::Bytes(0, octets(alloc, piece)?))?;
-    }
-    events.push(Event::Reopen(1))?;
-    events.push(Event::Close(0))?;
-    events.push(Event::Pump(0))?;
-    Ok(events)
-}
-
-/// A node without topics.
-fn opened(alloc: Global) -> Result<MemNode, Fail> {
-    match Node::open(alloc, made(alloc)?) {
-        Ok(node) => Ok(node),
-        Err((refusal, _)) => Err(Fail::from(refusal)),
-    }
-}
-
 #[test]
 fn a_run_works_its_events_in_order(rt: HostRuntime) -> Result<(), Fail> {
-    let mut node = opened(rt.alloc())?;
-    let mut outputs = Vec::new(rt.alloc());
-    node.run(connecting(rt.alloc())?, &mut outputs)?;
+    let outputs = ran(rt.alloc(), &CONNECTING)?;
     assert!(rt; are(outputs, &OF_A_RUN)?);
     Ok(())
 }
 
-/// What a machine puts out through `sending`, a pump, a crash and a pump of a session that is gone.
+/// A client that connects and sends an entry, which is committed.
+const SENDING: [Step; 5] = [
+    Step::Open,
+    Step::Bytes(&CONNECT),
+    Step::Bytes(&PRODUCER),
+    Step::Bytes(&SEND),
+    Step::Flush,
+];
+
+/// The same, a pump, a crash and a pump of a session that is gone.
+const OVER_A_CRASH: [Step; 8] = [
+    Step::Open,
+    Step::Bytes(&CONNECT),
+    Step::Bytes(&PRODUCER),
+    Step::Bytes(&SEND),
+    Step::Flush,
+    Step::Pump,
+    Step::Crash,
+    Step::Pump,
+];
+
+/// The opening, and what a machine puts out through these.
 const OF_A_MACHINE: [(&[u8], Verdict); 9] = [
     (&[], Verdict::Done),
     (&[], Verdict::Done),
@@ -190,63 +265,92 @@ const OF_A_MACHINE: [(&[u8], Verdict); 9] = [
     (&[], Verdict::Unknown),
 ];
 
+/// Whether a machine puts out these, behind its opening.
+fn drives(alloc: Global, steps: &[Step], wanted: &[(&[u8], Verdict)]) -> Result<MemMachine, Fail> {
+    let mut outputs = Vec::new(alloc);
+    let machine = match driven(alloc, steps, &mut outputs) {
+        Ok(machine) => machine,
+        Err(fail) => {
+            drop(outputs);
+            return Err(fail);
+        }
+    };
+    match are(outputs, wanted) {
+        Ok(true) => Ok(machine),
+        Ok(false) => {
+            drop(machine);
+            Err(Fail::new("other outputs"))
+        }
+        Err(refusal) => {
+            drop(machine);
+            Err(Fail::from(refusal))
+        }
+    }
+}
+
 #[test]
 fn a_machine_is_driven_through_events_and_crashes(rt: HostRuntime) -> Result<(), Fail> {
-    let mut happenings = sending(rt.alloc())?;
-    happenings.push(Happening::Event(Event::Pump(0)))?;
-    happenings.push(Happening::Crash)?;
-    happenings.push(Happening::Event(Event::Pump(0)))?;
-    let mut outputs = Vec::new(rt.alloc());
-    let machine = driven(rt.alloc(), happenings, &mut outputs)?;
-    assert!(rt; are(outputs, &OF_A_MACHINE)?);
-    assert_eq!(rt; entries(&machine)?, Some(1));
+    let machine = drives(rt.alloc(), &OVER_A_CRASH, &OF_A_MACHINE)?;
+    let entries = entries(&machine);
+    drop(machine);
+    assert_eq!(rt; entries?, Some(1));
     Ok(())
 }
 
 // What follows stands between the tests and calls whose contracts say much, of which a test needs nothing.
 
 /// The machine behind what happened, and its outputs.
-fn driven(
-    alloc: Global,
-    happenings: Vec<Happening>,
-    outputs: &mut Vec<Output>,
-) -> Result<MemMachine, Fail> {
-    let site = made(alloc)?;
+fn driven(alloc: Global, steps: &[Step], outputs: &mut Vec<Output>) -> Result<MemMachine, Fail> {
+    let happenings = happenings(alloc, steps)?;
+    let site = match made(alloc) {
+        Ok(site) => site,
+        Err(fail) => {
+            drop(happenings);
+            return Err(fail);
+        }
+    };
     Ok(drive(alloc, site, happenings, outputs)?)
 }
 
 /// The machine behind a crash, and what its opening answered.
-fn crashed(alloc: Global, machine: MemMachine) -> (MemMachine, Output) {
-    machine.crash(alloc)
+fn crashed(alloc: Global, machine: MemMachine) -> (MemMachine, Result<Verdict, Refusal>) {
+    let (machine, output) = machine.crash(alloc);
+    (machine, result_of(output))
 }
 
 /// How many entries the topic has, where the node is up.
 fn entries(machine: &MemMachine) -> Result<Option<u64>, Refusal> {
-    match machine.status(0)? {
-        Some(status) => Ok(Some(status.entries)),
-        None => Ok(None),
-    }
+    let status = machine.status(0)?;
+    let entries = match &status {
+        Some(status) => Some(status.entries),
+        None => None,
+    };
+    drop(status);
+    Ok(entries)
 }
 
-/// A client that connects and sends an entry, which is committed.
-fn sending(alloc: Global) -> Result<Vec<Happening>, AllocError> {
-    let mut happenings = Vec::with_capacity(alloc, 8)?;
-    happenings.push(Happening::Event(Event::Open))?;
-    for frame in [CONNECT.as_slice(), PRODUCER.as_slice(), SEND.as_slice()] {
-        happenings.push(Happening::Event(Event::Bytes(0, octets(alloc, frame)?)))?;
+/// Whether all went well. What found no memory, in the node or within the device, is an error.
+fn all_done(outputs: &[Output]) -> Result<(), Refusal> {
+    for output in outputs {
+        done(output)?;
     }
-    happenings.push(Happening::Event(Event::Flush(0)))?;
-    Ok(happenings)
+    Ok(())
 }
 
 /// A machine whose node has one entry.
 fn with_an_entry(alloc: Global) -> Result<MemMachine, Fail> {
     let mut outputs = Vec::new(alloc);
-    let machine = driven(alloc, sending(alloc)?, &mut outputs)?;
-    for output in outputs.as_slice() {
-        done(output)?;
+    let machine = driven(alloc, &SENDING, &mut outputs);
+    let done = all_done(outputs.as_slice());
+    drop(outputs);
+    match (machine, done) {
+        (Ok(machine), Ok(())) => Ok(machine),
+        (Ok(machine), Err(refusal)) => {
+            drop(machine);
+            Err(Fail::from(refusal))
+        }
+        (Err(fail), _) => Err(fail),
     }
-    Ok(machine)
 }
 
 /// What found no memory, in the node or within the device, is an error.
@@ -258,29 +362,31 @@ fn done(output: &Output) -> Result<(), Refusal> {
     }
 }
 
-/// The machine behind a crash whose opening the device refuses.
-fn refused(alloc: Global, machine: MemMachine) -> Result<MemMachine, Fail> {
-    let (machine, output) = crashed(alloc, machine);
-    if worked(output)?.result != Verdict::Refused(Refusal::Device) || entries(&machine)?.is_some() {
-        return Err(Fail::new("opened, though a read failed"));
-    }
-    Ok(machine)
-}
-
-/// Whether the next crash's opening finds one entry.
-fn finds_the_entry(alloc: Global, machine: MemMachine) -> Result<bool, Fail> {
-    let (machine, output) = crashed(alloc, machine);
-    Ok(worked(output)?.result == Verdict::Done && entries(&machine)? == Some(1))
+/// Whether a machine with one entry is refused by an opening in which a read fails, and whether the next crash's opening finds the entry.
+fn refuses_and_finds(alloc: Global, read: u64) -> Result<(bool, bool), Fail> {
+    let mut machine = with_an_entry(alloc)?;
+    let armed = machine.arm(Fuse::FailRead(read));
+    let (machine, refused) = crashed(alloc, machine);
+    let down = entries(&machine);
+    let (machine, found) = crashed(alloc, machine);
+    let up = entries(&machine);
+    drop(machine);
+    armed?;
+    Ok((
+        refused? == Verdict::Refused(Refusal::Device) && down?.is_none(),
+        found? == Verdict::Done && up? == Some(1),
+    ))
 }
 
 // Each read of an opening fails in turn: of the heads of four files, and of the gates, the name and the entry behind them.
 #[test]
 fn a_failing_read_refuses_an_opening(rt: HostRuntime) -> Result<(), Fail> {
     for read in 1..=11u64 {
-        let mut machine = with_an_entry(rt.alloc())?;
-        machine.arm(Fuse::FailRead(read))?;
-        let machine = refused(rt.alloc(), machine)?;
-        assert!(rt; finds_the_entry(rt.alloc(), machine)?, "{read}");
+        assert_eq!(rt;
+            refuses_and_finds(rt.alloc(), read)?,
+            (true, true),
+            "{read}"
+        );
     }
     Ok(())
 }

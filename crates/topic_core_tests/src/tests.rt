@@ -3,6 +3,7 @@
 // drops it before it looks at them.
 mod basics;
 mod failures;
+mod gauges;
 mod granters;
 mod recent;
 

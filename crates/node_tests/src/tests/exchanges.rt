@@ -1,9 +1,7 @@
 // Exchanges of clients as lists of events and of what happens: what the program's scripts show, of the node itself.
-use super::{
-    CONNECT, CONNECTED, PRODUCER, PRODUCER_SUCCESS, RECEIPT, SEND, are, driven, octets, opened,
-};
-use node::{Event, Happening, Verdict};
-use std::alloc::{AllocError, Global};
+use super::steps::Step;
+use super::{CONNECT, CONNECTED, PRODUCER, PRODUCER_SUCCESS, RECEIPT, SEND, are, drives, ran};
+use node::Verdict;
 use std::test::Fail;
 
 /// To `s` on `persistent://a/b/c`, durable, Earliest, of consumer 2, with request 8.
@@ -38,23 +36,24 @@ const OF_THE_FIRST: [(&[u8], Verdict); 6] = [
     (&RECEIPT, Verdict::Done),
 ];
 
+/// The first exchange.
+const FIRST: [Step; 6] = [
+    Step::Open,
+    Step::Bytes(&CONNECT),
+    Step::Bytes(&PRODUCER),
+    Step::Bytes(&SEND),
+    Step::Flush,
+    Step::Pump,
+];
+
 #[test]
 fn the_first_exchange_is_one_run(rt: HostRuntime) -> Result<(), Fail> {
-    let mut node = opened(rt.alloc())?;
-    let mut events = Vec::with_capacity(rt.alloc(), 6)?;
-    events.push(Event::Open)?;
-    for frame in [CONNECT.as_slice(), PRODUCER.as_slice(), SEND.as_slice()] {
-        events.push(Event::Bytes(0, octets(rt.alloc(), frame)?))?;
-    }
-    events.push(Event::Flush(0))?;
-    events.push(Event::Pump(0))?;
-    let mut outputs = Vec::new(rt.alloc());
-    node.run(events, &mut outputs)?;
+    let outputs = ran(rt.alloc(), &FIRST)?;
     assert!(rt; are(outputs, &OF_THE_FIRST)?);
     Ok(())
 }
 
-/// The opening, and what a machine puts out through `losing`. The message comes again, for the acknowledgement wasn't flushed.
+/// The opening, and what a machine puts out through `LOSING`. The message comes again, for the acknowledgement wasn't flushed.
 const OF_A_LOST_ACKNOWLEDGEMENT: [(&[u8], Verdict); 19] = [
     (&[], Verdict::Done),
     (&[], Verdict::Done),
@@ -88,43 +87,30 @@ const SUCCESS_AND_MESSAGE: [u8; 48] = [
     8, 2, 0x12, 4, 8, 0, 0x10, 0, 0, 0, 0, 0x0a, 0x0a, 1, 0x70, 0x10, 0, 0x18, 1, 0xc0, 0x3e, 5,
 ];
 
-/// Adds frames of session 0.
-fn add(alloc: Global, frames: &[&[u8]], happenings: &mut Vec<Happening>) -> Result<(), AllocError> {
-    for frame in frames {
-        happenings.push(Happening::Event(Event::Bytes(0, octets(alloc, frame)?)))?;
-    }
-    Ok(())
-}
-
-/// A flush of topic 0, and a pump of session 0.
-fn settle(happenings: &mut Vec<Happening>) -> Result<(), AllocError> {
-    happenings.push(Happening::Event(Event::Flush(0)))?;
-    happenings.push(Happening::Event(Event::Pump(0)))?;
-    Ok(())
-}
-
 /// A consumer acknowledges a message, and the power is cut before the next flush; it comes again, and subscribes again.
-fn losing(alloc: Global) -> Result<Vec<Happening>, AllocError> {
-    let mut happenings = Vec::with_capacity(alloc, 18)?;
-    happenings.push(Happening::Event(Event::Open))?;
-    add(alloc, &[&CONNECT, &PRODUCER, &SUBSCRIBE], &mut happenings)?;
-    settle(&mut happenings)?;
-    add(alloc, &[&SEND, &FLOW], &mut happenings)?;
-    settle(&mut happenings)?;
-    add(alloc, &[&ACK], &mut happenings)?;
-    happenings.push(Happening::Crash)?;
-    happenings.push(Happening::Event(Event::Open))?;
-    add(alloc, &[&CONNECT, &SUBSCRIBE], &mut happenings)?;
-    happenings.push(Happening::Event(Event::Flush(0)))?;
-    add(alloc, &[&FLOW], &mut happenings)?;
-    happenings.push(Happening::Event(Event::Pump(0)))?;
-    Ok(happenings)
-}
+const LOSING: [Step; 18] = [
+    Step::Open,
+    Step::Bytes(&CONNECT),
+    Step::Bytes(&PRODUCER),
+    Step::Bytes(&SUBSCRIBE),
+    Step::Flush,
+    Step::Pump,
+    Step::Bytes(&SEND),
+    Step::Bytes(&FLOW),
+    Step::Flush,
+    Step::Pump,
+    Step::Bytes(&ACK),
+    Step::Crash,
+    Step::Open,
+    Step::Bytes(&CONNECT),
+    Step::Bytes(&SUBSCRIBE),
+    Step::Flush,
+    Step::Bytes(&FLOW),
+    Step::Pump,
+];
 
 #[test]
 fn an_acknowledgement_that_a_crash_loses_is_one_drive(rt: HostRuntime) -> Result<(), Fail> {
-    let mut outputs = Vec::new(rt.alloc());
-    driven(rt.alloc(), losing(rt.alloc())?, &mut outputs)?;
-    assert!(rt; are(outputs, &OF_A_LOST_ACKNOWLEDGEMENT)?);
+    drop(drives(rt.alloc(), &LOSING, &OF_A_LOST_ACKNOWLEDGEMENT)?);
     Ok(())
 }

@@ -1,7 +1,7 @@
 // A topic is made beside another one, while the device stops or fails, and the power is cut.
 use super::{CONNECT, MemMachine, crashed, done, octets, with_an_entry, worked};
 use disk::{CrashForm, Fuse};
-use node::{Event, Refusal, Verdict};
+use node::{Event, Output, Refusal, Verdict};
 use std::alloc::Global;
 use std::test::Fail;
 
@@ -25,77 +25,130 @@ const OTHER_REFUSED: [u8; 34] = [
 /// More device calls than the making of a topic has.
 const CALLS: u64 = 24;
 
-/// Whether the producer on the other topic was answered its name. Any answer but that and the error is a fault.
-fn attaches(alloc: Global, machine: &mut MemMachine) -> Result<bool, Fail> {
-    let output = worked(machine.event(alloc, Event::Bytes(0, octets(alloc, &OTHER)?)))?;
+/// Whether a producer on the other topic was answered its name. Any answer but that and the error is a fault.
+fn is_named(output: &Output) -> Result<bool, Fail> {
     let bytes = output.bytes.as_slice();
-    if output.result != Verdict::Done
-        || bytes != OTHER_SUCCESS.as_slice() && bytes != OTHER_REFUSED.as_slice()
-    {
+    let is_named = bytes == OTHER_SUCCESS.as_slice();
+    if worked(output)? != Verdict::Done || !is_named && bytes != OTHER_REFUSED.as_slice() {
         return Err(Fail::new("neither the name nor the error"));
     }
-    Ok(bytes == OTHER_SUCCESS.as_slice())
+    Ok(is_named)
 }
 
-/// How many topics there are, of which the first has one entry and any other none.
+/// Asks for the producer on the other topic, and tells whether it was answered its name.
+fn attaches(alloc: Global, machine: &mut MemMachine) -> Result<bool, Fail> {
+    let asked = octets(alloc, &OTHER)?;
+    let output = machine.event(alloc, Event::Bytes(0, asked));
+    let is_named = is_named(&output);
+    drop(output);
+    is_named
+}
+
+/// Whether the topic is there: the first one with one entry, and any other with none.
+fn is_there(machine: &MemMachine, number: u64) -> Result<bool, Fail> {
+    let status = machine.status(number)?;
+    let told = match &status {
+        Some(status) => Some((status.number, status.entries)),
+        None => None,
+    };
+    drop(status);
+    let Some(told) = told else {
+        return Ok(false);
+    };
+    if told != (number, u64::from(number == 0)) {
+        return Err(Fail::new("an entry is lost, or of another topic"));
+    }
+    Ok(true)
+}
+
+/// How many topics there are.
 fn topics(machine: &MemMachine) -> Result<u64, Fail> {
     for number in 0..3u64 {
-        let Some(status) = machine.status(number)? else {
+        if !is_there(machine, number)? {
             return Ok(number);
-        };
-        if status.number != number || status.entries != u64::from(number == 0) {
-            return Err(Fail::new("an entry is lost, or of another topic"));
         }
     }
     Err(Fail::new("a topic too many"))
+}
+
+/// Whether a failure at this call fails the making of the other topic, and whether there are as many topics as there must be: where it
+/// fails one, and behind the next search two.
+fn settles(alloc: Global, call: u64, machine: &mut MemMachine) -> Result<(bool, bool), Fail> {
+    machine.arm(Fuse::Fail(call))?;
+    let failed = !attaches(alloc, machine)?;
+    let mut is_settled = true;
+    if failed {
+        is_settled = topics(machine)? == 1 && attaches(alloc, machine)?;
+    }
+    Ok((failed, is_settled && topics(machine)? == 2))
+}
+
+/// The same of a machine that has one topic, with one entry.
+fn fails_and_settles(alloc: Global, call: u64) -> Result<(bool, bool), Fail> {
+    let mut machine = with_an_entry(alloc)?;
+    let seen = settles(alloc, call, &mut machine);
+    drop(machine);
+    seen
 }
 
 #[test]
 fn a_failure_in_making_a_topic_is_settled_by_the_next_search(rt: HostRuntime) -> Result<(), Fail> {
     let mut failures = 0u64;
     for call in 1..=CALLS {
-        let mut machine = with_an_entry(rt.alloc())?;
-        machine.arm(Fuse::Fail(call))?;
-        if !attaches(rt.alloc(), &mut machine)? {
-            failures = failures.saturating_add(1);
-            assert_eq!(rt; topics(&machine)?, 1, "{call}");
-            assert!(rt; attaches(rt.alloc(), &mut machine)?, "{call}");
-        }
-        assert_eq!(rt; topics(&machine)?, 2, "{call}");
+        let (failed, is_settled) = fails_and_settles(rt.alloc(), call)?;
+        assert!(rt; is_settled, "{call}");
+        failures = failures.saturating_add(u64::from(failed));
     }
     assert!(rt; 3 < failures && failures < CALLS, "{failures}");
     Ok(())
 }
 
-/// The machine behind a cut of its power in this form, whose device works again, with a session that connects.
-fn comes_again(
+/// A device that stops in making a topic, and what the next cut of its power leaves. Tells whether the topic was made.
+fn stopped(
     alloc: Global,
-    mut machine: MemMachine,
+    call: u64,
     form: CrashForm,
-) -> Result<MemMachine, Fail> {
+    machine: &mut MemMachine,
+) -> Result<bool, Fail> {
+    machine.arm(Fuse::Stop(call))?;
+    let made = attaches(alloc, machine)?;
     machine.arm(Fuse::CrashAs(form))?;
-    let (mut machine, output) = crashed(alloc, machine);
-    done(&output)?;
-    done(&machine.event(alloc, Event::Open))?;
-    done(&machine.event(alloc, Event::Bytes(0, octets(alloc, &CONNECT)?)))?;
-    Ok(machine)
+    Ok(made)
+}
+
+/// An event that is worked.
+fn work(alloc: Global, event: Event, machine: &mut MemMachine) -> Result<(), Refusal> {
+    let output = machine.event(alloc, event);
+    let done = done(&output);
+    drop(output);
+    done
+}
+
+/// Whether the name is there or not, where it wasn't answered, and the other topic is as it was; a session that connects then makes it.
+fn comes_again(alloc: Global, made: bool, machine: &mut MemMachine) -> Result<bool, Fail> {
+    work(alloc, Event::Open, machine)?;
+    let connect = octets(alloc, &CONNECT)?;
+    work(alloc, Event::Bytes(0, connect), machine)?;
+    let found = topics(machine)?;
+    if found != 2 && (made || found != 1) {
+        return Ok(false);
+    }
+    Ok(attaches(alloc, machine)? && topics(machine)? == 2)
 }
 
 /// A device that stops in making a topic, and the power is cut: the name is there or it isn't, and the other topic is as it was.
 fn stops(alloc: Global, call: u64, form: CrashForm) -> Result<bool, Fail> {
     let mut machine = with_an_entry(alloc)?;
-    machine.arm(Fuse::Stop(call))?;
-    let made = attaches(alloc, &mut machine)?;
-    let mut machine = comes_again(alloc, machine, form)?;
-    let found = topics(&machine)?;
-    Ok(
-        (if made {
-            found == 2
-        } else {
-            found == 1 || found == 2
-        }) && attaches(alloc, &mut machine)?
-            && topics(&machine)? == 2,
-    )
+    let made = stopped(alloc, call, form, &mut machine);
+    let (mut machine, opened) = crashed(alloc, machine);
+    let seen = match (made, opened) {
+        (Ok(made), Ok(Verdict::Done)) => comes_again(alloc, made, &mut machine),
+        (Err(fail), _) => Err(fail),
+        (_, Err(refusal)) => Err(Fail::from(refusal)),
+        _ => Err(Fail::new("not opened")),
+    };
+    drop(machine);
+    seen
 }
 
 #[test]

@@ -120,11 +120,11 @@ fn a_list_that_finds_no_memory_ends_the_session(rt: HostRuntime) -> Result<(), F
     let no_memory = PumpFault::Ended(Fault::NoMemory);
     let mut stage = Stage::new(rt.alloc());
     let begun = stage.begin(&[SUBSCRIBE], &[None, Some(no_memory)]);
-    let serves = [stage.serve(), stage.serve()];
+    let (first, second) = (stage.serve(), stage.serve());
     let ended = (stage.session.fault(), stage.board.left);
     drop(stage);
     begun?;
-    assert_eq!(rt; serves, [Ok(Err(no_memory)); 2]);
+    assert_eq!(rt; [first?, second?], [Err(no_memory); 2]);
     assert_eq!(rt; ended, (Some(Fault::NoMemory), Some(3)));
     Ok(())
 }

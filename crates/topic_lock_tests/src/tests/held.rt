@@ -5,6 +5,7 @@ ghost use Rattle.topic_lock.specs.Ledgers.{IsOf};
 use super::{flush_first, new_broker, publishes, send, subscribe, waits_for};
 use disk_mem::MemShelf;
 use gated_log::Refusal;
+use log::Log;
 use session::Port;
 use std::alloc::Global;
 use std::marker::Brand;
@@ -113,7 +114,7 @@ fn send_twice<'a, K: Tallies, R: Wait, P: Port>(
 }
 
 // Sends twice in a session. The first entry is committed, and the flush of the second one is held.
-fn send_and_flush<'p, 'a, K: Tallies, R: Wait>(
+fn send_and_flush<'p, 'a, K: Tallies, R: Wait + Log>(
     rt: &R,
     alloc: Global,
     resting: MemPort<'p, 'a, K, R>,
@@ -146,7 +147,7 @@ fn send_and_receive<P: Port>(alloc: Global, port: &mut P) -> Result<(bool, bool)
 }
 
 // Sends and receives in the other session while the write is held.
-fn go_on_meanwhile<'p, 'a, K: Tallies, R: Wait>(
+fn go_on_meanwhile<'p, 'a, K: Tallies, R: Wait + Log>(
     alloc: Global,
     resting: MemPort<'p, 'a, K, R>,
     gate: &Gate,
@@ -162,7 +163,7 @@ fn go_on_meanwhile<'p, 'a, K: Tallies, R: Wait>(
 }
 
 // Whether the flush saw the other session go on, how many entries it committed, and what the other session saw.
-fn run<K: Tallies + Send + Sync, R: Threads + Wait + Sync>(
+fn run<K: Tallies + Send + Sync, R: Threads + Wait + Log + Sync>(
     rt: &R,
     alloc: Global,
     blanks: Blanks,

@@ -10,6 +10,7 @@ use super::{TURNS, flush_first, new_broker, publishes, send};
 use commands::Reply;
 use disk_mem::MemShelf;
 use gated_log::Refusal;
+use log::Log;
 use session::Port;
 use std::alloc::Global;
 use std::marker::Brand;
@@ -68,7 +69,7 @@ type Settled = ((u64, u64), (u64, u64));
 type MemPort<'p, 'a, K, R> = RestingPort<'p, 'a, FileStores, MemShelf, K, R>;
 
 // Publishes, waits until both sessions have, and settles.
-fn session<'p, 'a, K: Tallies, R: Wait>(
+fn session<'p, 'a, K: Tallies, R: Wait + Log>(
     alloc: Global,
     port: MemPort<'p, 'a, K, R>,
     who: u64,
@@ -88,7 +89,7 @@ fn session<'p, 'a, K: Tallies, R: Wait>(
 }
 
 // A session in a thread, and in another one the flusher of its topic.
-fn session_and_flusher<'p, 'a, K: Tallies + Send + Sync, R: Threads + Wait + Sync>(
+fn session_and_flusher<'p, 'a, K: Tallies + Send + Sync, R: Threads + Wait + Log + Sync>(
     rt: &R,
     alloc: Global,
     port: MemPort<'p, 'a, K, R>,
@@ -106,7 +107,7 @@ fn session_and_flusher<'p, 'a, K: Tallies + Send + Sync, R: Threads + Wait + Syn
 }
 
 // Two sessions send on one topic, each in a thread of its own, and a third thread flushes.
-fn run<K: Tallies + Send + Sync, R: Threads + Wait + Sync>(
+fn run<K: Tallies + Send + Sync, R: Threads + Wait + Log + Sync>(
     rt: &R,
     alloc: Global,
     blanks: Blanks,

@@ -1,7 +1,7 @@
 // Up to the limits of what stands unwritten, in two threads; too many outputs for each of their allocations to be refused in turn.
 use super::desk::Desk;
 use super::streams::{HangUp, Line, Sink, Source};
-use super::{CONNECT, CONNECTED, PING, PONG, ample};
+use super::{CONNECT, CONNECTED, PING, PONG};
 use bells::Bells;
 use gates::{ReaderGate, WriterGate};
 use session::{Fault, Session};
@@ -14,8 +14,11 @@ use workers::{Numbered, serve_connection};
 // A client's bytes, and what happens to its connection.
 #[derive(Clone, Copy)]
 struct Client<'a> {
-    bytes: &'a [u8],
-    /// So many of them come in a read.
+    /// So many PINGs behind a CONNECT.
+    pings: usize,
+    /// What stands behind these.
+    last: &'a [u8],
+    /// So many bytes come in a read.
     piece: usize,
     /// It goes behind them.
     goes: bool,
@@ -23,9 +26,21 @@ struct Client<'a> {
     writes: u32,
 }
 
-// What the two threads of a connection share.
+// The bytes that it sends.
+fn sent(alloc: Global, client: Client<'_>) -> Result<Vec<u8>, AllocError> {
+    let mut bytes = Vec::with_capacity(alloc, 8192)?;
+    bytes.extend_from_slice(CONNECT)?;
+    for _ in 0..client.pings {
+        bytes.extend_from_slice(PING)?;
+    }
+    bytes.extend_from_slice(client.last)?;
+    Ok(bytes)
+}
+
+// What the two threads of a connection share, and what its client sends.
 #[derive(Drop)]
 struct Stage {
+    bytes: Vec<u8>,
     bells: Bells,
     line: Line,
     session: Mutex<Numbered>,
@@ -34,34 +49,42 @@ struct Stage {
 impl Stage {
     // Of session 3, whose line is down from the start where its client goes.
     fn new(alloc: Global, client: Client<'_>) -> Result<Stage, AllocError> {
+        let bytes = sent(alloc, client)?;
+        let bells = Bells::new(alloc)?;
         let line = Line::new();
         if client.goes {
             line.take_down();
         }
         Ok(Stage {
-            bells: Bells::new(alloc)?,
+            bytes,
+            bells,
             line,
             session: Mutex::new(Numbered::new(alloc, Session::new(alloc, 3))),
         })
     }
 
-    // Why its session ended, other than for want of memory.
-    fn fault(self) -> Result<Option<Fault>, Fault> {
+    // Why its session ended.
+    fn fault(self) -> Option<Fault> {
         let numbered = self.session.into_inner();
-        ample(numbered.session())?;
-        Ok(numbered.session().fault())
+        let fault = numbered.session().fault();
+        drop(numbered);
+        fault
     }
 }
 
-// Serves a client with gates that sleep, and gives what it got.
+// Serves a client with gates that sleep, and tells how many PONGs it got behind a CONNECTED, if nothing else.
 fn serve<R: Threads + Wait + Sync>(
     rt: &R,
     alloc: Global,
-    bells: &Bells,
-    line: &Line,
-    session: &Mutex<Numbered>,
+    stage: &Stage,
     client: Client<'_>,
-) -> Result<Vec<u8>, AllocError> {
+) -> Result<Option<usize>, AllocError> {
+    let Stage {
+        bytes,
+        bells,
+        line,
+        session,
+    } = stage;
     let sink = Sink {
         bytes: Vec::with_capacity(alloc, 8192)?,
         writes: client.writes,
@@ -71,7 +94,7 @@ fn serve<R: Threads + Wait + Sync>(
         alloc,
         3,
         session,
-        Source::new(rt, client.bytes, client.piece, line),
+        Source::new(rt, bytes.as_slice(), client.piece, line),
         sink,
         &ReaderGate::new(rt, bells, session, 0),
         &WriterGate::new(rt, bells, session, 0),
@@ -79,20 +102,32 @@ fn serve<R: Threads + Wait + Sync>(
         Desk::new(),
         Desk::new(),
     );
-    match served.end? {
-        Some((outgoing, _)) => Ok(outgoing.writer.bytes),
-        None => Err(AllocError),
-    }
+    let Some(end) = served.end? else {
+        return Err(AllocError);
+    };
+    let came = pongs(end.0.writer.bytes.as_slice());
+    drop(end);
+    Ok(came)
 }
 
-// CONNECT, and so many PINGs behind it.
-fn pings(alloc: Global, count: usize) -> Result<Vec<u8>, AllocError> {
-    let mut bytes = Vec::with_capacity(alloc, 8192)?;
-    bytes.extend_from_slice(CONNECT)?;
-    for _ in 0..count {
-        bytes.extend_from_slice(PING)?;
+// How many PONGs a client got behind a CONNECTED, if nothing else, and why its session ended.
+type Seen = (Option<usize>, Option<Fault>);
+
+// What is seen of a client. Want of memory is an error.
+fn seen<R: Threads + Wait + Sync>(
+    rt: &R,
+    alloc: Global,
+    client: Client<'_>,
+) -> Result<Seen, Fault> {
+    let Ok(stage) = Stage::new(alloc, client) else {
+        return Err(Fault::NoMemory);
+    };
+    let came = serve(rt, alloc, &stage, client);
+    let fault = stage.fault();
+    match came {
+        Ok(came) if fault != Some(Fault::NoMemory) => Ok((came, fault)),
+        _ => Err(Fault::NoMemory),
     }
-    Ok(bytes)
 }
 
 // How many PONGs stand behind a CONNECTED, if nothing else does.
@@ -116,26 +151,16 @@ fn pongs(bytes: &[u8]) -> Option<usize> {
 // the reader waits for room, and is woken.
 #[test]
 fn gives_the_replies_of_any_cut(rt: HostRuntime) -> Result<(), Fail> {
-    for (piece, count) in [(1, 3), (13, 400), (17, 5), (40, 20), (8192, 400)] {
-        let bytes = pings(rt.alloc(), count)?;
+    for (piece, pings) in [(1, 3), (13, 400), (17, 5), (40, 20), (8192, 400)] {
         let client = Client {
-            bytes: bytes.as_slice(),
+            pings,
+            last: &[],
             piece,
             goes: true,
             writes: 100_000,
         };
-        let stage = Stage::new(rt.alloc(), client)?;
-        let came = serve(
-            &rt,
-            rt.alloc(),
-            &stage.bells,
-            &stage.line,
-            &stage.session,
-            client,
-        )?;
-        let fault = stage.fault()?;
-        assert_eq!(rt; pongs(came.as_slice()), Some(count), "in pieces of {piece}");
-        assert_eq!(rt; fault, None);
+        let seen = seen(&rt, rt.alloc(), client)?;
+        assert_eq!(rt; seen, (Some(pings), None), "in pieces of {piece}");
     }
     Ok(())
 }
@@ -143,29 +168,16 @@ fn gives_the_replies_of_any_cut(rt: HostRuntime) -> Result<(), Fail> {
 // A write that fails ends the reader too, which waits for bytes, or for room.
 #[test]
 fn ends_the_reader_where_a_write_fails(rt: HostRuntime) -> Result<(), Fail> {
-    let bytes = pings(rt.alloc(), 400)?;
     for (piece, writes, wanted) in [(17, 1, Some(0)), (13, 0, None), (8192, 0, None)] {
         let client = Client {
-            bytes: bytes.as_slice(),
+            pings: 400,
+            last: &[],
             piece,
             goes: false,
             writes,
         };
-        let stage = Stage::new(rt.alloc(), client)?;
-        let came = serve(
-            &rt,
-            rt.alloc(),
-            &stage.bells,
-            &stage.line,
-            &stage.session,
-            client,
-        )?;
-        let fault = stage.fault()?;
-        assert_eq!(rt;
-            (pongs(came.as_slice()), fault),
-            (wanted, None),
-            "in pieces of {piece}"
-        );
+        let seen = seen(&rt, rt.alloc(), client)?;
+        assert_eq!(rt; seen, (wanted, None), "in pieces of {piece}");
     }
     Ok(())
 }
@@ -174,27 +186,20 @@ fn ends_the_reader_where_a_write_fails(rt: HostRuntime) -> Result<(), Fail> {
 // client stays.
 #[test]
 fn writes_what_stands_in_the_ring_behind_a_fault(rt: HostRuntime) -> Result<(), Fail> {
-    let mut bytes = pings(rt.alloc(), 9)?;
-    bytes.extend_from_slice(CONNECT)?;
     for piece in [1, 13, 8192] {
         let client = Client {
-            bytes: bytes.as_slice(),
+            pings: 9,
+            last: CONNECT,
             piece,
             goes: false,
             writes: 100_000,
         };
-        let stage = Stage::new(rt.alloc(), client)?;
-        let came = serve(
-            &rt,
-            rt.alloc(),
-            &stage.bells,
-            &stage.line,
-            &stage.session,
-            client,
-        )?;
-        let fault = stage.fault()?;
-        assert_eq!(rt; pongs(came.as_slice()), Some(9), "in pieces of {piece}");
-        assert_eq!(rt; fault, Some(Fault::OutOfTurn));
+        let seen = seen(&rt, rt.alloc(), client)?;
+        assert_eq!(rt;
+            seen,
+            (Some(9), Some(Fault::OutOfTurn)),
+            "in pieces of {piece}"
+        );
     }
     Ok(())
 }

@@ -17,21 +17,22 @@ const SUBSCRIBE: &[u8] =
 // One message for consumer 2.
 const FLOW: &[u8] = b"\0\0\0\x0c\0\0\0\x08\x08\x0b\x5a\x04\x08\x02\x10\x01";
 
-// A turn of the writer, which is held while it serves. Gives what it wrote, and whether it was let go on.
+// A turn of the writer, which is held while it serves. Tells whether it wrote what it must, and whether it was let go on.
 fn write_held<R: Wait>(
     rt: &R,
     session: &Mutex<Numbered>,
     outgoing: Outgoing<Vec<u8>>,
     gate: &Gate,
-) -> (Vec<u8>, bool) {
+) -> (bool, bool) {
     let mut outgoing = outgoing;
     let mut desk = Desk::held(gate);
     let turns = Turns {
         left: AtomicU64::new(1),
     };
     let _ = write_loop(rt, 3, &turns, session, &mut desk, &mut outgoing);
-    let Outgoing { writer, .. } = outgoing;
-    (writer, desk.was_let)
+    let is_written = is_in_order(outgoing.writer.as_slice());
+    drop(outgoing);
+    (is_written, desk.was_let)
 }
 
 // Feeds a FLOW and a PING while the session is served, and tells when that has ended.
@@ -80,27 +81,29 @@ fn is_in_order(written: &[u8]) -> bool {
 // The serving goes on only once the FLOW has ended. What it gives has the earlier number, so it is written first.
 #[test]
 fn a_flow_waits_for_no_serving(rt: HostRuntime) -> Result<(), Fail> {
+    let writer = Vec::with_capacity(rt.alloc(), 100)?;
     let (mut replies, ring) = RingBuffer::new(rt.alloc(), 4)?;
-    let session = Mutex::new(Numbered::new(rt.alloc(), Session::new(rt.alloc(), 3)));
     let outgoing = Outgoing {
-        writer: Vec::with_capacity(rt.alloc(), 100)?,
+        writer,
         replies: ring,
         next: 0,
         replied: 0,
     };
+    let session = Mutex::new(Numbered::new(rt.alloc(), Session::new(rt.alloc(), 3)));
     let is_subscribed = feed(&rt, &session, CONNECT, &mut replies)
         && feed(&rt, &session, SUBSCRIBE, &mut replies);
     let gate = Gate::new();
     let shared = (&session, &gate);
-    let ((written, was_let), was_fed) = thread::join(
+    let ((is_written, was_let), was_fed) = thread::join(
         &rt,
         move || write_held(&rt, shared.0, outgoing, shared.1),
         move || feed_meanwhile(&rt, shared.0, replies, shared.1),
     );
     let numbered = session.into_inner();
-    ample(numbered.session())?;
+    let found = ample(numbered.session());
     drop(numbered);
+    found?;
     assert!(rt; is_subscribed && was_let && was_fed);
-    assert!(rt; is_in_order(written.as_slice()));
+    assert!(rt; is_written);
     Ok(())
 }

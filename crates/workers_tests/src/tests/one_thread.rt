@@ -1,12 +1,12 @@
 use super::desk::Desk;
 use super::streams::Turns;
 use super::{CONNECT, CONNECTED, PING, PONG, SUCCESS, ample};
-use rtrb::{Consumer, Producer, RingBuffer};
-use session::Session;
+use rtrb::{Producer, RingBuffer};
+use session::{Fault, Session};
 use std::alloc::{AllocError, Global};
 use std::io;
-use std::sync::Mutex;
 use std::sync::atomic::AtomicU64;
+use std::sync::{Mutex, Wait};
 use std::test::Fail;
 use workers::{Listing, Numbered, Outgoing, Output, Pumped, read_loop};
 
@@ -21,17 +21,70 @@ struct Feeder {
     replies: Producer<Output>,
 }
 
-// That of session 3, and its ring of so many places.
-fn over_a_ring(alloc: Global, places: usize) -> Result<(Feeder, Consumer<Output>), AllocError> {
-    let (replies, ring) = RingBuffer::new(alloc, places)?;
-    let numbered = Numbered::new(alloc, Session::new(alloc, 3));
-    let desk = Desk::new();
-    let feeder = Feeder {
-        numbered,
-        desk,
+// A connection in one thread.
+#[derive(Drop)]
+struct Bench {
+    feeder: Feeder,
+    outgoing: Outgoing<Vec<u8>>,
+}
+
+// What is left of a connection: the number of its session's next output, whether the session has ended, below which number all is
+// written, and what is.
+#[derive(Drop)]
+struct Left {
+    next: u64,
+    is_over: bool,
+    passed: u64,
+    written: Vec<u8>,
+}
+
+impl Bench {
+    // That of session 3, whose ring has so many places.
+    fn new(alloc: Global, places: usize) -> Result<Bench, AllocError> {
+        let writer = Vec::with_capacity(alloc, 100)?;
+        let (replies, ring) = RingBuffer::new(alloc, places)?;
+        Ok(Bench {
+            feeder: Feeder {
+                numbered: Numbered::new(alloc, Session::new(alloc, 3)),
+                desk: Desk::new(),
+                replies,
+            },
+            outgoing: Outgoing {
+                writer,
+                replies: ring,
+                next: 0,
+                replied: 0,
+            },
+        })
+    }
+
+    // What is left, where the session found memory.
+    fn end(self) -> Result<Left, Fault> {
+        let Bench { feeder, outgoing } = self;
+        let found = ample(feeder.numbered.session());
+        let (next, is_over) = (feeder.numbered.next(), feeder.numbered.is_over());
+        drop(feeder);
+        let passed = outgoing.next;
+        let written = written(outgoing);
+        found?;
+        Ok(Left {
+            next,
+            is_over,
+            passed,
+            written,
+        })
+    }
+}
+
+// What was written.
+fn written(outgoing: Outgoing<Vec<u8>>) -> Vec<u8> {
+    let Outgoing {
+        writer,
         replies,
-    };
-    Ok((feeder, ring))
+        ..
+    } = outgoing;
+    drop(replies);
+    writer
 }
 
 impl Feeder {
@@ -47,7 +100,7 @@ impl Feeder {
     // What that gives. Tells, too, whether the session has ended.
     fn serve(&mut self, listing: Listing) -> (Pumped, bool) {
         let pumped = listing.serve(&mut self.desk);
-        let ended = self.numbered.served(&pumped.answer);
+        let ended = self.numbered.served(pumped.answer());
         (pumped, ended)
     }
 
@@ -61,29 +114,18 @@ impl Feeder {
         }
         self.numbered.feed(bytes, &mut self.desk, &mut self.replies)
     }
-
-    // What a turn of the writer gives, where so many replies are due.
-    fn pump(&mut self, due: u32) -> Option<Pumped> {
-        let listing = self.list(due)?;
-        let (pumped, _) = self.serve(listing);
-        Some(pumped)
-    }
 }
 
-// Feeds, pumps and feeds, and writes what was pumped, and then the rest. Tells how many bytes stood written in between.
-fn write_between(feeder: &mut Feeder, outgoing: &mut Outgoing<Vec<u8>>) -> io::Result<usize> {
+// Feeds, serves what is due and feeds, and writes what was served, and then the rest. Tells how many bytes stood written in between.
+fn write_between(bench: &mut Bench, due: u32) -> io::Result<usize> {
+    let Bench { feeder, outgoing } = bench;
     feeder.feed(CONNECT);
-    let Some(
-        Pumped {
-            output: Some(output),
-            ..
-        },
-    ) = feeder.pump(1)
-    else {
+    let Some(listing) = feeder.list(due) else {
         return Ok(0);
     };
+    let (pumped, _) = feeder.serve(listing);
     feeder.feed(PING);
-    outgoing.write_pumped(&output)?;
+    pumped.write(outgoing)?;
     let written = outgoing.writer.len();
     outgoing.write_below(ABOVE)?;
     Ok(written)
@@ -92,75 +134,34 @@ fn write_between(feeder: &mut Feeder, outgoing: &mut Outgoing<Vec<u8>>) -> io::R
 // An output that was pumped comes behind the replies that were given before it, and before those that were given after it.
 #[test]
 fn writes_outputs_in_the_order_of_their_numbers(rt: HostRuntime) -> Result<(), Fail> {
-    let (mut feeder, ring) = over_a_ring(rt.alloc(), 4)?;
-    let mut outgoing = Outgoing {
-        writer: Vec::with_capacity(rt.alloc(), 100)?,
-        replies: ring,
-        next: 0,
-        replied: 0,
-    };
-    let written = write_between(&mut feeder, &mut outgoing);
-    ample(feeder.numbered.session())?;
-    let next = feeder.numbered.next();
-    let Outgoing { writer, .. } = outgoing;
-    drop(feeder);
-    assert_eq!(rt; written.ok(), Some(CONNECTED.len() + SUCCESS.len()));
-    assert_eq!(rt; next, 3);
-    let is_in_order = match writer.as_slice().strip_prefix(CONNECTED) {
-        Some(left) => left.starts_with(SUCCESS) && left.ends_with(PONG),
+    let mut bench = Bench::new(rt.alloc(), 4)?;
+    let written = write_between(&mut bench, 1).ok();
+    let left = bench.end()?;
+    assert_eq!(rt; written, Some(CONNECTED.len() + SUCCESS.len()));
+    assert_eq!(rt; left.next, 3);
+    let is_in_order = match left.written.as_slice().strip_prefix(CONNECTED) {
+        Some(behind) => behind.starts_with(SUCCESS) && behind.ends_with(PONG),
         None => false,
     };
     assert!(rt; is_in_order);
     Ok(())
 }
 
-// Feeds, serves nothing and feeds, and passes over the number of what was served. Tells how many bytes stood written in between.
-fn pass_between(feeder: &mut Feeder, outgoing: &mut Outgoing<Vec<u8>>) -> io::Result<usize> {
-    feeder.feed(CONNECT);
-    let Some(
-        Pumped {
-            number,
-            output: None,
-            ..
-        },
-    ) = feeder.pump(0)
-    else {
-        return Ok(0);
-    };
-    feeder.feed(PING);
-    outgoing.pass_over(number)?;
-    let written = outgoing.writer.len();
-    outgoing.write_below(ABOVE)?;
-    Ok(written)
-}
-
 // A number whose turn gives nothing stands unwritten for nobody.
 #[test]
 fn passes_over_a_number_without_an_output(rt: HostRuntime) -> Result<(), Fail> {
-    let (mut feeder, ring) = over_a_ring(rt.alloc(), 4)?;
-    let mut outgoing = Outgoing {
-        writer: Vec::with_capacity(rt.alloc(), 100)?,
-        replies: ring,
-        next: 0,
-        replied: 0,
-    };
-    let written = pass_between(&mut feeder, &mut outgoing);
-    ample(feeder.numbered.session())?;
-    let next = feeder.numbered.next();
-    let Outgoing {
-        writer,
-        next: passed,
-        ..
-    } = outgoing;
-    drop(feeder);
-    assert_eq!(rt; written.ok(), Some(CONNECTED.len()));
-    assert_eq!(rt; (next, passed), (3, 3));
-    assert!(rt; writer.ends_with(PONG));
+    let mut bench = Bench::new(rt.alloc(), 4)?;
+    let written = write_between(&mut bench, 0).ok();
+    let left = bench.end()?;
+    assert_eq!(rt; written, Some(CONNECTED.len()));
+    assert_eq!(rt; (left.next, left.passed), (3, 3));
+    assert!(rt; left.written.ends_with(PONG));
     Ok(())
 }
 
 // Lists the session, and then has its reader feed a second CONNECT, which ends it, or end it. Tells whether the turn finds that.
-fn ends_meanwhile(feeder: &mut Feeder, by_a_fault: bool) -> Option<bool> {
+fn ends_meanwhile(bench: &mut Bench, by_a_fault: bool) -> Option<bool> {
+    let Bench { feeder, outgoing } = bench;
     feeder.feed(CONNECT);
     let listing = feeder.list(1)?;
     if by_a_fault {
@@ -168,7 +169,8 @@ fn ends_meanwhile(feeder: &mut Feeder, by_a_fault: bool) -> Option<bool> {
     } else {
         feeder.numbered.end(&mut feeder.desk);
     }
-    let (_, ended) = feeder.serve(listing);
+    let (pumped, ended) = feeder.serve(listing);
+    pumped.write(outgoing).ok()?;
     Some(ended)
 }
 
@@ -176,23 +178,16 @@ fn ends_meanwhile(feeder: &mut Feeder, by_a_fault: bool) -> Option<bool> {
 #[test]
 fn ends_where_its_reader_ended_it_meanwhile(rt: HostRuntime) -> Result<(), Fail> {
     for by_a_fault in [true, false] {
-        let (mut feeder, ring) = over_a_ring(rt.alloc(), 4)?;
-        let ended = ends_meanwhile(&mut feeder, by_a_fault);
-        ample(feeder.numbered.session())?;
-        let is_over = feeder.numbered.is_over();
-        drop(feeder);
-        drop(ring);
-        assert_eq!(rt; (ended, is_over), (Some(true), true));
+        let mut bench = Bench::new(rt.alloc(), 4)?;
+        let ended = ends_meanwhile(&mut bench, by_a_fault);
+        let left = bench.end()?;
+        assert_eq!(rt; (ended, left.is_over), (Some(true), true));
     }
     Ok(())
 }
 
-// A turn that finds no free place in the ring reads nothing.
-#[test]
-fn reads_nothing_while_the_ring_is_full(rt: HostRuntime) -> Result<(), Fail> {
-    let (mut feeder, ring) = over_a_ring(rt.alloc(), 2)?;
-    let fed = feeder.feed(CONNECT) && feeder.feed(PING);
-    ample(feeder.numbered.session())?;
+// Reads so many turns. Tells how many bytes are left, whether the ring's end was finished, and what the session is then.
+fn read<R: Wait>(rt: &R, feeder: Feeder, turns: u64) -> (usize, bool, Numbered) {
     let Feeder {
         numbered,
         mut desk,
@@ -200,12 +195,12 @@ fn reads_nothing_while_the_ring_is_full(rt: HostRuntime) -> Result<(), Fail> {
     } = feeder;
     let session = Mutex::new(numbered);
     let turns = Turns {
-        left: AtomicU64::new(5),
+        left: AtomicU64::new(turns),
     };
     let mut input: &[u8] = PING;
     let mut buffer = [0; 16];
     let finished = read_loop(
-        &rt,
+        rt,
         3,
         &turns,
         &session,
@@ -216,12 +211,25 @@ fn reads_nothing_while_the_ring_is_full(rt: HostRuntime) -> Result<(), Fail> {
     );
     let is_finished = finished.is_some();
     drop(finished);
-    drop(ring);
-    let numbered = session.into_inner();
+    (input.len(), is_finished, session.into_inner())
+}
+
+// A turn that finds no free place in the ring reads nothing.
+#[test]
+fn reads_nothing_while_the_ring_is_full(rt: HostRuntime) -> Result<(), Fail> {
+    let Bench {
+        mut feeder,
+        outgoing,
+    } = Bench::new(rt.alloc(), 2)?;
+    let fed = feeder.feed(CONNECT) && feeder.feed(PING);
+    let (left, is_finished, numbered) = read(&rt, feeder, 5);
+    drop(outgoing);
+    let found = ample(numbered.session());
     let (next, is_over) = (numbered.next(), numbered.is_over());
     drop(numbered);
+    found?;
     assert!(rt; fed && is_finished && is_over);
-    assert_eq!(rt; (next, input.len()), (2, PING.len()));
+    assert_eq!(rt; (next, left), (2, PING.len()));
     Ok(())
 }
 
@@ -241,11 +249,9 @@ fn fill(feeder: &mut Feeder) -> (u32, bool) {
 
 #[test]
 fn has_room_for_so_many_outputs(rt: HostRuntime) -> Result<(), Fail> {
-    let (mut feeder, ring) = over_a_ring(rt.alloc(), 400)?;
-    let (count, has_room) = fill(&mut feeder);
-    ample(feeder.numbered.session())?;
-    drop(feeder);
-    drop(ring);
+    let mut bench = Bench::new(rt.alloc(), 400)?;
+    let (count, has_room) = fill(&mut bench.feeder);
+    drop(bench.end()?);
     assert_eq!(rt; (count, has_room), (256, true));
     Ok(())
 }

@@ -5,7 +5,7 @@ use gates::{Parting, ReaderGate, WriterGate};
 use session::Session;
 use std::alloc::Global;
 use std::io::{Read, Write};
-use std::net::{Shutdown, TcpListener, TcpStream};
+use std::net::{Net, Shutdown, TcpListener, TcpStream};
 use std::sync::{Mutex, Wait};
 use std::test::Fail;
 use std::thread::Threads;
@@ -49,13 +49,21 @@ fn talk(mut client: TcpStream) -> io::Result<bool> {
     Ok(connected.as_slice() == CONNECTED && pong.as_slice() == PONG && more == 0)
 }
 
+// Both ends of a connection: the client's first.
+fn ends<R: Net<Stream = TcpStream, Listener = TcpListener>>(
+    net: &R,
+) -> io::Result<(TcpStream, TcpStream)> {
+    let listener = TcpListener::bind(net, "127.0.0.1:0")?;
+    let client = TcpStream::connect(net, listener.local_addr()?)?;
+    let (stream, _) = listener.accept()?;
+    Ok((client, stream))
+}
+
 #[test]
 fn serves_a_socket(rt: HostRuntime) -> Result<(), Fail> {
+    let (client, stream) = ends(&rt)?;
     let bells = Bells::new(rt.alloc())?;
     let session = Mutex::new(Numbered::new(rt.alloc(), Session::new(rt.alloc(), 3)));
-    let listener = TcpListener::bind(&rt, "127.0.0.1:0")?;
-    let client = TcpStream::connect(&rt, listener.local_addr()?)?;
-    let (stream, _) = listener.accept()?;
     let shared = (&bells, &session);
     let (was_served, came) = thread::join(
         &rt,
@@ -63,8 +71,9 @@ fn serves_a_socket(rt: HostRuntime) -> Result<(), Fail> {
         move || talk(client).unwrap_or(false),
     );
     let numbered = session.into_inner();
-    ample(numbered.session())?;
+    let found = ample(numbered.session());
     drop(numbered);
+    found?;
     assert!(rt; came || !was_served);
     Ok(())
 }

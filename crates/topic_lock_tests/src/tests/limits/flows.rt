@@ -7,6 +7,7 @@ use super::talk::{FLOW, SECOND_MESSAGE, SEND, SUBSCRIBE, feed, greet};
 use super::waiting_port::{Pause, WaitingPort};
 use disk_mem::MemShelf;
 use gated_log::Refusal;
+use log::Log;
 use session::{Port, Session};
 use std::alloc::Global;
 use std::marker::Brand;
@@ -49,7 +50,7 @@ fn prepare<'a, K: Tallies, R: Wait, P: Port>(
 
 // Serves the session by its list. Behind each message, with the topic's lock, this is held until another FLOW of the session has ended.
 // Answers whether it was let go on each time, and whether the message went out that this FLOW permits.
-fn serve_held<'p, 'a, K: Tallies, R: Wait>(
+fn serve_held<'p, 'a, K: Tallies, R: Wait + Log>(
     rt: &R,
     alloc: Global,
     session: &Mutex<Session>,
@@ -95,7 +96,7 @@ fn feed_flow<P: Port, R: Wait>(
 }
 
 // Feeds the FLOW while the session is served, and tells when it has ended.
-fn flow<'p, 'a, K: Tallies, R: Wait>(
+fn flow<'p, 'a, K: Tallies, R: Wait + Log>(
     rt: &R,
     alloc: Global,
     session: &Mutex<Session>,
@@ -116,7 +117,7 @@ fn flow<'p, 'a, K: Tallies, R: Wait>(
 }
 
 // The session that is to be served, prepared by the port of its reader, which is handed back.
-fn prepared<'p, 'a, K: Tallies, R: Wait>(
+fn prepared<'p, 'a, K: Tallies, R: Wait + Log>(
     rt: &R,
     alloc: Global,
     resting: MemPort<'p, 'a, K, R>,
@@ -133,7 +134,7 @@ fn prepared<'p, 'a, K: Tallies, R: Wait>(
 }
 
 // What the serving saw, and whether the FLOW was fed.
-fn run<K: Tallies + Send + Sync, R: Threads + Wait + Sync>(
+fn run<K: Tallies + Send + Sync, R: Threads + Wait + Log + Sync>(
     rt: &R,
     alloc: Global,
     blanks: Blanks,

@@ -7,6 +7,7 @@ use super::talk::{RECEIPT, SEND, feed, greet};
 use super::waiting_port::{Pause, WaitingPort};
 use disk_mem::MemShelf;
 use gated_log::Refusal;
+use log::Log;
 use session::{Port, Session};
 use std::alloc::Global;
 use std::marker::Brand;
@@ -32,7 +33,7 @@ struct Gate {
 }
 
 // Pumps the first session, which is held in `collect` until the second one has its receipt. Answers whether it was let go on.
-fn is_held<'p, 'a, K: Tallies, R: Wait>(
+fn is_held<'p, 'a, K: Tallies, R: Wait + Log>(
     alloc: Global,
     resting: MemPort<'p, 'a, K, R>,
     gate: &Gate,
@@ -77,7 +78,7 @@ fn is_receipted<P: Port>(alloc: Global, port: &mut P) -> Result<bool, Refusal> {
 }
 
 // Sends in the second session while the first one's pump is held, and tells the first one once the receipt is there.
-fn sends<'p, 'a, K: Tallies, R: Wait>(
+fn sends<'p, 'a, K: Tallies, R: Wait + Log>(
     alloc: Global,
     resting: MemPort<'p, 'a, K, R>,
     gate: &Gate,
@@ -113,7 +114,7 @@ fn flush_while<'a, K: Tallies, R: Wait>(
 }
 
 // The second session in a thread, and the flusher in another one.
-fn sends_and_flushes<'p, 'a, K: Tallies + Send + Sync, R: Threads + Wait + Sync>(
+fn sends_and_flushes<'p, 'a, K: Tallies + Send + Sync, R: Threads + Wait + Log + Sync>(
     rt: &R,
     alloc: Global,
     resting: MemPort<'p, 'a, K, R>,
@@ -135,7 +136,7 @@ fn sends_and_flushes<'p, 'a, K: Tallies + Send + Sync, R: Threads + Wait + Sync>
 }
 
 // Whether the first session's pump was let go on, and the second one's SEND was receipted.
-fn run<K: Tallies + Send + Sync, R: Threads + Wait + Sync>(
+fn run<K: Tallies + Send + Sync, R: Threads + Wait + Log + Sync>(
     rt: &R,
     alloc: Global,
     blanks: Blanks,
