@@ -16,7 +16,7 @@ use Rattle.commands.specs.Connection.{connect_of}
 use Rattle.commands.specs.Producing.{producer_of, send_of, close_producer_of}
 use Rattle.commands.specs.MessageIds.{message_id_of}
 use Rattle.commands.specs.KeyShared.{key_shared_mode, int_range_of, key_shared_meta_of}
-use Rattle.commands.specs.Consuming.{subscription_type, initial_position, ack_type, subscribe_of, ack_of, flow_of, unsubscribe_of}
+use Rattle.commands.specs.Consuming.{subscription_type, initial_position, ack_type, subscribe_numbers, subscribe_of, ack_of, flow_of, unsubscribe_of}
 use Rattle.commands.specs.GivingBack.{close_consumer_of, redeliver_of}
 use Rattle.commands.specs.Lookup.{partitioned_topic_metadata_of, lookup_topic_of}
 use Rattle.commands.specs.Commands.{command_in}
@@ -143,7 +143,7 @@ only-meta_value k fields = only-value key_shared_meta_of k fields only-meta
 
 -- the content of a command: the line below names the definitions of the commands' contents
 pub only-command : (kind : CommandType) (body : List ℕ) → IsReadable (command_in kind body)
-unfolding command_in connect_of producer_of send_of close_producer_of subscribe_of ack_of flow_of unsubscribe_of close_consumer_of redeliver_of partitioned_topic_metadata_of lookup_topic_of
+unfolding command_in connect_of producer_of send_of close_producer_of subscribe_numbers subscribe_of ack_of flow_of unsubscribe_of close_consumer_of redeliver_of partitioned_topic_metadata_of lookup_topic_of
 only-command Ping body = only-bind (only-bind (only-fields body) (λ fields. only-ok tt)) (λ c. only-ok _)
 only-command other body =
     search (only-bind, only-ok, only-fields, only-required, only-u64, only-u32, only-bool, only-bytes, only-i32, only-text, only-type, only-position, only-ack_type, only-ids, only-id_value, only-meta_value) depth 20

@@ -6,7 +6,9 @@ use Rattle.commands.specs.declared.consuming.SubscriptionType.{SubscriptionType}
 use Rattle.commands.specs.declared.consuming.SubscriptionType.TheVariants.{Exclusive, Shared, Failover, KeyShared}
 use Rattle.commands.specs.declared.consuming.InitialPosition.{InitialPosition}
 use Rattle.commands.specs.declared.consuming.InitialPosition.TheVariants.{Latest, Earliest}
+use Rattle.proto_fields.specs.declared.value.Field.{Field}
 use Rattle.commands.specs.declared.consuming.Subscribe.{Subscribe}
+use Rattle.commands.specs.declared.consuming.SubscribeNumbers.{SubscribeNumbers}
 use Rattle.commands.specs.declared.consuming.AckType.{AckType}
 use Rattle.commands.specs.declared.consuming.AckType.TheVariants.{Individual, Cumulative}
 use Rattle.commands.specs.declared.consuming.Ack.{Ack}
@@ -34,11 +36,9 @@ initial_position k = if k == 0 then Ok Latest else if k == 1 then Ok Earliest el
 abbrev pub ack_type : ℕ → Result AckType CommandFault
 ack_type k = if k == 0 then Ok Individual else if k == 1 then Ok Cumulative else Err Unreadable
 
-unfoldable pub subscribe_of : List ℕ → Result Subscribe CommandFault
-subscribe_of bytes = do
-  fields ← message_fields bytes
-  topic ← text_field 1 fields >>= required
-  subscription ← text_field 2 fields >>= required
+-- a SUBSCRIBE without its texts and its ranges
+unfoldable pub subscribe_numbers : List Field → Result SubscribeNumbers CommandFault
+subscribe_numbers fields = do
   kind ← u64_field 3 fields >>= required >>= subscription_type
   consumer_id ← u64_field 4 fields >>= required
   request_id ← u64_field 5 fields >>= required
@@ -46,16 +46,31 @@ subscribe_of bytes = do
   start_message_id ← message_value_field message_id_of 9 fields
   position ← u64_field 13 fields
   initial ← initial_position (unwrap_or position 0)
-  key_shared_meta ← message_value_field key_shared_meta_of 17 fields
   Ok (record {
-    topic = topic;
-    subscription = subscription;
     subscription_type = kind;
     consumer_id = consumer_id;
     request_id = request_id;
     durable = unwrap_or durable true;
     start_message_id = start_message_id;
     initial_position = initial;
+  })
+
+unfoldable pub subscribe_of : List ℕ → Result Subscribe CommandFault
+subscribe_of bytes = do
+  fields ← message_fields bytes
+  numbers ← subscribe_numbers fields
+  key_shared_meta ← message_value_field key_shared_meta_of 17 fields
+  topic ← text_field 1 fields >>= required
+  subscription ← text_field 2 fields >>= required
+  Ok (record {
+    topic = topic;
+    subscription = subscription;
+    subscription_type = numbers.subscription_type;
+    consumer_id = numbers.consumer_id;
+    request_id = numbers.request_id;
+    durable = numbers.durable;
+    start_message_id = numbers.start_message_id;
+    initial_position = numbers.initial_position;
     key_shared_meta = key_shared_meta;
   })
 

@@ -10,7 +10,7 @@ use Rattle.proto_fields.specs.declared.value.Value.TheVariants.{Varint, Fixed64,
 use Rattle.proto_fields.specs.Fields.{fields_of}
 use Rattle.commands.specs.declared.fault.CommandFault.{CommandFault}
 use Rattle.commands.specs.declared.fault.CommandFault.TheVariants.{Unreadable}
-use Rattle.commands.specs.Reading.{◌>>=◌, readable}
+use Rattle.commands.specs.Reading.{◌>>=◌, readable, required}
 
 -- the fields of a message: its bytes are fields and nothing else
 unfoldable pub message_fields : List ℕ → Result (List Field) CommandFault
@@ -67,6 +67,9 @@ message_field number fields = occurrences content_of number fields >>= λ parts.
 abbrev pub u64_field : ℕ → List Field → Result (Option ℕ) CommandFault
 u64_field = last_field varint_of
 
+abbrev pub required_u64_field : ℕ → List Field → Result ℕ CommandFault
+required_u64_field number fields = u64_field number fields >>= required
+
 abbrev pub bytes_field : ℕ → List Field → Result (Option (List ℕ)) CommandFault
 bytes_field = last_field content_of
 
@@ -122,3 +125,6 @@ i64_field number fields = u64_field number fields >>= kept (λ n. Ok (cast_signe
 
 unfoldable pub text_field : ℕ → List Field → Result (Option (List ℕ)) CommandFault
 text_field number fields = bytes_field number fields >>= kept as_text
+
+abbrev pub required_text_field : ℕ → List Field → Result (List ℕ) CommandFault
+required_text_field number fields = text_field number fields >>= required

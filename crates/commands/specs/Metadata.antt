@@ -10,14 +10,14 @@ use Rattle.commands.specs.Message.{message_fields, u64_field, i32_field, i64_fie
 unfoldable pub meta_of : List ℕ → Result MessageMeta CommandFault
 meta_of bytes = do
   fields ← message_fields bytes
-  producer_name ← text_field 1 fields >>= required
   sequence_id ← u64_field 2 fields >>= required
   publish_time ← u64_field 3 fields >>= required
-  partition_key ← text_field 6 fields
   compression ← u64_field 8 fields
   num_messages_in_batch ← i32_field 11 fields
-  ordering_key ← bytes_field 18 fields
   deliver_at_time ← i64_field 19 fields
+  producer_name ← text_field 1 fields >>= required
+  partition_key ← text_field 6 fields
+  ordering_key ← bytes_field 18 fields
   Ok (record {
     producer_name = producer_name;
     sequence_id = sequence_id;

@@ -9,7 +9,6 @@ use crate::consuming::{
 use crate::fault::CommandFault;
 use crate::giving_back::{CloseConsumer, Redeliver, read_close_consumer, read_redeliver};
 use crate::held::Held;
-use crate::kinds::required;
 use crate::lookup::{
     LookupTopic, PartitionedTopicMetadata, read_lookup_topic, read_partitioned_topic_metadata,
 };
@@ -121,7 +120,7 @@ pub fn read_command(alloc: Global, bytes: &[u8]) -> Result<Command, CommandFault
 {
     let mut held = [Held::Absent; 12];
     let message = Message::read(bytes, &mut held)?;
-    let number = required(message.u64(1)?)?;
+    let number = message.required_u64(1)?;
     let Some(kind) = command_type(number) else {
         return Ok(Command::Other(number));
     };

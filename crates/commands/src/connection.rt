@@ -4,7 +4,6 @@ ghost use Rattle.commands.specs.Connection.{connect_of, empty_of};
 
 use crate::fault::CommandFault;
 use crate::held::Held;
-use crate::kinds::required;
 use crate::message::Message;
 use crate::text::Text;
 use std::alloc::Global;
@@ -23,7 +22,7 @@ pub fn read_connect(alloc: Global, bytes: &[u8]) -> Result<Connect, CommandFault
     let mut held = [Held::Absent; 5];
     let message = Message::read(bytes, &mut held)?;
     Ok(Connect {
-        client_version: required(message.text(alloc, 1)?)?,
+        client_version: message.required_text(alloc, 1)?,
         protocol_version: message.i32(4)?.unwrap_or(0),
     })
 }

@@ -1,6 +1,6 @@
 ghost use Rattle.std.specs.Prelude.{◌≡◌};
 ghost use Rattle.commands.specs.Reading.{Reads};
-ghost use Rattle.commands.specs.Consuming.{subscription_type, initial_position, ack_type, subscribe_of, ack_of, flow_of, unsubscribe_of};
+ghost use Rattle.commands.specs.Consuming.{subscription_type, initial_position, ack_type, subscribe_numbers, subscribe_of, ack_of, flow_of, unsubscribe_of};
 
 use crate::fault::CommandFault;
 use crate::held::Held;
@@ -41,6 +41,17 @@ pub struct Subscribe {
     pub start_message_id: Option<MessageIdData>,
     pub initial_position: InitialPosition,
     pub key_shared_meta: Option<KeySharedMeta>,
+}
+
+/// The fields of a SUBSCRIBE that are let go without a call.
+#[derive(Clone, Copy)]
+struct SubscribeNumbers {
+    subscription_type: SubscriptionType,
+    consumer_id: u64,
+    request_id: u64,
+    durable: bool,
+    start_message_id: Option<MessageIdData>,
+    initial_position: InitialPosition,
 }
 
 /// Whether the messages of an acknowledgement are meant one by one, or all up to the last
@@ -107,22 +118,45 @@ fn ack_type(number: u64) -> Result<AckType, CommandFault>
     }
 }
 
+/// What a SUBSCRIBE says beside its texts and its ranges.
+#[tactic(auto, unfolding(crate::specs::Consuming::subscribe_numbers))]
+fn read_subscribe_numbers(
+    alloc: Global,
+    message: &Message<'_, '_>,
+) -> Result<SubscribeNumbers, CommandFault>
+    ensures { Reads result (subscribe_numbers message.now) }
+{
+    Ok(SubscribeNumbers {
+        subscription_type: subscription_type(message.required_u64(3)?)?,
+        consumer_id: message.required_u64(4)?,
+        request_id: message.required_u64(5)?,
+        durable: message.bool(8)?.unwrap_or(true),
+        start_message_id: read_message_id_field(alloc, message, 9)?,
+        initial_position: initial_position(message.u64(13)?.unwrap_or(0))?,
+    })
+}
+
+/// The texts come last, so that little is let go where a field is refused.
 #[tactic(auto, unfolding(crate::specs::Consuming::subscribe_of))]
 pub fn read_subscribe(alloc: Global, bytes: &[u8]) -> Result<Subscribe, CommandFault>
     ensures { Reads result (subscribe_of bytes.now) }
 {
     let mut held = [Held::Absent; 18];
     let message = Message::read(bytes, &mut held)?;
+    let numbers = read_subscribe_numbers(alloc, &message)?;
+    let key_shared_meta = read_key_shared_meta_field(alloc, &message, 17)?;
+    let topic = message.required_text(alloc, 1)?;
+    let subscription = message.required_text(alloc, 2)?;
     Ok(Subscribe {
-        topic: required(message.text(alloc, 1)?)?,
-        subscription: required(message.text(alloc, 2)?)?,
-        subscription_type: subscription_type(required(message.u64(3)?)?)?,
-        consumer_id: required(message.u64(4)?)?,
-        request_id: required(message.u64(5)?)?,
-        durable: message.bool(8)?.unwrap_or(true),
-        start_message_id: read_message_id_field(alloc, &message, 9)?,
-        initial_position: initial_position(message.u64(13)?.unwrap_or(0))?,
-        key_shared_meta: read_key_shared_meta_field(alloc, &message, 17)?,
+        topic,
+        subscription,
+        subscription_type: numbers.subscription_type,
+        consumer_id: numbers.consumer_id,
+        request_id: numbers.request_id,
+        durable: numbers.durable,
+        start_message_id: numbers.start_message_id,
+        initial_position: numbers.initial_position,
+        key_shared_meta,
     })
 }
 
@@ -133,8 +167,8 @@ pub fn read_ack(alloc: Global, bytes: &[u8]) -> Result<Ack, CommandFault>
     let mut held = [Held::Absent; 9];
     let message = Message::read(bytes, &mut held)?;
     Ok(Ack {
-        consumer_id: required(message.u64(1)?)?,
-        ack_type: ack_type(required(message.u64(2)?)?)?,
+        consumer_id: message.required_u64(1)?,
+        ack_type: ack_type(message.required_u64(2)?)?,
         message_ids: read_message_ids(alloc, &message, 3)?,
         request_id: message.u64(8)?,
     })
@@ -147,7 +181,7 @@ pub fn read_flow(bytes: &[u8]) -> Result<Flow, CommandFault>
     let mut held = [Held::Absent; 3];
     let message = Message::read(bytes, &mut held)?;
     Ok(Flow {
-        consumer_id: required(message.u64(1)?)?,
+        consumer_id: message.required_u64(1)?,
         message_permits: required(message.u32(2)?)?,
     })
 }
@@ -159,7 +193,7 @@ pub fn read_unsubscribe(bytes: &[u8]) -> Result<Unsubscribe, CommandFault>
     let mut held = [Held::Absent; 3];
     let message = Message::read(bytes, &mut held)?;
     Ok(Unsubscribe {
-        consumer_id: required(message.u64(1)?)?,
-        request_id: required(message.u64(2)?)?,
+        consumer_id: message.required_u64(1)?,
+        request_id: message.required_u64(2)?,
     })
 }

@@ -4,7 +4,6 @@ ghost use Rattle.commands.specs.GivingBack.{close_consumer_of, redeliver_of};
 
 use crate::fault::CommandFault;
 use crate::held::Held;
-use crate::kinds::required;
 use crate::message::Message;
 use crate::message_ids::read_message_ids;
 use crate::sequence::Sequence;
@@ -34,8 +33,8 @@ pub fn read_close_consumer(bytes: &[u8]) -> Result<CloseConsumer, CommandFault>
     let mut held = [Held::Absent; 3];
     let message = Message::read(bytes, &mut held)?;
     Ok(CloseConsumer {
-        consumer_id: required(message.u64(1)?)?,
-        request_id: required(message.u64(2)?)?,
+        consumer_id: message.required_u64(1)?,
+        request_id: message.required_u64(2)?,
     })
 }
 
@@ -46,7 +45,7 @@ pub fn read_redeliver(alloc: Global, bytes: &[u8]) -> Result<Redeliver, CommandF
     let mut held = [Held::Absent; 3];
     let message = Message::read(bytes, &mut held)?;
     Ok(Redeliver {
-        consumer_id: required(message.u64(1)?)?,
+        consumer_id: message.required_u64(1)?,
         message_ids: read_message_ids(alloc, &message, 2)?,
     })
 }

@@ -70,7 +70,7 @@ fn read_key_shared_meta(alloc: Global, bytes: &[u8]) -> Result<KeySharedMeta, Co
 {
     let mut held = [Held::Absent; 4];
     let message = Message::read(bytes, &mut held)?;
-    let mode = key_shared_mode(required(message.u64(1)?)?)?;
+    let mode = key_shared_mode(message.required_u64(1)?)?;
     let parts = message.parts(alloc, 3)?;
     let hash_ranges = read_each(alloc, parts.as_slice())?;
     Ok(KeySharedMeta { mode, hash_ranges })

@@ -4,7 +4,6 @@ ghost use Rattle.commands.specs.Lookup.{partitioned_topic_metadata_of, lookup_to
 
 use crate::fault::CommandFault;
 use crate::held::Held;
-use crate::kinds::required;
 use crate::message::Message;
 use crate::text::Text;
 use std::alloc::Global;
@@ -33,8 +32,8 @@ pub fn read_partitioned_topic_metadata(
     let mut held = [Held::Absent; 3];
     let message = Message::read(bytes, &mut held)?;
     Ok(PartitionedTopicMetadata {
-        topic: required(message.text(alloc, 1)?)?,
-        request_id: required(message.u64(2)?)?,
+        topic: message.required_text(alloc, 1)?,
+        request_id: message.required_u64(2)?,
     })
 }
 
@@ -45,7 +44,7 @@ pub fn read_lookup_topic(alloc: Global, bytes: &[u8]) -> Result<LookupTopic, Com
     let mut held = [Held::Absent; 3];
     let message = Message::read(bytes, &mut held)?;
     Ok(LookupTopic {
-        topic: required(message.text(alloc, 1)?)?,
-        request_id: required(message.u64(2)?)?,
+        topic: message.required_text(alloc, 1)?,
+        request_id: message.required_u64(2)?,
     })
 }

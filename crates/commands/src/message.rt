@@ -5,7 +5,7 @@ ghost use Rattle.commands.specs.Message.{in_message, u64_field, bytes_field, mes
 use crate::content::Content;
 use crate::fault::CommandFault;
 use crate::held::Held;
-use crate::kinds::{as_bool, as_i32, as_text, as_u32, content_of, varint_of};
+use crate::kinds::{as_bool, as_i32, as_text, as_u32, content_of, required, varint_of};
 use crate::sequence::Sequence;
 use crate::text::Text;
 use proto_fields::{ByteSlice, Fields};
@@ -39,7 +39,7 @@ impl<'a, 'k> Message<'a, 'k> {
     ghost use Rattle.commands.specs.declared.held.Held.TheVariants.{Absent};
     ghost use Rattle.commands.specs.Reading.{Reads};
     ghost use Rattle.commands.specs.Kept.{seen, held_of};
-    ghost use Rattle.commands.specs.Message.{message_fields, u64_field, u32_field, bool_field, i32_field, i64_field, bytes_field, text_field, message_field, has_field, occurrences, content_of};
+    ghost use Rattle.commands.specs.Message.{message_fields, u64_field, required_u64_field, u32_field, bool_field, i32_field, i64_field, bytes_field, text_field, required_text_field, message_field, has_field, occurrences, content_of};
 
     /// The message of these bytes. What is asked of the fields of a number is kept at its place in `held`.
     pub fn read(bytes: &'a [u8], held: &'k mut [Held<'a>]) -> Result<Message<'a, 'k>, CommandFault>
@@ -76,6 +76,14 @@ impl<'a, 'k> Message<'a, 'k> {
             None => last_varint(self.bytes, number),
             Some(held) => held.number(),
         }
+    }
+
+    /// The number of a required field.
+    #[inline(always)]
+    pub fn required_u64(&self, number: u32) -> Result<u64, CommandFault>
+        ensures { result ≡ required_u64_field number self.now }
+    {
+        required(self.u64(number)?)
     }
 
     /// The number of 32 bits without a sign of a field.
@@ -141,6 +149,13 @@ impl<'a, 'k> Message<'a, 'k> {
             None => Ok(None),
             Some(bytes) => Ok(Some(as_text(alloc, bytes.as_slice())?)),
         }
+    }
+
+    /// The text of a required field.
+    pub fn required_text(&self, alloc: Global, number: u32) -> Result<Text, CommandFault>
+        ensures { Reads result (required_text_field number self.now) }
+    {
+        required(self.text(alloc, number)?)
     }
 
     /// The bytes of a field.

@@ -5,7 +5,6 @@ ghost use Rattle.commands.specs.MessageIds.{message_id_of};
 
 use crate::fault::CommandFault;
 use crate::held::Held;
-use crate::kinds::required;
 use crate::message::Message;
 use crate::sequence::Sequence;
 use ids::MessageIdData;
@@ -20,8 +19,8 @@ fn read_message_id(bytes: &[u8]) -> Result<MessageIdData, CommandFault>
     let mut held = [Held::Absent; 6];
     let message = Message::read(bytes, &mut held)?;
     Ok(MessageIdData {
-        ledger_id: required(message.u64(1)?)?,
-        entry_id: required(message.u64(2)?)?,
+        ledger_id: message.required_u64(1)?,
+        entry_id: message.required_u64(2)?,
         partition: message.i32(3)?.unwrap_or(-1),
         batch_index: message.i32(4)?.unwrap_or(-1),
         has_ack_set: message.has(5)?,

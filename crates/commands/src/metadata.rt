@@ -4,7 +4,6 @@ ghost use Rattle.commands.specs.Metadata.{meta_of, size_at, entry_of};
 
 use crate::fault::CommandFault;
 use crate::held::Held;
-use crate::kinds::required;
 use crate::message::Message;
 use crate::sequence::Sequence;
 use crate::text::Text;
@@ -24,7 +23,7 @@ pub struct MessageMeta {
     pub deliver_at_time: Option<i64>,
 }
 
-/// The metadata of an entry.
+/// The metadata of an entry. Its texts come last, so that little is let go where a field is refused.
 #[tactic(auto, unfolding(crate::specs::Metadata::meta_of))]
 pub fn read_meta(alloc: Global, bytes: &[u8]) -> Result<MessageMeta, CommandFault>
     ensures { Reads result (meta_of bytes.now) }
@@ -32,14 +31,14 @@ pub fn read_meta(alloc: Global, bytes: &[u8]) -> Result<MessageMeta, CommandFaul
     let mut held = [Held::Absent; 20];
     let message = Message::read(bytes, &mut held)?;
     Ok(MessageMeta {
-        producer_name: required(message.text(alloc, 1)?)?,
-        sequence_id: required(message.u64(2)?)?,
-        publish_time: required(message.u64(3)?)?,
-        partition_key: message.text(alloc, 6)?,
+        sequence_id: message.required_u64(2)?,
+        publish_time: message.required_u64(3)?,
         compression: message.u64(8)?.unwrap_or(0),
         num_messages_in_batch: message.i32(11)?.unwrap_or(1),
-        ordering_key: message.bytes(alloc, 18)?,
         deliver_at_time: message.i64(19)?,
+        producer_name: message.required_text(alloc, 1)?,
+        partition_key: message.text(alloc, 6)?,
+        ordering_key: message.bytes(alloc, 18)?,
     })
 }
 

@@ -4,7 +4,6 @@ ghost use Rattle.commands.specs.Producing.{producer_of, send_of, close_producer_
 
 use crate::fault::CommandFault;
 use crate::held::Held;
-use crate::kinds::required;
 use crate::message::Message;
 use crate::text::Text;
 use std::alloc::Global;
@@ -40,9 +39,9 @@ pub fn read_producer(alloc: Global, bytes: &[u8]) -> Result<Producer, CommandFau
     let mut held = [Held::Absent; 5];
     let message = Message::read(bytes, &mut held)?;
     Ok(Producer {
-        topic: required(message.text(alloc, 1)?)?,
-        producer_id: required(message.u64(2)?)?,
-        request_id: required(message.u64(3)?)?,
+        topic: message.required_text(alloc, 1)?,
+        producer_id: message.required_u64(2)?,
+        request_id: message.required_u64(3)?,
         producer_name: message.text(alloc, 4)?,
     })
 }
@@ -54,8 +53,8 @@ pub fn read_send(bytes: &[u8]) -> Result<Send, CommandFault>
     let mut held = [Held::Absent; 4];
     let message = Message::read(bytes, &mut held)?;
     Ok(Send {
-        producer_id: required(message.u64(1)?)?,
-        sequence_id: required(message.u64(2)?)?,
+        producer_id: message.required_u64(1)?,
+        sequence_id: message.required_u64(2)?,
         num_messages: message.i32(3)?.unwrap_or(1),
     })
 }
@@ -67,7 +66,7 @@ pub fn read_close_producer(bytes: &[u8]) -> Result<CloseProducer, CommandFault>
     let mut held = [Held::Absent; 3];
     let message = Message::read(bytes, &mut held)?;
     Ok(CloseProducer {
-        producer_id: required(message.u64(1)?)?,
-        request_id: required(message.u64(2)?)?,
+        producer_id: message.required_u64(1)?,
+        request_id: message.required_u64(2)?,
     })
 }

@@ -1,6 +1,8 @@
 // Records are read.
-ghost use Rattle.std.specs.Prelude.{◌≡◌, ◌≤◌, ◌^◌, true, false, drop, Some, None, MatchOption, IfOk, option_map};
+ghost use Rattle.std.specs.Prelude.{◌≡◌, ◌≤◌, ◌^◌, true, false, drop, Some, None, MatchBool, MatchOption, IfOk, option_map};
 ghost use Rattle.records.specs.Maps.{Kept};
+ghost use Rattle.records.specs.Names.{is_subscription_name};
+ghost use Rattle.records.specs.Records.{IsFormed, after, name_of};
 ghost use Rattle.records.specs.Bytes.{IsBody};
 ghost use Rattle.records.specs.Reading.{first_name, first_position, record_with, first_record, HasNone, HasOne};
 
@@ -81,6 +83,23 @@ fn first_record(alloc: Global, bytes: &[u8]) -> Result<Option<(Record, &[u8])>, 
     Ok(record_with(*kind, name, behind))
 }
 
+// Applies a record with a name, and answers whether it is of its form there. Where it isn't, nothing has changed.
+fn apply_formed(
+    change: &Record,
+    entries: u64,
+    kept: &mut KeptSubscriptions,
+) -> Result<bool, AllocError>
+    requires entries { entries ≤ 2 ^ 62 }
+    requires name { is_subscription_name (name_of change.now) ≡ true }
+    ensures { IfOk result (λ formed. MatchBool formed (IsFormed entries kept.old change.now × (kept.new ≡ after change.now kept.old)) (¬ IsFormed entries kept.old change.now × (kept.new ≡ kept.old))) }
+{
+    if !kept.admits(change, entries) {
+        return Ok(false);
+    }
+    kept.apply(change)?;
+    Ok(true)
+}
+
 // Applies the record at the beginning of these bytes, and answers what stands behind it. Where none of its form stands there,
 // nothing has changed.
 fn apply_first<'a>(
@@ -95,11 +114,12 @@ fn apply_first<'a>(
     let Some((change, behind)) = first_record(alloc, bytes)? else {
         return Ok(None);
     };
-    if !kept.admits(&change, entries) {
-        return Ok(None);
+    let applied = apply_formed(&change, entries, kept);
+    drop(change);
+    if applied? {
+        return Ok(Some(behind));
     }
-    kept.apply(&change)?;
-    Ok(Some(behind))
+    Ok(None)
 }
 
 /// Reads the body of a batch of records, beside a ledger of so many entries and what is kept before it, and answers whether it
