@@ -21,7 +21,7 @@ impl Model for BothEnds {
 
     ghost use Rattle.std.specs.Prelude.{◌≡◌, ◌^◌, ◌≤◌};
 
-    ghost view = { λ g. record { word = g.taker.word; taken = g.taker.taken; known = g.granter.granted } };
+    ghost view = { λ g. record { word = g.taker.word; taken = g.taker.taken; known = g.granter.granted; looks = 0 } };
 
     ghost invariant = { λ g. (g.granter.word ≡ g.taker.word) × (g.taker.taken ≤ g.granter.granted) × (g.granter.granted ≤ g.taker.known) × (g.granter.granted ≤ 2 ^ 62) };
 }
@@ -40,6 +40,8 @@ impl Gauge for BothEnds {
     ghost told_of = { λ t. None };
 
     ghost exact = { Unit {0} };
+
+    ghost looks = { λ g. g.looks };
 
     fn count(&self) -> u64 {
         self.taker.count()
