@@ -67,7 +67,10 @@ impl<T: TopicStore, S: Shelf + Drop> Node<T, S> {
         let per_ledger = catalog.entries_per_ledger();
         let held = match open_topics(alloc, &mut shelf, catalog.len(), per_ledger) {
             Ok(held) => held,
-            Err(why) => return Err((why, Site { url, shelf })),
+            Err(why) => {
+                drop(catalog);
+                return Err((why, Site { url, shelf }));
+            }
         };
         Ok(Node {
             alloc,

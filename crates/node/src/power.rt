@@ -146,11 +146,19 @@ pub fn drive<T: TopicStore, S: CrashShelf + Drop>(
     ensures any_moment { (first : State) → AtRest T.stands first (S.disk site.shelf) → site.url ≡ first.broker.service_url →
         IfOk result (λ machine. Leaves (StandsAmidst T.stands first happenings.items) (S.disk site.shelf) (disk_in S.disk machine)) }
 {
-    outputs.reserve(1)?;
+    if let Err(error) = outputs.reserve(1) {
+        drop(site);
+        drop(happenings);
+        return Err(error);
+    }
     let (mut machine, output) = Machine::start(alloc, site);
     outputs.push(output).unwrap();
     for happening in happenings {
-        outputs.reserve(1)?;
+        if let Err(error) = outputs.reserve(1) {
+            drop(happening);
+            drop(machine);
+            return Err(error);
+        }
         let (next, output) = machine.happen(alloc, happening);
         machine = next;
         outputs.push(output).unwrap();

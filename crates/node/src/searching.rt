@@ -74,16 +74,26 @@ impl<T: TopicStore, S: Shelf> Topics<T, S> {
         }
         let again = Catalog::open(self.alloc, &mut self.shelf)?;
         if !self.is_followed_by(&again) {
+            drop(again);
             return Err(Refusal::Damaged {
                 file: FileId::Catalog,
                 offset: 0,
             });
         }
         if again.len() > self.held.len() {
-            self.held.reserve(1)?;
+            if let Err(why) = self.held.reserve(1) {
+                drop(again);
+                return Err(why.into());
+            }
             let number = self.held.len() as u16;
             let per_ledger = again.entries_per_ledger();
-            let held = Held::open(self.alloc, &mut self.shelf, number, per_ledger)?;
+            let held = match Held::open(self.alloc, &mut self.shelf, number, per_ledger) {
+                Ok(held) => held,
+                Err(why) => {
+                    drop(again);
+                    return Err(why);
+                }
+            };
             self.held.push(held).unwrap();
             self.catalog = again;
             self.doubtful = None;
@@ -121,8 +131,16 @@ impl<T: TopicStore, S: Shelf> Topics<T, S> {
         let doubted = name.clone()?;
         let number = self.held.len() as u16;
         let per_ledger = self.catalog.entries_per_ledger();
-        let held = Held::create(self.alloc, &mut self.shelf, number, per_ledger)?;
+        let held = match Held::create(self.alloc, &mut self.shelf, number, per_ledger) {
+            Ok(held) => held,
+            Err(why) => {
+                drop(added);
+                drop(doubted);
+                return Err(why.into());
+            }
+        };
         if let Err(why) = self.catalog.add(&mut self.shelf, added) {
+            drop(held);
             if self.catalog.is_failed() {
                 self.doubtful = Some(doubted);
             }

@@ -34,6 +34,24 @@ WorksCommand Fails old (command.PartitionedMetadata c) entry new = PartitionsSte
 WorksCommand Fails old (command.Lookup c) entry new = LookupStep old c new
 WorksCommand Fails old (command.Other k) entry new = Ends old fault.UnknownCommand new
 
+-- a command behind which no entry is read
+abbrev pub is_alone : Command → Bool
+is_alone (command.Connect c) = true
+is_alone (command.Producer c) = true
+is_alone (command.Send c) = false
+is_alone (command.Subscribe c) = true
+is_alone (command.Flow c) = true
+is_alone (command.Ack c) = true
+is_alone (command.Unsubscribe c) = true
+is_alone (command.CloseProducer c) = true
+is_alone (command.CloseConsumer c) = true
+is_alone command.Ping = true
+is_alone command.Pong = true
+is_alone (command.RedeliverUnacknowledgedMessages c) = true
+is_alone (command.PartitionedMetadata c) = true
+is_alone (command.Lookup c) = true
+is_alone (command.Other k) = true
+
 abbrev pub connected_client : Client → Client
 connected_client c = record c { connected = true }
 

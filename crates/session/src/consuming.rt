@@ -50,20 +50,30 @@ impl Session {
         ensures works { P.works port.old port.new }
     {
         if let Some(error) = self.own_consumer_refusal(&asked) {
-            return self.refuse_consumer(asked.request_id, error, out);
+            self.refuse_consumer(asked.request_id, error, out);
+            drop(asked);
+            return;
         }
         let Ok(name) = read_name(self.alloc, asked.topic.as_str()) else {
+            drop(asked);
             return self.end_by(Fault::NoMemory);
         };
-        match port.find(&name) {
+        let found = port.find(&name);
+        drop(name);
+        match found {
             Found::Topic(topic) => self.subscribe_on(topic, asked, port, out),
             Found::TooMany => {
-                self.refuse_consumer(asked.request_id, ServerError::TooManyRequests, out)
+                self.refuse_consumer(asked.request_id, ServerError::TooManyRequests, out);
+                drop(asked);
             }
             Found::Failed => {
-                self.refuse_consumer(asked.request_id, ServerError::PersistenceError, out)
+                self.refuse_consumer(asked.request_id, ServerError::PersistenceError, out);
+                drop(asked);
             }
-            Found::NoMemory => self.end_by(Fault::NoMemory),
+            Found::NoMemory => {
+                drop(asked);
+                self.end_by(Fault::NoMemory)
+            }
         }
     }
 
@@ -78,7 +88,9 @@ impl Session {
         ensures says { Says self.old out.old.items (plain (Error request_id error)) self.new out.new.items }
         ensures speaks { Speaks self.old out.old.items self.new out.new.items }
     {
-        self.say(&Reply::Error { request_id, error }, out)
+        let reply = Reply::Error { request_id, error };
+        self.say(&reply, out);
+        drop(reply);
     }
 
     fn subscribe_on<P: Port>(
@@ -119,15 +131,26 @@ impl Session {
         ensures speaks { Speaks self.old out.old.items self.new out.new.items }
         ensures passes { P.passes port.old port.new }
     {
-        let ranges = ranges_of(
-            self.alloc,
-            asked.subscription_type,
-            asked.key_shared_meta.as_ref(),
-        )?;
-        let place = self.consumers.insert(asked.consumer_id, topic)?;
+        let wanted = asked.key_shared_meta.as_ref();
+        let ranges = match ranges_of(self.alloc, asked.subscription_type, wanted) {
+            Ok(ranges) => ranges,
+            Err(error) => {
+                drop(asked);
+                return Err(error);
+            }
+        };
+        let place = match self.consumers.insert(asked.consumer_id, topic) {
+            Ok(place) => place,
+            Err(error) => {
+                drop(asked);
+                drop(ranges);
+                return Err(error);
+            }
+        };
         let answer = port.command(topic, self.number, subscribe_command(asked, ranges));
         keep_if(&mut self.consumers, is_later(&answer), place, port);
         self.answer(&answer, out);
+        drop(answer);
         Ok(())
     }
 
@@ -181,7 +204,8 @@ impl Session {
         };
         let command = TopicCommand::Ack(asked);
         let answer = port.command(topic, self.number, command);
-        self.answer(&answer, out)
+        self.answer(&answer, out);
+        drop(answer);
     }
 
     /// Answers the ACK of a consumer that the session doesn't have, where it asks for an answer.
@@ -192,14 +216,13 @@ impl Session {
         let Some(request_id) = request_id else {
             return;
         };
-        self.say(
-            &Reply::AckResponse {
-                consumer_id,
-                error: Some(ServerError::ConsumerNotFound),
-                request_id,
-            },
-            out,
-        )
+        let reply = Reply::AckResponse {
+            consumer_id,
+            error: Some(ServerError::ConsumerNotFound),
+            request_id,
+        };
+        self.say(&reply, out);
+        drop(reply);
     }
 
     /// Works UNSUBSCRIBE ("PulsarApi.proto, CommandUnsubscribe").
@@ -219,7 +242,8 @@ impl Session {
         };
         let command = TopicCommand::Unsubscribe(asked);
         let answer = port.command(topic, self.number, command);
-        self.answer(&answer, out)
+        self.answer(&answer, out);
+        drop(answer);
     }
 }
 

@@ -25,7 +25,8 @@ impl Session {
         };
         let command = TopicCommand::CloseConsumer(asked);
         let answer = port.command(topic, self.number, command);
-        self.answer(&answer, out)
+        self.answer(&answer, out);
+        drop(answer);
     }
 
     /// Works REDELIVER ("PulsarApi.proto, CommandRedeliverUnacknowledgedMessages"), which has no answer.
@@ -40,6 +41,7 @@ impl Session {
         };
         let command = TopicCommand::Redeliver(asked);
         let answer = port.command(topic, self.number, command);
-        self.answer(&answer, out)
+        self.answer(&answer, out);
+        drop(answer);
     }
 }

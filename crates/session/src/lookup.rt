@@ -19,24 +19,23 @@ impl Session {
         let request_id = asked.request_id;
         if !is_topic_name(asked.topic.as_str().as_bytes()) {
             let service_url = Err(ServerError::InvalidTopicName);
-            return self.say(
-                &Reply::LookupResponse {
-                    request_id,
-                    service_url,
-                },
-                out,
-            );
+            let reply = Reply::LookupResponse {
+                request_id,
+                service_url,
+            };
+            self.say(&reply, out);
+            drop(reply);
+            return;
         }
         match String::from_str(self.alloc, port.service_url()) {
             Ok(url) => {
                 let service_url = Ok(ReplyText::new(url));
-                self.say(
-                    &Reply::LookupResponse {
-                        request_id,
-                        service_url,
-                    },
-                    out,
-                )
+                let reply = Reply::LookupResponse {
+                    request_id,
+                    service_url,
+                };
+                self.say(&reply, out);
+                drop(reply);
             }
             Err(_) => self.end_by(Fault::NoMemory),
         }
@@ -54,9 +53,8 @@ impl Session {
         } else {
             Some(ServerError::InvalidTopicName)
         };
-        self.say(
-            &Reply::PartitionedMetadataResponse { request_id, error },
-            out,
-        )
+        let reply = Reply::PartitionedMetadataResponse { request_id, error };
+        self.say(&reply, out);
+        drop(reply);
     }
 }

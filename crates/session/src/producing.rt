@@ -45,20 +45,30 @@ impl Session {
         ensures works { P.works port.old port.new }
     {
         if let Some(error) = self.own_refusal(&asked) {
-            return self.refuse_producer(asked.request_id, error, out);
+            self.refuse_producer(asked.request_id, error, out);
+            drop(asked);
+            return;
         }
         let Ok(name) = read_name(self.alloc, asked.topic.as_str()) else {
+            drop(asked);
             return self.end_by(Fault::NoMemory);
         };
-        match port.find(&name) {
+        let found = port.find(&name);
+        drop(name);
+        match found {
             Found::Topic(topic) => self.open_on(topic, asked, port, out),
             Found::TooMany => {
-                self.refuse_producer(asked.request_id, ServerError::TooManyRequests, out)
+                self.refuse_producer(asked.request_id, ServerError::TooManyRequests, out);
+                drop(asked);
             }
             Found::Failed => {
-                self.refuse_producer(asked.request_id, ServerError::PersistenceError, out)
+                self.refuse_producer(asked.request_id, ServerError::PersistenceError, out);
+                drop(asked);
             }
-            Found::NoMemory => self.end_by(Fault::NoMemory),
+            Found::NoMemory => {
+                drop(asked);
+                self.end_by(Fault::NoMemory)
+            }
         }
     }
 
@@ -73,7 +83,9 @@ impl Session {
         ensures says { Says self.old out.old.items (plain (Error request_id error)) self.new out.new.items }
         ensures speaks { Speaks self.old out.old.items self.new out.new.items }
     {
-        self.say(&Reply::Error { request_id, error }, out)
+        let reply = Reply::Error { request_id, error };
+        self.say(&reply, out);
+        drop(reply);
     }
 
     fn open_on<P: Port>(&mut self, topic: u64, asked: Producer, port: &mut P, out: &mut Vec<u8>)
@@ -107,11 +119,12 @@ impl Session {
         ensures passes { P.passes port.old port.new }
     {
         let Producer {
-            topic: _,
+            topic: asked_topic,
             producer_id,
             request_id,
             producer_name,
         } = asked;
+        drop(asked_topic);
         let producer_name = name_for(self.alloc, self.number, producer_id, producer_name)?;
         self.producers.reserve(1)?;
         let command = TopicCommand::Producer {
@@ -122,6 +135,7 @@ impl Session {
         let answer = port.command(topic, self.number, command);
         keep(&mut self.producers, is_success(&answer), producer_id, topic);
         self.answer(&answer, out);
+        drop(answer);
         Ok(())
     }
 
@@ -138,14 +152,13 @@ impl Session {
         ensures says { Says self.old out.old.items (plain (SendError asked.producer_id asked.sequence_id NotAllowedError)) self.new out.new.items }
         ensures speaks { Speaks self.old out.old.items self.new out.new.items }
     {
-        self.say(
-            &Reply::SendError {
-                producer_id: asked.producer_id,
-                sequence_id: asked.sequence_id,
-                error: ServerError::NotAllowedError,
-            },
-            out,
-        )
+        let reply = Reply::SendError {
+            producer_id: asked.producer_id,
+            sequence_id: asked.sequence_id,
+            error: ServerError::NotAllowedError,
+        };
+        self.say(&reply, out);
+        drop(reply);
     }
 
     /// Works SEND ("PulsarApi.proto, CommandSend").
@@ -165,6 +178,7 @@ impl Session {
             return self.end_by(Fault::BadPayload);
         };
         let Some(topic) = self.producer_topic(asked.producer_id, port) else {
+            drop(entry);
             return self.refuse_send(asked, out);
         };
         let command = TopicCommand::Send(topic_core::Send {
@@ -174,7 +188,8 @@ impl Session {
             entry,
         });
         let answer = port.command(topic, self.number, command);
-        self.answer(&answer, out)
+        self.answer(&answer, out);
+        drop(answer);
     }
 
     /// Works CLOSE_PRODUCER ("PulsarApi.proto, CommandCloseProducer"). The id stays in use until the topic has closed the
@@ -190,7 +205,8 @@ impl Session {
         };
         let command = TopicCommand::CloseProducer(asked);
         let answer = port.command(topic, self.number, command);
-        self.answer(&answer, out)
+        self.answer(&answer, out);
+        drop(answer);
     }
 }
 

@@ -180,6 +180,7 @@ impl Speaker {
             return false;
         };
         self.say(&reply, out);
+        drop(reply);
         true
     }
 
@@ -334,6 +335,7 @@ impl Speaker {
         match port.dispatch(consumer.topic, self.number(), consumer.id) {
             Ok(Some(message)) => {
                 self.hand_out(&message, out);
+                drop(message);
                 Ok(true)
             }
             Ok(None) => Ok(false),

@@ -1,6 +1,7 @@
-ghost use Rattle.std.specs.Prelude.{◌≡◌, [], OnSome, IfSome};
+ghost use Rattle.std.specs.Prelude.{◌≡◌, [], true, OnSome, IfSome};
+ghost use Rattle.frames.specs.declared.frame.FrameEntry.{FrameEntry};
 ghost use Rattle.session.specs.Client.{Client, Play, play, Speaks, Writes};
-ghost use Rattle.session.specs.Working.{WorksCommand, Connects, FrameStep, FramesStep, first_fault, feed_result, FeedStep};
+ghost use Rattle.session.specs.Working.{WorksCommand, is_alone, Connects, FrameStep, FramesStep, first_fault, feed_result, FeedStep};
 
 use crate::fault::Fault;
 use crate::port::Port;
@@ -71,13 +72,14 @@ impl Session {
         ensures works { P.works port.old port.new }
     {
         if self.fault.is_some() {
+            drop(frame);
             return;
         }
         if self.connected {
-            self.work_command(frame, port, out)
-        } else {
-            self.connect(&frame.command, port, out)
+            return self.work_command(frame, port, out);
         }
+        self.connect(&frame.command, port, out);
+        drop(frame);
     }
 
     /// Works a command after CONNECT.
@@ -89,9 +91,26 @@ impl Session {
     {
         let Frame { command, entry } = frame;
         match command {
+            Command::Send(asked) => self.send(asked, entry, port, out),
+            command => {
+                drop(entry);
+                self.work_alone(command, port, out)
+            }
+        }
+    }
+
+    /// Works a command behind which no entry is read.
+    fn work_alone<P: Port>(&mut self, command: Command, port: &mut P, out: &mut Vec<u8>)
+        requires { is_alone command ≡ true }
+        ensures step { P.sole port.old → (entry : FrameEntry) → WorksCommand (P.fails port.old port.new) (play self.old (P.broker port.old) out.old.items) command entry
+            (play self.new (P.broker port.new) out.new.items) }
+        ensures speaks { Speaks self.old out.old.items self.new out.new.items }
+        ensures works { P.works port.old port.new }
+    {
+        match command {
             Command::Connect(_) => self.end_by(Fault::OutOfTurn),
             Command::Producer(asked) => self.open(asked, port, out),
-            Command::Send(asked) => self.send(asked, entry, port, out),
+            Command::Send(_) => unreachable!(),
             Command::Subscribe(asked) => self.subscribe(asked, port, out),
             Command::Flow(asked) => self.flow(asked, port, out),
             Command::Ack(asked) => self.ack(asked, port, out),

@@ -144,12 +144,24 @@ impl<G: Gauge> Subscription<G> {
     {
         let newcomer = Consumer::new(seat.key, gauge);
         if self.consumers.is_empty() {
-            let dispatch = first_one(alloc, mode, seat)?;
-            self.consumers.push(newcomer)?;
+            let dispatch = match first_one(alloc, mode, seat) {
+                Ok(dispatch) => dispatch,
+                Err(refused) => {
+                    drop(newcomer);
+                    return Err(refused);
+                }
+            };
+            if let Err(refused) = self.consumers.push(newcomer) {
+                drop(dispatch);
+                return Err(refused);
+            }
             self.dispatch = dispatch;
             return Ok(());
         }
-        self.consumers.push(newcomer)?;
+        if let Err(refused) = self.consumers.push(newcomer) {
+            drop(seat);
+            return Err(refused);
+        }
         match self.dispatch.attach(seat) {
             Ok(()) => Ok(()),
             Err(refused) => {
@@ -397,7 +409,10 @@ fn first_one(alloc: Global, mode: Mode, seat: Seat) -> Result<Dispatch, AllocErr
     ensures seats { IfOk result (λ d. seats_of d ≡ seat ∷ []) }
 {
     let mut dispatch = Dispatch::new(alloc, mode);
-    dispatch.attach(seat)?;
+    if let Err(refused) = dispatch.attach(seat) {
+        drop(dispatch);
+        return Err(refused);
+    }
     Ok(dispatch)
 }
 

@@ -187,7 +187,11 @@ impl<G: Gauge> Subscriptions<G> {
         };
         let key = seat.key;
         let former = self.directory.of(key);
-        self.directory.add(key, place)?;
+        if let Err(refused) = self.directory.add(key, place) {
+            drop(seat);
+            drop(gauge);
+            return Err(refused);
+        }
         let sub = &mut self.subs[place];
         match sub.attach(self.alloc, mode, seat, gauge) {
             Ok(()) => {
@@ -220,10 +224,24 @@ impl<G: Gauge> Subscriptions<G> {
         ensures err { OnErr result (self.new ≡ self.old) }
     {
         let key = seat.key;
-        reserve_one(&mut self.changes, &mut self.subs, &mut self.hints)?;
+        if let Err(refused) = reserve_one(&mut self.changes, &mut self.subs, &mut self.hints) {
+            drop(seat);
+            drop(gauge);
+            return Err(refused);
+        }
         let sub = new_subscription(self.alloc, name, mode, seat, gauge, start)?;
-        let change = made_change(self.alloc, name, start)?;
-        self.directory.add(key, self.subs.len())?;
+        let change = match made_change(self.alloc, name, start) {
+            Ok(change) => change,
+            Err(refused) => {
+                drop(sub);
+                return Err(refused);
+            }
+        };
+        if let Err(refused) = self.directory.add(key, self.subs.len()) {
+            drop(change);
+            drop(sub);
+            return Err(refused);
+        }
         self.changes.push(change).unwrap();
         self.subs.push(sub).unwrap();
         self.hints.push(Hints::new(self.alloc)).unwrap();
@@ -298,8 +316,8 @@ impl<G: Gauge> Subscriptions<G> {
         let sub = &self.subs[place];
         let name = sub.shared_name().clone()?;
         self.changes.push(Record::Removed { name })?;
-        let _ = self.subs.remove(place);
-        let _ = self.hints.remove(place);
+        drop(self.subs.remove(place));
+        drop(self.hints.remove(place));
         self.directory.move_up(place);
         let next = place_of(self.subs.as_slice(), key);
         self.directory.set(key, next);
@@ -528,8 +546,19 @@ fn new_subscription<G: Gauge>(
     requires allowed { refuses_ranges mode [] seat.ranges ≡ false }
     ensures { IfOk result (λ s. s ≡ attached_to mode seat (made name.now mode start)) }
 {
-    let mut sub = Subscription::new(alloc, Name::new(alloc, name)?, mode, start);
-    sub.attach(alloc, mode, seat, gauge)?;
+    let name = match Name::new(alloc, name) {
+        Ok(name) => name,
+        Err(refused) => {
+            drop(seat);
+            drop(gauge);
+            return Err(refused);
+        }
+    };
+    let mut sub = Subscription::new(alloc, name, mode, start);
+    if let Err(refused) = sub.attach(alloc, mode, seat, gauge) {
+        drop(sub);
+        return Err(refused);
+    }
     Ok(sub)
 }
 

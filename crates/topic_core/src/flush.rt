@@ -125,15 +125,18 @@ impl<G: Gauge> TopicCore<G> {
         ensures other { awaits self.old batch ≡ false → (result ≡ Ok 0) × (self.new ≡ self.old) }
     {
         if !self.awaits(&batch) {
+            drop(batch);
             return Ok(0);
         }
         match written {
             Ok(()) => Ok(self.commit(batch)),
             Err(WriteError::Device) => {
+                drop(batch);
                 self.fail();
                 Err(WriteError::Device)
             }
             Err(WriteError::NoMemory) => {
+                drop(batch);
                 self.take_back();
                 Err(WriteError::NoMemory)
             }
@@ -169,7 +172,11 @@ impl<G: Gauge> TopicCore<G> {
         ensures count { result ≡ entries_of self.old.doubt }
         ensures committed { self.new ≡ finished self.old }
     {
-        let Batch { mut entries, .. } = batch;
+        let Batch {
+            mut entries,
+            changes,
+        } = batch;
+        drop(changes);
         let count = self.entries_handed_on();
         let changes = self.changes_handed_on();
         let bytes = bytes_in(&self.waiting[..count]);

@@ -113,6 +113,7 @@ impl<G: Gauge> TopicCore<G> {
         let topic = stores.topic();
         let again: Opened<G, T> = open_stores(self.alloc, shelf, topic, self.per_ledger)?;
         if again.stores.len() < self.committed {
+            drop(again);
             return Err(Refusal::Damaged {
                 file: FileId::Segment { topic, number: 0 },
                 offset: 0,

@@ -69,7 +69,9 @@ impl Recent {
         self.durable = durable;
         let beside = BYTES_BESIDE.saturating_mul(entries.len() as u64);
         let mut more = VecDeque::from_vec(entries);
-        if self.entries.append(&mut more).is_err() {
+        let appended = self.entries.append(&mut more);
+        drop(more);
+        if appended.is_err() {
             self.entries.clear();
             self.bytes = 0;
             return;

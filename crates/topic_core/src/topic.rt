@@ -211,11 +211,13 @@ impl<G: Gauge> TopicCore<G> {
         ensures err { OnErr result ((self.new ≡ self.old) × (first_standing (send_refusals self.old who send) ≡ None)) }
     {
         if let Some(error) = self.send_refusal(who, &send) {
-            return Ok(Answer::Now(Reply::SendError {
+            let refusal = Reply::SendError {
                 producer_id: send.producer_id,
                 sequence_id: send.sequence_id,
                 error,
-            }));
+            };
+            drop(send);
+            return Ok(Answer::Now(refusal));
         }
         let Send {
             producer_id,
@@ -228,6 +230,7 @@ impl<G: Gauge> TopicCore<G> {
         };
         let PlainEntry { bytes, metadata } = entry;
         let slot = slot_of_meta(&metadata);
+        drop(metadata);
         self.accept(who, producer_id, sequence_id, bytes, slot)?;
         Ok(Answer::Later)
     }

@@ -46,8 +46,8 @@ loop-happening-preserved g c =
           );
     }
 
-pub returns-in_err-reserve-clause-drove : goal.returns-in_err-reserve-clause-drove
-returns-in_err-reserve-clause-drove g c = λ first rest url.
+pub returns-in-Err-clause-drove : goal.returns-in-Err-clause-drove
+returns-in-Err-clause-drove g c = λ first rest url.
     let start : Life = record { up = false; state = first } in
     record {
       answers = [];
@@ -58,8 +58,8 @@ returns-in_err-reserve-clause-drove g c = λ first rest url.
       accounts = λ at_start. life_accounts start [] [] start refl at_start;
     }
 
-pub returns-in_err-reserve-2-clause-drove : goal.returns-in_err-reserve-2-clause-drove
-returns-in_err-reserve-2-clause-drove g c = λ first rest url.
+pub returns-in-Err-reserve-clause-drove : goal.returns-in-Err-reserve-clause-drove
+returns-in-Err-reserve-clause-drove g c = λ first rest url.
     let i = c.loop-happening.invariant in
     let r = i.run first rest url in
     let start : Life = record { up = false; state = first } in

@@ -24,13 +24,13 @@ returns-in_err-added-clause-works g c = works_same g.S.Shelf.disk c.args.self.no
 pub returns-in_err-doubted-clause-works : goal.returns-in_err-doubted-clause-works
 returns-in_err-doubted-clause-works g c = works_same g.S.Shelf.disk c.args.self.now _ c.reserve.ensures.items refl refl refl refl refl
 
-pub returns-in_err-held-clause-works : goal.returns-in_err-held-clause-works
-returns-in_err-held-clause-works g c = (
+pub returns-in-Err-clause-works : goal.returns-in-Err-clause-works
+returns-in-Err-clause-works g c = (
   omega (arith, ap (λ (l : List (Held _ _)). length l) c.reserve.ensures.items),
   λ s.
       let t = c.args.self.now in
       let disk = g.S.Shelf.disk in
-      let e = c.in_err-held.ensures in
+      let e = c.in-Err.ensures in
       let n_is : c.len-number.result ≡ length t.held.items = search rules in
       worked_not disk g.met.T.TopicStore.laws g.met.T.TopicStore.stands_local t s c.requires.sure (disk c.create.new.shelf) e.kept (subst (λ k. Within (OfTopic k) (λ i. Unit {0}) (disk t.shelf) (disk c.create.new.shelf)) n_is (e.others s.honest))
       _ refl c.reserve.ensures.items refl (ap (λ (l : List (Held _ _)). over (broker_of t) (map (λ (h : Held _ _). h.core) l)) c.reserve.ensures.items) (λ names settled. settled),
@@ -39,7 +39,7 @@ returns-in_err-held-clause-works g c = (
 pub invariant_of-self-then-is_failed : goal.invariant_of-self-then-is_failed
 invariant_of-self-then-is_failed g c =
     let t = c.args.self.now in
-    let e = c.in-Err.ensures in
+    let e = c.in-Err-add.ensures in
     record {
       numbered = λ j h is. subst (λ n. IsNumbered n j h) (sym e.per_ledger) (t.numbered j h (sym (ap (λ (l : List (Held _ _)). slice_get l j) c.reserve.ensures.items) ∙ is));
       named = ap (λ (l : Names). length l) (e.remembered refl) ∙ t.named ∙ sym (ap (λ (l : List (Held _ _)). length l) c.reserve.ensures.items);
@@ -49,7 +49,7 @@ invariant_of-self-then-is_failed g c =
 pub invariant_of-self-else-is_failed : goal.invariant_of-self-else-is_failed
 invariant_of-self-else-is_failed g c =
     let t = c.args.self.now in
-    let e = c.in-Err.ensures in
+    let e = c.in-Err-add.ensures in
     record {
       numbered = λ j h is. subst (λ n. IsNumbered n j h) (sym e.per_ledger) (t.numbered j h (sym (ap (λ (l : List (Held _ _)). slice_get l j) c.reserve.ensures.items) ∙ is));
       named = ap (λ (l : Names). length l) (e.remembered refl) ∙ t.named ∙ sym (ap (λ (l : List (Held _ _)). length l) c.reserve.ensures.items);
@@ -60,10 +60,10 @@ pub invariant_of-self-2 : goal.invariant_of-self-2
 invariant_of-self-2 g c =
     let t = c.args.self.now in
     let e = c.in_default.ensures in
-    let h = c.in_ok-held.held in
+    let h = c.in-Ok.held in
     let pushed : c.push.new.self.items ≡ t.held.items ++ h ∷ [] = search rules in
     let n_is : c.len-number.result ≡ length t.held.items = search rules in
-    let numbered = subst (λ k. IsNumbered (per_ledger t.catalog) k h) n_is (subst (λ n. IsNumbered n c.len-number.result h) c.entries_per_ledger-per_ledger.ensures.number c.in_ok-held.ensures.numbered) in
+    let numbered = subst (λ k. IsNumbered (per_ledger t.catalog) k h) n_is (subst (λ n. IsNumbered n c.len-number.result h) c.entries_per_ledger-per_ledger.ensures.number c.in-Ok.ensures.numbered) in
     record {
       numbered = subst (λ n. AreNumbered n c.push.new.self.items) (sym e.per_ledger) (subst (λ (l : List (Held _ _)). AreNumbered (per_ledger t.catalog) l) (sym pushed) (numbered_push t.held.items h (per_ledger t.catalog) t.numbered numbered));
       named = ap (λ (l : Names). length l) e.grown ∙ length-append (remembered t.catalog) (c.in_ok-added.added ∷ []) ∙ ap (λ n. n + 1) t.named ∙ sym (length-append t.held.items (h ∷ [])) ∙ sym (ap (λ (l : List (Held _ _)). length l) pushed);
@@ -78,9 +78,9 @@ returns-then-is_failed-clause-works g c = (
       let disk = g.S.Shelf.disk in
       let d1 = disk c.create.new.shelf in
       let name = c.args.name.now in
-      let h = c.in_ok-held.held in
-      let e1 = c.in_ok-held.ensures in
-      let e2 = c.in-Err.ensures in
+      let h = c.in-Ok.held in
+      let e1 = c.in-Ok.ensures in
+      let e2 = c.in-Err-add.ensures in
       let laws = g.met.T.TopicStore.laws in
       let local = g.met.T.TopicStore.stands_local in
       let n_is : c.len-number.result ≡ length t.held.items = search rules in
@@ -106,13 +106,13 @@ returns-else-is_failed-clause-works g c = (
       let t = c.args.self.now in
       let disk = g.S.Shelf.disk in
       let d1 = disk c.create.new.shelf in
-      let e1 = c.in_ok-held.ensures in
-      let e2 = c.in-Err.ensures in
+      let e1 = c.in-Ok.ensures in
+      let e2 = c.in-Err-add.ensures in
       let laws = g.met.T.TopicStore.laws in
       let local = g.met.T.TopicStore.stands_local in
       let n_is : c.len-number.result ≡ length t.held.items = search rules in
       let w = subst (λ k. Within (OfTopic k) (λ i. Unit {0}) (disk t.shelf) d1) n_is (e1.others s.honest) in
-      let memory : c.in-Err.why ≡ refusal.NoMemory = ⊎_elim (λ (device : c.in-Err.why ≡ refusal.Device). absurd (true≢false (sym (e2.failed (ap (λ r. Err r) device)) ∙ sym c.is_failed.ensures ∙ c.if-is_failed.false))) (λ (none : c.in-Err.why ≡ refusal.NoMemory). none) e2.refusals in
+      let memory : c.in-Err-add.why ≡ refusal.NoMemory = ⊎_elim (λ (device : c.in-Err-add.why ≡ refusal.Device). absurd (true≢false (sym (e2.failed (ap (λ r. Err r) device)) ∙ sym c.is_failed.ensures ∙ c.if-is_failed.false))) (λ (none : c.in-Err-add.why ≡ refusal.NoMemory). none) e2.refusals in
       let m = e2.no_memory (ap (λ r. Err r) memory) in
       worked_not disk laws local t s c.requires.sure d1 e1.kept w _ (ap (λ (x : _). disk x) m.1.1) c.reserve.ensures.items refl
       (same_parts e2.per_ledger refl (e2.remembered refl) refl (ap (λ (l : List (Held _ _)). map (λ (h : Held _ _). h.core) l) c.reserve.ensures.items))
@@ -122,14 +122,14 @@ returns-else-is_failed-clause-works g c = (
 pub returns-clause-works : goal.returns-clause-works
 returns-clause-works g c =
     let t = c.args.self.now in
-    let h = c.in_ok-held.held in
+    let h = c.in-Ok.held in
     let pushed : c.push.new.self.items ≡ t.held.items ++ h ∷ [] = search rules in (
       omega (arith, ap (λ (l : List (Held _ _)). length l) pushed, length-append t.held.items (h ∷ [])),
       λ s.
           let disk = g.S.Shelf.disk in
           let d1 = disk c.create.new.shelf in
           let name = c.args.name.now in
-          let e1 = c.in_ok-held.ensures in
+          let e1 = c.in-Ok.ensures in
           let e2 = c.in_default.ensures in
           let laws = g.met.T.TopicStore.laws in
           let local = g.met.T.TopicStore.stands_local in

@@ -49,8 +49,8 @@ returns-then-not-is_followed_by-clause-works g c = (
       refl refl refl refl (sym c.is_failed.ensures ∙ c.if-not-is_failed.false),
 )
 
-pub returns-in_err-reserve-clause-works : goal.returns-in_err-reserve-clause-works
-returns-in_err-reserve-clause-works g c = (
+pub returns-in-Err-clause-works : goal.returns-in-Err-clause-works
+returns-in-Err-clause-works g c = (
   omega (arith, ap (λ (l : List (Held _ _)). length l) c.reserve.ensures.items),
   λ s.
       let e = c.in_ok-again.ensures in
@@ -59,25 +59,24 @@ returns-in_err-reserve-clause-works g c = (
       c.reserve.ensures.items refl (ap (λ (l : List (Held _ _)). over (broker_of t) (map (λ (h : Held _ _). h.core) l)) c.reserve.ensures.items) refl (sym c.is_failed.ensures ∙ c.if-not-is_failed.false),
 )
 
-pub returns-in_err-held-clause-refusals : goal.returns-in_err-held-clause-refusals
-returns-in_err-held-clause-refusals g c = λ s.
+pub returns-in-Err-open-clause-refusals : goal.returns-in-Err-open-clause-refusals
+returns-in-Err-open-clause-refusals g c = λ s.
     let t = c.args.self.now in
     let e1 = c.in_ok-again.ensures in
-    let p = err_from_is_err_and c.from_residual-in_err-held.result c.from_residual-in_err-held.ensures.1 in
     let n_is : c.len-number.result ≡ length t.held.items = search rules in
     let more : length t.held.items < length (remembered c.in_ok-again.again) = omega (arith, c.if-len.true, c.len.ensures.count, c.len-2.ensures) in
-    rw (p.1) (⊎_elim (λ memory. inl (p.2 ∙ memory)) (λ other. inr (⊎_elim (λ device. p.2 ∙ device)
+    ⊎_elim (λ memory. inl memory) (λ other. inr (⊎_elim (λ device. device)
     (λ fault. absurd (no_topic_fault g.S.Shelf.disk t s (g.met.S.Shelf.lawful t.shelf s.honest).leaves_seen (sym c.is_failed.ensures ∙ c.if-not-is_failed.false) c.in_ok-again.again (g.S.Shelf.disk c.open.new.shelf)
-    (e1.seen s.honest (λ no. cc)) (e1.opened s.honest) g.T.TopicStore.faulty g.met.T.TopicStore.stands_sound more c.in_err-held.field-0.0 (subst (λ k. g.T.TopicStore.faulty k (g.S.Shelf.disk c.open.new.shelf).seen c.in_err-held.field-0.0) n_is fault))) other))
-    (c.in_err-held.ensures.refused (e1.kept.honest s.honest)))
+    (e1.seen s.honest (λ no. cc)) (e1.opened s.honest) g.T.TopicStore.faulty g.met.T.TopicStore.stands_sound more c.in-Err-open.why (subst (λ k. g.T.TopicStore.faulty k (g.S.Shelf.disk c.open.new.shelf).seen c.in-Err-open.why) n_is fault))) other))
+    (c.in-Err-open.ensures.refused (e1.kept.honest s.honest))
 
-pub returns-in_err-held-clause-works : goal.returns-in_err-held-clause-works
-returns-in_err-held-clause-works g c = (
+pub returns-in-Err-open-clause-works : goal.returns-in-Err-open-clause-works
+returns-in-Err-open-clause-works g c = (
   omega (arith, ap (λ (l : List (Held _ _)). length l) c.reserve.ensures.items),
   λ s.
       let t = c.args.self.now in
       let e1 = c.in_ok-again.ensures in
-      let e2 = c.in_err-held.ensures in
+      let e2 = c.in-Err-open.ensures in
       let h1 = e1.kept.honest s.honest in
       let d0 = g.S.Shelf.disk t.shelf in
       let d1 = g.S.Shelf.disk c.open.new.shelf in
@@ -92,13 +91,13 @@ returns-in_err-held-clause-works g c = (
 pub invariant_of-self-then-len : goal.invariant_of-self-then-len
 invariant_of-self-then-len g c =
     let t = c.args.self.now in
-    let h = c.in_ok-held.held in
+    let h = c.in-Ok.held in
     let again = c.in_ok-again.again in
     let follows_so = c.is_followed_by.ensures.0 c.if-not-is_followed_by.false in
     let pushed : c.push.new.self.items ≡ t.held.items ++ h ∷ [] = search rules in
     let n_is : c.len-number.result ≡ length t.held.items = search rules in
     let more : length t.held.items < length (remembered again) = omega (arith, c.if-len.true, c.len.ensures.count, c.len-2.ensures) in
-    let numbered = subst (λ k. IsNumbered (per_ledger again) k h) n_is (subst (λ n. IsNumbered n c.len-number.result h) c.entries_per_ledger-per_ledger.ensures.number c.in_ok-held.ensures.numbered) in
+    let numbered = subst (λ k. IsNumbered (per_ledger again) k h) n_is (subst (λ n. IsNumbered n c.len-number.result h) c.entries_per_ledger-per_ledger.ensures.number c.in-Ok.ensures.numbered) in
     record {
       numbered = subst (λ (l : List (Held _ _)). AreNumbered (per_ledger again) l) (sym pushed) (numbered_push t.held.items h (per_ledger again) (subst (λ n. AreNumbered n t.held.items) (sym follows_so.0) t.numbered) numbered);
       named = one_more_name (length (remembered again)) (length (remembered t.catalog)) (length t.held.items) follows_so.1 t.named more ∙ sym (length-append t.held.items (h ∷ [])) ∙ sym (ap (λ (l : List (Held _ _)). length l) pushed);
@@ -109,11 +108,11 @@ pub returns-then-len-clause-settled : goal.returns-then-len-clause-settled
 returns-then-len-clause-settled g c = λ s.
     let t = c.args.self.now in
     let disk = g.S.Shelf.disk in
-    let h = c.in_ok-held.held in
+    let h = c.in-Ok.held in
     let again = c.in_ok-again.again in
     let d1 = disk c.open.new.shelf in
     let e1 = c.in_ok-again.ensures in
-    let e2 = c.in_ok-held.ensures in
+    let e2 = c.in-Ok.ensures in
     let lawful = (g.met.S.Shelf.lawful t.shelf s.honest).leaves_seen in
     let fails = sym c.is_failed.ensures ∙ c.if-not-is_failed.false in
     let seen = e1.seen s.honest (λ no. cc) in
@@ -131,7 +130,7 @@ returns-then-len-clause-settled g c = λ s.
 pub returns-then-len-clause-works : goal.returns-then-len-clause-works
 returns-then-len-clause-works g c =
     let t = c.args.self.now in
-    let h = c.in_ok-held.held in
+    let h = c.in-Ok.held in
     let pushed : c.push.new.self.items ≡ t.held.items ++ h ∷ [] = search rules in (
       omega (arith, ap (λ (l : List (Held _ _)). length l) pushed, length-append t.held.items (h ∷ [])),
       λ s.
@@ -141,7 +140,7 @@ returns-then-len-clause-works g c =
           let d1 = disk c.open.new.shelf in
           let d2 = disk c.open-then-len.new.shelf in
           let e1 = c.in_ok-again.ensures in
-          let e2 = c.in_ok-held.ensures in
+          let e2 = c.in-Ok.ensures in
           let h1 = e1.kept.honest s.honest in
           let lawful = (g.met.S.Shelf.lawful t.shelf s.honest).leaves_seen in
           let fails = sym c.is_failed.ensures ∙ c.if-not-is_failed.false in

@@ -25,16 +25,16 @@ pub returns-in-Topic-clause-step : goal.returns-in-Topic-clause-step
 returns-in-Topic-clause-step g c = λ s.
     rw (sym c.own_consumer_refusal.ensures ∙ c.in_default.is) (record {
       found = Topic c.in-Topic.topic;
-      between = g.P.Port.broker c.find.new.self;
+      between = g.P.Port.broker c.find-found.new.self;
       finds = rw (c.in-Ok.ensures ∙ c.as_str.ensures) at (c.in-Topic.ensures.step s);
-      asks = c.subscribe_on.ensures.step (g.met.P.Port.works_sole _ _ c.find.ensures.works s);
+      asks = c.subscribe_on.ensures.step (g.met.P.Port.works_sole _ _ c.find-found.ensures.works s);
     })
 
 pub returns-in-TooMany-clause-step : goal.returns-in-TooMany-clause-step
 returns-in-TooMany-clause-step g c = λ s.
     rw (sym c.own_consumer_refusal.ensures ∙ c.in_default.is) (record {
       found = TooMany;
-      between = g.P.Port.broker c.find.new.self;
+      between = g.P.Port.broker c.find-found.new.self;
       finds = rw (c.in-Ok.ensures ∙ c.as_str.ensures) at (c.in-TooMany.ensures.step s);
       asks = (c.refuse_consumer-in-TooMany.ensures.says, refl);
     })
@@ -43,7 +43,7 @@ pub returns-in-Failed-clause-step : goal.returns-in-Failed-clause-step
 returns-in-Failed-clause-step g c = λ s.
     rw (sym c.own_consumer_refusal.ensures ∙ c.in_default.is) (record {
       found = Failed;
-      between = g.P.Port.broker c.find.new.self;
+      between = g.P.Port.broker c.find-found.new.self;
       finds = rw (c.in-Ok.ensures ∙ c.as_str.ensures) at (c.in-Failed.ensures.step s);
       asks = (c.in-Failed.ensures.failed, (c.refuse_consumer-in-Failed.ensures.says, refl));
     })

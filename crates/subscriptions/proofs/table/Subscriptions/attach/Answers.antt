@@ -27,7 +27,7 @@ invariant_of-self-in-Ok g c =
       rw new (limits_changed t (is_named c.args.name.now) (attached_to c.args.mode c.args.seat) (λ _. refl) c.self.invariant.0),
       hints_joined t c.self.inside.hints.items c.args.mode c.args.seat c.in-Some.place c.index_mut-sub.result.now c.attach.new.self c.index_mut-hints.result.now c.forget.new.self c.self.invariant.1 low
           c.index_mut-sub.ensures.value c.index_mut-hints.ensures.value c.in-Ok.ensures.ok c.forget.ensures,
-      rw new (places_joined t.subs c.self.inside.directory c.add.new.self c.args.name.now c.args.mode c.args.seat c.in-Some.place at c.in_ok-add.ensures.ok c.self.invariant.2),
+      rw new (places_joined t.subs c.self.inside.directory c.add.new.self c.args.name.now c.args.mode c.args.seat c.in-Some.place at c.in_default-add.ensures.ok c.self.invariant.2),
       rw new (notes_joined t.subs c.self.inside.quiet c.args.name.now c.args.mode c.args.seat c.self.invariant.3),
     )
 
@@ -39,14 +39,14 @@ returns-in-Ok-clause-ok g c =
     attaches_some t c.args.name.now c.args.mode c.args.seat start c.in-Some.place c.index_mut-sub.result.now c.attach.new.self at c.index_mut-sub.ensures.value c.in-Ok.ensures.ok
     ∙ ap (λ (x : Subscriptions). attached x c.args.name.now c.args.mode c.args.seat start) c.self.view_is
 
-pub invariant_of-self-in-Err : goal.invariant_of-self-in-Err
-invariant_of-self-in-Err g c =
+pub invariant_of-self-in-Err-attach : goal.invariant_of-self-in-Err-attach
+invariant_of-self-in-Err-attach g c =
     let same : set c.self.inside.subs.items c.in-Some.place c.attach.new.self ≡ c.self.inside.subs.items =
-    ap (set c.self.inside.subs.items c.in-Some.place) c.in-Err.ensures.err ∙ same_at (is_named c.args.name.now) c.self.inside.subs.items c.in-Some.place c.index_mut-sub.result.now c.index_mut-sub.ensures.value in
+    ap (set c.self.inside.subs.items c.in-Some.place) c.in-Err-attach.ensures.err ∙ same_at (is_named c.args.name.now) c.self.inside.subs.items c.in-Some.place c.index_mut-sub.result.now c.index_mut-sub.ensures.value in
     rw same (
       c.self.invariant.0,
       c.self.invariant.1,
-      places_back c.self.inside.subs.items c.self.inside.directory c.add.new.self c.set.new.self c.args.seat.key _ c.of-former.result c.of-former.ensures.value c.in_ok-add.ensures.ok c.set.ensures c.self.invariant.2,
+      places_back c.self.inside.subs.items c.self.inside.directory c.add.new.self c.set.new.self c.args.seat.key _ c.of-former.result c.of-former.ensures.value c.in_default-add.ensures.ok c.set.ensures c.self.invariant.2,
       c.self.invariant.3,
     )
 

@@ -28,7 +28,7 @@ invariant_of-self-2 g c =
           (misses (is_named c.args.name.now) t.subs at) (allowed_none t c.args.name.now c.args.mode c.args.seat.ranges at allowed) c.self.invariant.0),
       rw (subs, pushed, hints) (hints_made t c.self.inside.hints.items _ c.new.result _ c.self.invariant.1 c.new.ensures),
       subst (λ (xs : List Subscription). ArePlaces xs c.add.new.self) (sym with_it)
-          (places_made t.subs c.self.inside.directory c.add.new.self c.args.name.now c.args.mode c.args.seat c.args.start c.len.result last c.in_ok-add.ensures.ok c.self.invariant.2),
+          (places_made t.subs c.self.inside.directory c.add.new.self c.args.name.now c.args.mode c.args.seat c.args.start c.len.result last c.in_default-add.ensures.ok c.self.invariant.2),
       subst (λ (xs : List Subscription). AreQuiet xs c.self.inside.quiet) (sym with_it)
           (notes_made t.subs c.self.inside.quiet c.args.name.now c.args.mode c.args.seat c.args.start c.self.invariant.3),
     )

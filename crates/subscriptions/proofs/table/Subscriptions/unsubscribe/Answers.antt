@@ -30,7 +30,7 @@ invariant_of-self-2 g c =
           ∙ ap (λ (cs : List Record). let n : Subscriptions = record { subs = remove c.self.inside.subs.items c.in-Some.place; changes = cs; slots = c.self.inside.slots.items } in n) (sym grown)
           ∙ ap (λ (xs : List Subscription). let n : Subscriptions = record { subs = xs; changes = c.push.new.self.items; slots = c.self.inside.slots.items } in n) (sym c.remove.ensures.items))
           (limits_unsubscribed t c.args.key allowed c.self.invariant.0),
-      rw (c.remove.ensures.items, c.remove-6.ensures.items) (hints_gone t c.self.inside.hints.items c.in-Some.place c.push.new.self.items c.self.invariant.1),
+      rw (c.remove.ensures.items, c.remove-2.ensures.items) (hints_gone t c.self.inside.hints.items c.in-Some.place c.push.new.self.items c.self.invariant.1),
       rw c.remove.ensures.items (places_gone t c.self.inside.directory c.move_up.new.self c.set.new.self c.args.key c.in-Some.place c.index-sub.result.now c.place_of-next.result at c.index-sub.ensures allowed next c.move_up.ensures c.set.ensures c.self.invariant.2),
       rw c.remove.ensures.items (notes_gone t.subs c.self.inside.quiet c.in-Some.place c.self.invariant.3),
     )

@@ -10,7 +10,7 @@ pub invariant_of-self-2 : goal.invariant_of-self-2
 invariant_of-self-2 c =
     let r = c.self.inside in
     let more : c.args.durable.ledger ≡ r.durable.ledger ++ c.args.entries.items = search rules in
-    let all : c.append.new.self.items ≡ r.entries.items ++ c.args.entries.items = search rules in
+    let all : c.append-appended.new.self.items ≡ r.entries.items ++ c.args.entries.items = search rules in
     let grown = more_last r.durable.ledger r.entries.items c.self.invariant c.args.durable.ledger c.args.entries.items more c.requires.each_small in
     let now = subst (λ (xs : List (List ℕ)). AreLast c.args.durable.ledger xs) (sym all) grown in
-    rest_last c.args.durable.ledger c.append.new.self.items now c.forget_first-self-inside.new.entries.items c.forget_first-self-inside.ensures
+    rest_last c.args.durable.ledger c.append-appended.new.self.items now c.forget_first-self-inside.new.entries.items c.forget_first-self-inside.ensures
