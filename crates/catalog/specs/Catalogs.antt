@@ -1,5 +1,5 @@
 -- What a catalog remembers of its file.
-use Rattle.std.specs.Prelude.{◌≡◌, ℕ, Bool}
+use Rattle.std.specs.Prelude.{◌≡◌, ◌⊎◌, ◌+◌, ℕ, Bool, length}
 use Rattle.disk.specs.declared.file_id.FileId.{FileId}
 use Rattle.disk.specs.declared.file_id.FileId.TheVariants.{Catalog as catalog_file}
 use Rattle.disk.specs.Disk.{Image}
@@ -29,6 +29,10 @@ per_ledger catalog = (log_id catalog.log).number
 -- an append failed
 abbrev pub failed : Catalog → Bool
 failed catalog = log_failed catalog.log
+
+-- as many entries a ledger, and as many names or one more
+abbrev pub Follows : Catalog → Catalog → Type 0
+Follows old new = (per_ledger new ≡ per_ledger old) × ((length (remembered new) ≡ length (remembered old)) ⊎ (length (remembered new) ≡ length (remembered old) + 1))
 
 -- the catalog works, and the file holds these names just as it remembers them
 pub record Holds (catalog : Catalog) (image : Image) (names : Names) : Type 0 where

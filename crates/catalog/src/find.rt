@@ -10,7 +10,7 @@ impl Catalog {
     ghost use Rattle.disk.specs.Areas.{Agree};
     ghost use Rattle.disk.specs.Contents.{Settled};
     ghost use Rattle.catalog.specs.Names.{Names, IsPerLedger, has_name, number_of};
-    ghost use Rattle.catalog.specs.Catalogs.{Own, Holds, StandsFor, remembered, per_ledger, failed};
+    ghost use Rattle.catalog.specs.Catalogs.{Own, Holds, StandsFor, Follows, remembered, per_ledger, failed};
     ghost use Rattle.catalog.specs.Folded.{IsFault};
 
     /// How many entries a ledger of the node has.
@@ -43,6 +43,16 @@ impl Catalog {
         self.log.is_failed()
     }
 
+    /// Whether another catalog has as many names, or one more, and as many entries a ledger, as one that is opened again behind a failed
+    /// `add` has over an honest device.
+    pub fn is_followed_by(&self, again: &Catalog) -> bool
+        ensures { IsTrue result ↔ Follows self.now again.now }
+    {
+        let count = self.len();
+        again.entries_per_ledger() == self.entries_per_ledger()
+            && (again.len() == count || again.len() == count + 1)
+    }
+
     /// The name of the topic of a number; none where there is no such topic.
     pub fn name(&self, number: u16) -> Option<&TopicName>
         ensures { option_copied result ≡ slice_get (remembered self.now) number }
@@ -50,8 +60,9 @@ impl Catalog {
         self.names.get_index(usize::from(number))
     }
 
-    // The number of the topic of a name.
-    fn number(&self, name: &TopicName) -> Option<u16>
+    /// The number of the topic of a name among those that it remembers; none where there is no such topic. Nothing is asked of the
+    /// device, and after a failure a name in doubt isn't among them.
+    pub fn number(&self, name: &TopicName) -> Option<u16>
         ensures found { result ≡ number_of (remembered self.now) name.now }
         ensures there { is_some result ≡ has_name (remembered self.now) name.now }
     {

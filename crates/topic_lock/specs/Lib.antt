@@ -5,3 +5,4 @@ pub mod Ends
 pub mod Flushing
 pub mod Locked
 pub mod Granting
+pub mod Finding

@@ -56,6 +56,8 @@ pub struct TopicShares<K: Tallies> {
 #[derive(Drop)]
 pub struct CountedTopic<K: Tallies> {
     pub(crate) core: LockedCore,
+    /// Its number, as its files have it.
+    number: u64,
     pub(crate) accepted: Share<AcceptedByTopics<K>>,
     pub(crate) handed: Share<HandedByTopics<K>>,
     pub(crate) committed: Share<DurableByTopics<K>>,
@@ -72,12 +74,12 @@ pub struct CountedTopic<K: Tallies> {
 
 impl<K: Tallies> CountedTopic<K> {
     /// A topic whose shares count what it counts.
-    pub fn new(core: LockedCore, shares: TopicShares<K>) -> CountedTopic<K>
+    pub fn new(core: LockedCore, number: u64, shares: TopicShares<K>) -> CountedTopic<K>
         requires accepted { shares.accepted.amount ≡ core.accepted }
         requires handed { shares.handed.amount ≡ core.handed }
         requires committed { shares.committed.amount ≡ core.committed }
         requires behind { shares.behind.amount ≡ 0 }
-        ensures { result.core ≡ core }
+        ensures { (result.core ≡ core) × (result.number ≡ number) }
     {
         let TopicShares {
             accepted,
@@ -87,6 +89,7 @@ impl<K: Tallies> CountedTopic<K> {
         } = shares;
         CountedTopic {
             core,
+            number,
             accepted,
             handed,
             committed,
@@ -101,6 +104,13 @@ impl<K: Tallies> CountedTopic<K> {
         ensures { IsSound self.now.core }
     {
         self.core.show_sound();
+    }
+
+    /// Its number.
+    pub fn number(&self) -> u64
+        ensures { result ≡ self.now.number }
+    {
+        self.number
     }
 
     /// Whether a device failure ended the topic's work.
@@ -138,6 +148,7 @@ impl<K: Tallies> CountedTopic<K> {
         ensures step { TopicStep self.old.core who command result self.new.core }
         ensures fits { Fits command result }
         ensures goes_on { GoesOn self.old.core self.new.core }
+        ensures number { self.new.number ≡ self.old.number }
         ensures counted { port.new.amount ≡ port.old.amount + sends_of command result }
         ensures parts { port.new.parts ≡ port.old.parts }
     {
@@ -163,6 +174,7 @@ impl<K: Tallies> CountedTopic<K> {
         requires { 0 < port.old.parts }
         ensures step { Collects self.old.core who result self.new.core }
         ensures goes_on { GoesOn self.old.core self.new.core }
+        ensures number { self.new.number ≡ self.old.number }
         ensures counted { port.new.amount ≡ port.old.amount + receipts_collected result }
         ensures parts { port.new.parts ≡ port.old.parts }
     {
@@ -178,6 +190,7 @@ impl<K: Tallies> CountedTopic<K> {
     pub fn look(&mut self, who: u64, consumer_id: u64)
         ensures learnt { IsLearnt (learnt self.old.core who consumer_id) self.new.core }
         ensures goes_on { GoesOn self.old.core self.new.core }
+        ensures number { self.new.number ≡ self.old.number }
         ensures counts { CountsStay self.old.core self.new.core }
     {
         let CountedTopic { core, .. } = self;
@@ -189,6 +202,7 @@ impl<K: Tallies> CountedTopic<K> {
         ensures learnt { HasLearnt who self.old.core self.new.core }
         ensures none { result ≡ true → (id i : ℕ) → Admits self.new.core (key_of who id) i → ⊥ }
         ensures goes_on { GoesOn self.old.core self.new.core }
+        ensures number { self.new.number ≡ self.old.number }
         ensures counts { CountsStay self.old.core self.new.core }
     {
         let CountedTopic { core, .. } = self;
@@ -203,6 +217,7 @@ impl<K: Tallies> CountedTopic<K> {
         ensures message { IfOk result (λ at_hand. IsAtHandFor consumer_id at_hand) }
         ensures nothing { result ≡ Ok Nothing → (i : ℕ) → Admits self.new.core (key_of who consumer_id) i → ⊥ }
         ensures goes_on { GoesOn self.old.core self.new.core }
+        ensures number { self.new.number ≡ self.old.number }
         ensures counts { CountsStay self.old.core self.new.core }
         ensures refused { IsErr result → IsLearnt (learnt self.old.core who consumer_id) self.new.core }
         ensures works { IsErr result → self.old.core.failed ≡ false }
@@ -223,6 +238,7 @@ impl<K: Tallies> CountedTopic<K> {
             (t : Topic) × IsLearnt (learnt self.old.core who consumer_id) t × DispatchStep t who consumer_id result self.new.core }
         ensures message { IfOk result (λ sent. IfSome sent (λ outgoing. IsMessageTo consumer_id outgoing)) }
         ensures goes_on { GoesOn self.old.core self.new.core }
+        ensures number { self.new.number ≡ self.old.number }
         ensures counts { CountsStay self.old.core self.new.core }
         ensures refused { IsErr result → IsLearnt (learnt self.old.core who consumer_id) self.new.core }
         ensures works { IsErr result → self.old.core.failed ≡ false }
@@ -267,6 +283,7 @@ impl<K: Tallies> CountedTopic<K> {
     pub fn leave(&mut self, who: u64)
         ensures step { self.new.core ≡ left self.old.core who }
         ensures goes_on { GoesOn self.old.core self.new.core }
+        ensures number { self.new.number ≡ self.old.number }
     {
         let CountedTopic { core, .. } = self;
         core.leave(who)

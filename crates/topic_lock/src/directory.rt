@@ -34,6 +34,8 @@ pub struct SharedCatalog<'a, T: TopicStore, S: Shelf + Drop, K: Tallies> {
     pub(crate) known: Vec<Known<'a, T, S, K>>,
     /// The one of the next number stands last.
     pub(crate) spare: Vec<Spare<S, K>>,
+    /// Whether it was told why a search failed, and no topic was made since.
+    pub(crate) is_told: bool,
     ghost named: { length (remembered catalog) ≡ length known.items },
     ghost placed: { length known.items + length spare.items ≡ length places.now },
     ghost all: { length places.now ≡ 64 },
@@ -48,8 +50,10 @@ pub(crate) fn share<T: TopicStore, S: Shelf + Drop, K: Tallies, R: Wait>(
     tally: &DurableTally<K>,
     core: LockedCore,
     stores: T,
+    number: u64,
     spare: Spare<S, K>,
 ) -> SharedTopic<T, S, K>
+    requires number { number ≡ (T.view stores).topic }
     requires new { (core.accepted ≡ 0) × (core.handed ≡ 0) }
     requires counted { core.committed ≡ (T.view stores).count }
 {
@@ -74,7 +78,7 @@ pub(crate) fn share<T: TopicStore, S: Shelf + Drop, K: Tallies, R: Wait>(
         behind,
     };
     SharedTopic {
-        topic: Mutex::new(CountedTopic::new(core, shares)),
+        topic: Mutex::new(CountedTopic::new(core, number, shares)),
         stores: Mutex::new(CountedStores::new(stores, shelf, held)),
     }
 }

@@ -1,8 +1,11 @@
 // Topics are found by their names, and made, under the catalog's lock.
-ghost use Rattle.std.specs.Prelude.{◌≡◌, ◌⊎◌, ◌+◌, ◌<◌, ◌≤◌, false, true, length, IfOk, OnOk, IsErr, IfErr};
-ghost use Rattle.catalog.specs.Catalogs.{remembered, failed};
-ghost use Rattle.catalog.specs.Names.{has_name};
+ghost use Rattle.std.specs.Prelude.{◌≡◌, ◌≢◌, ◌⊎◌, ◌+◌, ◌<◌, ◌≤◌, ◌++◌, [], ◌∷◌, false, true, length, IfOk, IfSome, OnOk, IsErr, IfErr};
+ghost use Rattle.gated_log.specs.declared.refusal.Refusal.TheVariants.{NoMemory};
+ghost use Rattle.catalog.specs.Catalogs.{remembered, failed, Follows};
+ghost use Rattle.catalog.specs.Names.{has_name, number_of};
+ghost use Rattle.session.specs.declared.port.Found.TheVariants.{Topic};
 ghost use Rattle.session.specs.Broker.{IfFound};
+ghost use Rattle.topic_lock.specs.Finding.{IsNumberOf};
 
 use crate::directory::{SharedCatalog, outage, share};
 use crate::durable::DurableTally;
@@ -18,53 +21,84 @@ use std::sync::Wait;
 use topic_core::{TopicCore, TopicStore};
 
 impl<'a, T: TopicStore, S: Shelf + Drop, K: Tallies> SharedCatalog<'a, T, S, K> {
-    /// The number of the topic of a name, which is made where it isn't there: first its files, then its name in the catalog.
+    /// The number of the topic of a name, which is made where it isn't there: first its files, then its name in the catalog. For a
+    /// name that is known nothing is asked of the device. Beside it stands why a search failed, where that is news.
     pub(crate) fn find_or_make<R: Wait>(
         &mut self,
         rt: &R,
         tally: &DurableTally<K>,
         name: &TopicName,
-    ) -> Found
-        ensures there { IfFound result (λ number. number < length self.new.known.items) }
+    ) -> (Found, Option<Refusal>)
+        ensures there { IfFound result.0 (λ number. number < length self.new.known.items) }
+        ensures named { IfFound result.0 (λ number. IsNumberOf name.now number (remembered self.new.catalog)) }
+        ensures known { IfSome (number_of (remembered self.old.catalog) name.now) (λ number. (result ≡ (Topic number, None)) × (self.new ≡ self.old)) }
         ensures grows { length self.old.known.items ≤ length self.new.known.items }
     {
-        if let Err(why) = self.settle(rt, tally) {
-            return outage(why);
+        if let Some(number) = self.catalog.number(name) {
+            return (Found::Topic(u64::from(number)), None);
         }
-        match self.catalog.find(&mut self.shelf, name) {
-            Ok(Some(number)) => return Found::Topic(u64::from(number)),
-            Ok(None) => {}
-            Err(_) => unreachable!(),
+        match self.find_new(rt, tally, name) {
+            Ok(found) => (found, None),
+            Err(why) => (outage(why), self.news(why)),
+        }
+    }
+
+    /// The same of a name that isn't known.
+    fn find_new<R: Wait>(
+        &mut self,
+        rt: &R,
+        tally: &DurableTally<K>,
+        name: &TopicName,
+    ) -> Result<Found, Refusal>
+        ensures there { IfOk result (λ found. IfFound found (λ number. number < length self.new.known.items)) }
+        ensures named { IfOk result (λ found. IfFound found (λ number. IsNumberOf name.now number (remembered self.new.catalog))) }
+        ensures grows { length self.old.known.items ≤ length self.new.known.items }
+    {
+        self.settle(rt, tally)?;
+        if let Some(number) = self.catalog.number(name) {
+            return Ok(Found::Topic(u64::from(number)));
         }
         if self.catalog.is_full() {
-            return Found::TooMany;
+            return Ok(Found::TooMany);
         }
-        match self.make(rt, tally, name) {
-            Ok(number) => Found::Topic(number),
-            Err(why) => outage(why),
+        let number = self.make(rt, tally, name)?;
+        self.is_told = false;
+        Ok(Found::Topic(number))
+    }
+
+    /// Why a search failed, where that is news: where no search failed since a topic was last made. Want of memory is none.
+    fn news(&mut self, why: Refusal) -> Option<Refusal>
+        ensures told { self.old.is_told ≡ true → result ≡ None }
+        ensures untold { self.old.is_told ≡ false → why ≢ NoMemory → (result ≡ Some why) × (self.new.is_told ≡ true) }
+        ensures same { (self.new.catalog ≡ self.old.catalog) × (self.new.known ≡ self.old.known) }
+    {
+        if self.is_told || why == Refusal::NoMemory {
+            return None;
         }
+        self.is_told = true;
+        Some(why)
     }
 
     /// Settles the name in doubt, where there is one: the catalog is opened again, and the topic of that name where it is there.
     /// A refusal changes nothing. Names that no honest device leaves are damage of the catalog's file.
     fn settle<R: Wait>(&mut self, rt: &R, tally: &DurableTally<K>) -> Result<(), Refusal>
         ensures sure { OnOk result (failed self.new.catalog ≡ false) }
+        ensures follows { OnOk result (Follows self.old.catalog self.new.catalog) }
         ensures grows { length self.old.known.items ≤ length self.new.known.items }
     {
         if !self.catalog.is_failed() {
             return Ok(());
         }
         let again = Catalog::open(self.alloc, &mut self.shelf)?;
-        let count = self.known.len();
-        if again.len() == count {
-            self.catalog = again;
-            return Ok(());
-        }
-        if again.len() != count + 1 {
+        if !self.catalog.is_followed_by(&again) {
             return Err(Refusal::Damaged {
                 file: FileId::Catalog,
                 offset: 0,
             });
+        }
+        if again.len() == self.known.len() {
+            self.catalog = again;
+            return Ok(());
         }
         let SharedCatalog {
             alloc,
@@ -91,6 +125,7 @@ impl<'a, T: TopicStore, S: Shelf + Drop, K: Tallies> SharedCatalog<'a, T, S, K> 
         requires new { has_name (remembered self.old.catalog) name.now ≡ false }
         requires room { length (remembered self.old.catalog) < 64 }
         ensures number { IfOk result (λ number. number < length self.new.known.items) }
+        ensures named { IfOk result (λ number. (number ≡ length (remembered self.old.catalog)) × (remembered self.new.catalog ≡ remembered self.old.catalog ++ name.now ∷ [])) }
         ensures grows { length self.old.known.items ≤ length self.new.known.items }
     {
         let number = self.known.len();
@@ -111,7 +146,7 @@ impl<'a, T: TopicStore, S: Shelf + Drop, K: Tallies> SharedCatalog<'a, T, S, K> 
         let Some(next) = self.spare.pop() else {
             unreachable!();
         };
-        let topic = share(rt, tally, core, stores, next);
+        let topic = share(rt, tally, core, stores, number as u64, next);
         let token = place.init(rt, move || topic);
         self.known.push(Known::new(place, token)).unwrap();
         Ok(number as u64)

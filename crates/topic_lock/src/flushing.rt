@@ -17,6 +17,7 @@ impl<K: Tallies> CountedTopic<K> {
     pub fn take_batch(&mut self) -> Result<Option<Batch>, WriteError>
         ensures step { TakeStep self.old.core result self.new.core }
         ensures batch { IfOk result (λ taken. IfSome taken (λ batch. IsFor self.new.core batch)) }
+        ensures number { self.new.number ≡ self.old.number }
     {
         let CountedTopic { core, .. } = self;
         core.take_batch()
@@ -30,6 +31,7 @@ impl<K: Tallies> CountedTopic<K> {
     ) -> Result<(Flusher<K>, Result<usize, FlushFault>), Written<K>>
         ensures step { IfOk result (λ ended. (awaits self.old.core written.batch ≡ true) × FinishStep self.old.core written.end ended.1 self.new.core) }
         ensures other { IfErr result (λ same. (awaits self.old.core written.batch ≡ false) × (same.batch ≡ written.batch) × (same.end ≡ written.end) × (same.added ≡ written.added) × (self.new.core ≡ self.old.core)) }
+        ensures number { self.new.number ≡ self.old.number }
     {
         if !self.core.awaits(&written.batch) {
             return Err(written);

@@ -5,6 +5,7 @@ ghost use Rattle.session.specs.Broker.{CommandStep, GrantAt, CollectedAt, FindSt
 ghost use Rattle.topic_lock.specs.Counting.{sends_of, receipts_collected, is_later};
 ghost use Rattle.topic_lock.specs.Granting.{GrantsBy};
 ghost use Rattle.topic_lock.specs.Locked.{unknown_broker};
+ghost use Rattle.std.specs.Sync.Mutex.{mutex_guard_value};
 
 use crate::asking::length_of;
 use crate::broker::{Seat, SharedBroker};
@@ -16,6 +17,8 @@ use crate::tally::{AcceptedByPorts, HandedByPorts, Tallies};
 use crate::turns::Turns;
 use commands::Reply;
 use disk::Shelf;
+use gated_log::Refusal;
+use log::{Log, error};
 use names::TopicName;
 use permits::{Granter, TooManyPermits};
 use session::{Found, Port};
@@ -128,9 +131,23 @@ impl<'p, 'a, T: TopicStore, S: Shelf + Drop, K: Tallies, R: Wait> LockedPort<'p,
         self.known[topic as usize].get()
     }
 
-    /// The lock of a topic: the one that is kept, where it is of this topic, or one that is taken, once there is room for an entry of
-    /// this length.
+    /// The lock of the topic of a number, once there is room for an entry of this length: what is behind it has that number.
     fn hold(&self, topic: u64, entry_length: Option<usize>) -> Hold<'a, T, S, K>
+        requires { topic < length self.now.known.items }
+        ensures { (mutex_guard_value result.topic).number ≡ topic }
+    {
+        for _ in self.rt.forever() {
+            let hold = self.take(topic, entry_length);
+            if hold.topic.number() == topic {
+                return hold;
+            }
+            hold.release(&self.broker.bells);
+        }
+        unreachable!()
+    }
+
+    /// The lock that is kept, where it is of this topic, or one that is taken.
+    fn take(&self, topic: u64, entry_length: Option<usize>) -> Hold<'a, T, S, K>
         requires { topic < length self.now.known.items }
     {
         let held = self.held.take();
@@ -214,7 +231,7 @@ impl<'p, 'a, T: TopicStore, S: Shelf + Drop, K: Tallies, R: Wait> Turns
     }
 }
 
-impl<'p, 'a, T: TopicStore, S: Shelf + Drop, K: Tallies, R: Wait> Port
+impl<'p, 'a, T: TopicStore, S: Shelf + Drop, K: Tallies, R: Wait + Log> Port
     for LockedPort<'p, 'a, T, S, K, R> {
     ghost broker = { λ _. unknown_broker };
 
@@ -258,8 +275,11 @@ impl<'p, 'a, T: TopicStore, S: Shelf + Drop, K: Tallies, R: Wait> Port
         self.let_go();
         let broker = self.broker;
         let mut catalog = broker.catalog.lock(self.rt);
-        let found = catalog.find_or_make(self.rt, &broker.totals.durable, name);
-        match self.learn(&catalog.known) {
+        let (found, news) = catalog.find_or_make(self.rt, &broker.totals.durable, name);
+        let learnt = self.learn(&catalog.known);
+        drop(catalog);
+        log_news(self.rt, name, news);
+        match learnt {
             Ok(()) => self.seat.use_topic(found),
             Err(AllocError) => Found::NoMemory,
         }
@@ -411,6 +431,13 @@ impl<'p, 'a, T: TopicStore, S: Shelf + Drop, K: Tallies, R: Wait> Port
     ghost passes_count = { λ a b passes. omega (arith, passes) };
 
     ghost counts_topics = { λ port sole. elim sole [ ] };
+}
+
+/// Logs why no topic is made for a name, where that is news.
+fn log_news<R: Log>(rt: &R, name: &TopicName, news: Option<Refusal>) {
+    if let Some(why) = news {
+        error!(rt; "no topic is made for {}: {why}", name.as_str());
+    }
 }
 
 /// The granter that a command which was answered so lends: one that isn't answered later has attached no consumer.

@@ -49,6 +49,7 @@ impl<'a, T: TopicStore, S: Shelf + Drop, K: Tallies> SharedCatalog<'a, T, S, K> 
             places,
             known,
             spare,
+            is_told: false,
         })
     }
 
@@ -87,7 +88,7 @@ pub(crate) fn open_next<'a, T: TopicStore, S: Shelf + Drop, K: Tallies, R: Wait>
         unreachable!();
     };
     let place = &places[number];
-    let topic = share(rt, tally, core, stores, next);
+    let topic = share(rt, tally, core, stores, number as u64, next);
     let token = place.init(rt, move || topic);
     known.push(Known::new(place, token)).unwrap();
     Ok(())

@@ -1,8 +1,9 @@
 // The opening of a failed topic, under its own lock and that of its stores.
-ghost use Rattle.std.specs.Prelude.{◌≡◌, ◌⊎◌, ◌+◌, ◌<◌, ◌≤◌, true, false, map, OnOk, IfErr, IsErr, IsErrOf};
+ghost use Rattle.std.specs.Prelude.{◌≡◌, ◌≢◌, ◌⊎◌, ◌+◌, ◌<◌, ◌≤◌, true, false, map, OnOk, IfErr, IsErr, IsErrOf};
 ghost use Rattle.disk.specs.Disk.{Leaves, Kept, Failed};
-ghost use Rattle.gated_log.specs.declared.refusal.Refusal.TheVariants.{Device};
-ghost use Rattle.topic_core.specs.Crashes.{reopened};
+ghost use Rattle.gated_log.specs.declared.refusal.Refusal.TheVariants.{Device, NoMemory};
+ghost use Rattle.topic_core.specs.Crashes.{reopened, IsShorter};
+ghost use Rattle.topic_core.specs.Standing.{Phase, Standing, phase_then};
 ghost use Rattle.topic_core.specs.Slots.{slot_of_entry};
 ghost use Rattle.topic_core.specs.State.{CountsStay};
 
@@ -28,6 +29,15 @@ impl<K: Tallies> CountedTopic<K> {
     ) -> Result<(), Refusal>
         ensures again { self.old.core.failed ≡ true → OnOk result (self.new.core ≡ reopened self.old.core self.new.core.ledger (map slot_of_entry self.new.core.ledger) self.new.core.kept) }
         ensures as_many { self.old.core.failed ≡ true → OnOk result (self.new.core.committed ≡ (T.view stores.new.stores).count) }
+        // What a failed topic finds is what the files stand for, or the first fault in them is told, or that it counts otherwise.
+        ensures found { (S.disk stores.old.shelf).honest → self.old.core.failed ≡ true →
+            OnOk result (T.stands (T.view stores.old.stores).topic (S.disk stores.old.shelf).seen self.new.core.ledger self.new.core.kept) }
+        ensures told { (S.disk stores.old.shelf).honest → IfErr result (λ e. (e ≡ NoMemory) ⊎ ((e ≡ Device) ⊎ ((T.faulty (T.view stores.old.stores).topic (S.disk stores.old.shelf).seen e
+            ⊎ IsShorter T.stands (T.view stores.old.stores).topic self.old.core (S.disk stores.old.shelf).seen e) ⊎ (self.old.core.committed + self.old.left ≢ (T.view stores.old.stores).count)))) }
+        ensures standing { (phase : Phase) → Standing T.stands phase self.old.core (T.view stores.old.stores) (S.disk stores.old.shelf) → OnOk result
+            (Standing T.stands (phase_then self.old.core.failed self.new.core.failed phase) self.new.core (T.view stores.new.stores) (S.disk stores.new.shelf)) }
+        ensures topic { (T.view stores.new.stores).topic ≡ (T.view stores.old.stores).topic }
+        ensures number { self.new.number ≡ self.old.number }
         ensures works { self.old.core.failed ≡ false → self.new.core ≡ self.old.core }
         ensures refused { IsErr result → (self.new.core ≡ self.old.core) × (stores.new.stores ≡ stores.old.stores) }
         ensures counts { CountsStay self.old.core self.new.core }
