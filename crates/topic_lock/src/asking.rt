@@ -16,7 +16,8 @@ const LONGEST_ENTRY: usize = 1_048_576;
 
 impl<T: TopicStore, S: Shelf + Drop, K: Tallies> SharedTopic<T, S, K> {
     /// The topic's lock, for the connection at this place, with room for an entry of this length, or where none has to be waited
-    /// for: the topic has failed, or the entry is too long for any. One that is held already is kept, but not in a wait.
+    /// for: the topic has failed, or the entry is too long for any. One that is held already is kept, but not in a wait. Who had to
+    /// wait and is let in calls the next who waits; who isn't let in calls nobody, as it would be called itself.
     pub(crate) fn enter<'t, R: Wait>(
         &'t self,
         rt: &R,
@@ -30,14 +31,16 @@ impl<T: TopicStore, S: Shelf + Drop, K: Tallies> SharedTopic<T, S, K> {
             Some(hold) => hold,
             None => Hold::new(None, self.topic.lock(rt), number),
         };
+        let mut waited = false;
         for _ in rt.forever() {
             if hold.topic.lets_in(place, length) {
+                hold.calls_reader = waited || hold.calls_reader;
                 return hold;
             }
             hold.release(bells);
             bells.wait_reader(rt, place);
             hold = Hold::new(None, self.topic.lock(rt), number);
-            hold.has_waited = true;
+            waited = true;
         }
         unreachable!()
     }

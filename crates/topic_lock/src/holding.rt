@@ -21,8 +21,8 @@ pub(crate) struct Hold<'t, T: TopicStore, S: Shelf + Drop, K: Tallies> {
     /// The lock of its stores, where entries are read. It was taken before the topic's.
     stores: Option<MutexGuard<'t, CountedStores<T, S, K>>>,
     pub(crate) number: u64,
-    /// Others may wait for room, since the port did.
-    pub(crate) has_waited: bool,
+    /// Others may wait for room, since the port did until it was let in.
+    pub(crate) calls_reader: bool,
     /// The topic's flusher has something to do of which it wasn't told: a reply is owed, or the topic has failed.
     rings_flusher: bool,
     /// Positions may have been given back, which other consumers may get.
@@ -40,7 +40,7 @@ impl<'t, T: TopicStore, S: Shelf + Drop, K: Tallies> Hold<'t, T, S, K> {
             topic,
             stores,
             number,
-            has_waited: false,
+            calls_reader: false,
             rings_flusher: false,
             gives_back: false,
         }
@@ -123,12 +123,12 @@ impl<'t, T: TopicStore, S: Shelf + Drop, K: Tallies> Hold<'t, T, S, K> {
             topic,
             stores,
             number,
-            has_waited,
+            calls_reader,
             rings_flusher,
             gives_back,
         } = self;
         let mut topic = topic;
-        let reader = if has_waited {
+        let reader = if calls_reader {
             topic.next_reader()
         } else {
             None
