@@ -8,7 +8,7 @@ use Rattle.rtrb.specs.declared.producer.Producer.{Producer}
 use Rattle.rtrb.specs.declared.finished.Finished.{Finished}
 use Rattle.rtrb.specs.declared.consumer.Consumer.{Consumer}
 use Rattle.workers.specs.Outputs.{Shown, bytes_of, reply_if, replies_of, size_of, saturated, Rises}
-use Rattle.workers.specs.Writes.{shown, taken, pushed, Wrote, NoneBelow, Extends, FinishesAfter}
+use Rattle.workers.specs.Writes.{shown, taken, pushed, Wrote, WroteServed, NoneBelow, Extends, FinishesAfter}
 use Rattle.workers.specs.declared.outgoing.Output.{Output}
 use Rattle.workers.specs.declared.outgoing.Outgoing.{Outgoing}
 
@@ -107,6 +107,11 @@ module _ {W : Type 0} (contents : W → Option (List ℕ)) where
     rising = (above, omega arith);
     counted = ap saturated replied ∙ counted_none a.replied;
   }
+
+  -- what was pumped was written behind others
+  pub wrote_served : (a b d : Outgoing W) (x : Output) → Wrote contents a b → Appends (contents b.writer) (contents d.writer) x.bytes.items → received d.replies ≡ received b.replies → b.next ≤ x.number → d.next ≡ x.number + 1 → d.replied ≡ b.replied → WroteServed contents a d x.number x.bytes.items
+  unfolding wrote_pumped
+  wrote_served a b d x before wrote same above next replied = record { between = b; before = before; last = wrote_pumped b d x wrote same above next replied; served = refl }
 
 -- no reply has a number of 2^62 or more
 pub none_left : (xs : List Output) → NoneBelow (2 ^ 62) xs → xs ≡ []

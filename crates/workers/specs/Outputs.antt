@@ -1,5 +1,5 @@
 -- The outputs of a session, by their numbers.
-use Rattle.std.specs.Prelude.{◌≡◌, ℕ, ◌+◌, ◌≤◌, ◌-◌, ◌^◌, min, List, [], ◌∷◌, ◌++◌, length, Bool, true, false}
+use Rattle.std.specs.Prelude.{◌≡◌, ℕ, ◌+◌, ◌≤◌, ◌-◌, ◌^◌, min, List, [], ◌∷◌, ◌++◌, length, Bool, true, false, not}
 use Rattle.topic_core.specs.declared.dispatch.Outgoing.{Outgoing as Said}
 use Rattle.session.specs.Client.{frames_of}
 
@@ -27,6 +27,11 @@ reply_if false reply rest = reply ∷ rest
 abbrev pub replies_of : List Shown → List (ℕ × List ℕ)
 replies_of [] = []
 replies_of (o ∷ os) = reply_if o.pumped (o.number, o.bytes) (replies_of os)
+
+-- those that the writer pumped
+abbrev pub pumped_of : List Shown → List (ℕ × List ℕ)
+pumped_of [] = []
+pumped_of (o ∷ os) = reply_if (not o.pumped) (o.number, o.bytes) (pumped_of os)
 
 -- how many bytes these replies have
 abbrev pub size_of : List (ℕ × List ℕ) → ℕ

@@ -5,7 +5,7 @@ use Rattle.rtrb.specs.Ends.{SameRing}
 use Rattle.rtrb.specs.Ring.{received, sent, all_sent, SameProducer}
 use Rattle.rtrb.specs.declared.producer.Producer.{Producer}
 use Rattle.rtrb.specs.declared.finished.Finished.{Finished}
-use Rattle.workers.specs.Outputs.{Shown, bytes_of, replies_of, size_of, saturated, Rises}
+use Rattle.workers.specs.Outputs.{Shown, bytes_of, replies_of, pumped_of, size_of, saturated, Rises}
 use Rattle.workers.specs.declared.outgoing.Output.{Output}
 use Rattle.workers.specs.declared.outgoing.Outgoing.{Outgoing}
 
@@ -30,6 +30,13 @@ pub record Wrote {W : Type 0} (contents : W → Option (List ℕ)) (a b : Outgoi
   pub took : taken b ≡ taken a ++ replies_of outs
   pub rising : Rises a.next outs b.next
   pub counted : saturated b.replied ≡ saturated (a.replied + size_of (replies_of outs))
+
+-- some outputs were written, and then this one, which the writer pumped
+pub record WroteServed {W : Type 0} (contents : W → Option (List ℕ)) (a b : Outgoing W) (number : ℕ) (bytes : List ℕ) : Type 0 where
+  pub between : Outgoing W
+  pub before : Wrote contents a between
+  pub last : Wrote contents between b
+  pub served : pumped_of last.outs ≡ (number, bytes) ∷ []
 
 -- the oldest reply that was seen in the ring has no smaller number
 abbrev pub NoneBelow : ℕ → List Output → Type 0

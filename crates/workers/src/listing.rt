@@ -2,9 +2,11 @@
 ghost use Rattle.std.specs.Prelude.{◌<◌, ◌^◌};
 
 use crate::numbered::output_of;
-use crate::outgoing::Output;
+use crate::outgoing::{Outgoing, Output};
 use session::{List, More, Port, PumpFault};
 use std::alloc::Global;
+use std::io;
+use std::io::Write;
 
 /// By what a turn of the writer serves a session, and the number of the output that is to come of it.
 #[derive(Drop)]
@@ -15,15 +17,14 @@ pub struct Listing {
     ghost small: { number < 2 ^ 62 },
 }
 
-/// What a turn of the writer has to write, and what it has to tell the session of it.
-#[derive(Drop)]
+/// What a turn of the writer has to write, and what it has to tell the session of it. Nobody may let it go: it is written.
 pub struct Pumped {
     /// The number that the turn got.
-    pub number: u64,
+    number: u64,
     /// The output of that number, where there is one.
-    pub output: Option<Output>,
+    output: Option<Output>,
     /// Whether the turn stopped at a bound of its own, or why it stopped.
-    pub answer: Result<More, PumpFault>,
+    answer: Result<More, PumpFault>,
     ghost small: { number < 2 ^ 62 },
 }
 
@@ -55,6 +56,36 @@ impl Listing {
             number,
             output,
             answer,
+        }
+    }
+}
+
+impl Pumped {
+    ghost use Rattle.std.specs.Prelude.{◌≡◌, OnOk, IfSome};
+    ghost use Rattle.rtrb.specs.Ring.{SameConsumer};
+    ghost use Rattle.workers.specs.Writes.{Wrote, WroteServed};
+
+    /// Whether the turn stopped at a bound of its own, or why it stopped.
+    pub fn answer(&self) -> &Result<More, PumpFault>
+        ensures { result.now ≡ self.now.answer }
+    {
+        &self.answer
+    }
+
+    /// Writes what was served, or passes its number over.
+    pub fn write<W: Write>(self, outgoing: &mut Outgoing<W>) -> io::Result<()>
+        ensures ring { SameConsumer outgoing.old.replies outgoing.new.replies }
+        ensures wrote { OnOk result (Wrote W.contents outgoing.old outgoing.new) }
+        ensures served { OnOk result (IfSome self.output (λ o. WroteServed W.contents outgoing.old outgoing.new o.number o.bytes.items)) }
+    {
+        let Pumped {
+            number,
+            output,
+            answer: _,
+        } = self;
+        match &output {
+            Some(output) => outgoing.write_pumped(output),
+            None => outgoing.pass_over(number),
         }
     }
 }

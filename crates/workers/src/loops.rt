@@ -148,17 +148,6 @@ fn serve<P: Port + Turns>(listing: Listing, port: &mut P) -> Pumped {
     pumped
 }
 
-// Writes what was served, or passes its number over.
-fn write_served<W: Write>(outgoing: &mut Outgoing<W>, pumped: &Pumped) -> io::Result<()>
-    ensures ring { SameConsumer outgoing.old.replies outgoing.new.replies }
-    ensures wrote { OnOk result (Wrote W.contents outgoing.old outgoing.new) }
-{
-    match &pumped.output {
-        Some(output) => outgoing.write_pumped(output),
-        None => outgoing.pass_over(pumped.number),
-    }
-}
-
 // Serves and writes once. The session's lock is held for its list, and then to tell it of the answer, and not in between. Answers
 // whether the session has ended; what stood in the ring is then written.
 fn write_turn<W: Write, P: Port + Turns, R: Wait>(
@@ -177,8 +166,8 @@ fn write_turn<W: Write, P: Port + Turns, R: Wait>(
         return Ok(true);
     };
     let pumped = serve(listing, port);
-    let ended = session.lock(rt).served(&pumped.answer);
-    write_served(outgoing, &pumped)?;
+    let ended = session.lock(rt).served(pumped.answer());
+    pumped.write(outgoing)?;
     outgoing.write_below(NUMBERS)?;
     Ok(ended)
 }

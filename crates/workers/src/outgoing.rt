@@ -55,7 +55,7 @@ impl<W: Write> Outgoing<W> {
 impl<W: Write> Outgoing<W> {
     ghost use Rattle.std.specs.Prelude.{◌≡◌, ◌<◌, ◌≤◌, ◌^◌, OnOk, IfOk, true, false};
     ghost use Rattle.rtrb.specs.Ring.{SameConsumer, known_items};
-    ghost use Rattle.workers.specs.Writes.{Wrote, NoneBelow};
+    ghost use Rattle.workers.specs.Writes.{Wrote, WroteServed, NoneBelow};
 
     // Writes the oldest reply, if its number is below this one.
     fn write_one_below(&mut self, number: u64) -> io::Result<bool>
@@ -85,6 +85,7 @@ impl<W: Write> Outgoing<W> {
     pub fn write_pumped(&mut self, output: &Output) -> io::Result<()>
         ensures ring { SameConsumer self.old.replies self.new.replies }
         ensures wrote { OnOk result (Wrote W.contents self.old self.new) }
+        ensures served { OnOk result (WroteServed W.contents self.old self.new output.now.number output.now.bytes.items) }
         ensures behind { OnOk result (NoneBelow output.now.number (known_items self.new.replies)) }
     {
         self.write_below(output.number)?;

@@ -7,6 +7,7 @@ use crate::loops::{Turnstile, read_loop, write_loop};
 use crate::numbered::Numbered;
 use crate::outgoing::{Outgoing, Output};
 use disk::Shelf;
+use log::Log;
 use rtrb::{Finished, Producer};
 use std::io::{Read, Write};
 use std::sync::{Mutex, Wait};
@@ -40,7 +41,7 @@ pub trait PortAtRest {
         ensures { SameConsumer outgoing.old.replies outgoing.new.replies };
 }
 
-impl<'p, 'a, T: TopicStore, S: Shelf + Drop, K: Tallies, Q: Wait> PortAtRest
+impl<'p, 'a, T: TopicStore, S: Shelf + Drop, K: Tallies, Q: Wait + Log> PortAtRest
     for RestingPort<'p, 'a, T, S, K, Q> {
     fn read<I: Read, G: Turnstile, R: Wait>(
         self,
