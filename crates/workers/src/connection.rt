@@ -7,12 +7,13 @@ use crate::loops::Turnstile;
 use crate::numbered::Numbered;
 use crate::outgoing::{Outgoing, Output};
 use crate::resting::PortAtRest;
-use rtrb::{Finished, Producer, RingBuffer};
+use rtrb::{Consumer, Finished, Producer, RingBuffer};
 use std::alloc::{AllocError, Global};
 use std::io::{Read, Write};
+use std::snapshot::Snapshot;
 use std::sync::{Mutex, Wait};
 use std::thread;
-use std::thread::Threads;
+use std::thread::{Promise, Threads};
 
 /// So many replies stand in a connection's ring at most.
 const PLACES: usize = 256;
@@ -30,6 +31,14 @@ pub trait Ends {
     fn writer_is_over(&self);
 }
 
+/// That a writer hands back the end of the ring that it was given.
+#[derive(Drop)]
+struct RingOf(Snapshot<Consumer<Output>>);
+
+impl<A, W> Promise<(A, Outgoing<W>)> for RingOf {
+    ghost kept_by = { λ promise written. SameConsumer promise.0.value written.1.replies };
+}
+
 /// A connection that has ended.
 #[derive(Drop)]
 pub struct Served<A, W> {
@@ -42,7 +51,7 @@ pub struct Served<A, W> {
 
 /// Serves a connection by two threads until the loops of both have ended, and hands its ports and the ends of its ring back. What
 /// the writer took from the ring and what is left there are the reader's replies, in order, each once. The gates of the two loops
-/// wake each other.
+/// wake each other. Where no thread can be made for the writer the connection is closed, and nothing of it is read.
 pub fn serve_connection<I, W, A, T, U, E, R>(
     rt: &R,
     alloc: Global,
@@ -80,35 +89,51 @@ where
         next: 0,
         replied: 0,
     };
-    let ((reader_port, finished), (writer_port, outgoing)) = thread::join(
+    let ((reader_port, finished), (writer_port, outgoing)) = thread::scope(
+        thread::scope_env(),
         rt,
-        move || -> (A, Option<Finished<Output>>)
-            ensures { IfSome result.1 (λ f. FinishesAfter replies f) }
+        move |scope| -> ((A, Option<Finished<Output>>), (A, Outgoing<W>))
+            ensures read { IfSome result.0.1 (λ f. FinishesAfter replies f) }
+            ensures written { SameConsumer outgoing.replies result.1.1.replies }
         {
-            reader(
-                rt,
-                number,
-                session,
-                input,
-                buffer,
-                reader_gate,
-                ends,
-                reader_port,
-                replies,
-            )
-        },
-        move || -> (A, Outgoing<W>)
-            ensures { SameConsumer outgoing.replies result.1.replies }
-        {
-            writer(
-                rt,
-                number,
-                session,
-                outgoing,
-                writer_gate,
-                ends,
-                writer_port,
-            )
+            let promise = RingOf(Snapshot::of(&outgoing.replies));
+            let begun = scope.spawn_with(
+                promise,
+                move || -> (A, Outgoing<W>)
+                    ensures { SameConsumer outgoing.replies result.1.replies }
+                {
+                    writer(
+                        rt,
+                        number,
+                        session,
+                        outgoing,
+                        writer_gate,
+                        ends,
+                        writer_port,
+                    )
+                },
+            );
+            match begun {
+                Ok(writing) => {
+                    let read = reader(
+                        rt,
+                        number,
+                        session,
+                        input,
+                        buffer,
+                        reader_gate,
+                        ends,
+                        reader_port,
+                        replies,
+                    );
+                    (read, writing.join(rt))
+                }
+                Err(refused) => {
+                    session.lock(rt).stop();
+                    ends.reader_is_over();
+                    ((reader_port, None), (refused.value)())
+                }
+            }
         },
     );
     let Some(mut finished) = finished else {
