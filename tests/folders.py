@@ -52,6 +52,11 @@ def told(fault):
 # How a command ends whose folder another process holds.
 HELD = "", "[ERROR pulsar_node] another process holds the folder\nerror: device\n", 1
 
+# How an `init` ends in a folder that has files of topics, and no open list of them.
+HAS_TOPICS = "", "[ERROR pulsar_node] the folder holds files of topics, but its list of topics isn't open; nothing was made\nerror: not initialised\n", 1
+
+NOT_HELD = "[WARN  folder::looking] the folder has no lock file and may not be written, so it isn't held\n"
+
 
 def made(count):
     return f"initialised, {count} entries a ledger\n", "", 0
@@ -153,10 +158,31 @@ def what_is_not_there_is_not_made(room):
     room.expect_kept(told("device"), "init", "nowhere/inner")
     room.lay("bare", {})
     room.expect_kept(told("not initialised"), "inspect", "bare")
-    room.lay("without_lock", {"catalog.dat": NEW})
-    room.expect_kept(told("not initialised"), "inspect", "without_lock")
-    room.expect(told("already initialised"), "init", "without_lock")
-    room.expect_files("without_lock", {"catalog.dat": NEW})
+
+
+def a_lock_file_that_lacks_is_made(room):
+    room.lay("inspected", TOPICS)
+    room.expect((LINES, "", 0), "inspect", "inspected")
+    room.expect_files("inspected", TOPICS)
+    room.lay("without_topics", {"catalog.dat": NEW})
+    room.expect(("", "", 0), "inspect", "without_topics")
+    room.expect_files("without_topics", {"catalog.dat": NEW})
+    room.lay("initialised", TOPICS)
+    room.expect_kept(told("already initialised"), "init", "initialised")
+
+
+def topics_without_a_list_are_kept(room):
+    lists = ({}, {"catalog.dat": b""}, {"catalog.dat": NAMED[:15]}, {"catalog.dat": b"\0" + NAMED[1:]})
+    topics = {name: content for name, content in TOPICS.items() if name != "catalog.dat"}
+    for number, (lock, files) in enumerate((lock, files) for lock in ({}, {"lock": b""}) for files in lists):
+        room.lay(f"unlisted{number}", {**lock, **topics, **files})
+        room.expect_kept(HAS_TOPICS, "init", f"unlisted{number}")
+        if lock:
+            room.expect_kept(told("not initialised"), "inspect", f"unlisted{number}")
+    room.lay("of_the_next_version", {"u00000-e0000000000000000.dat": b""})
+    room.expect_kept(HAS_TOPICS, "init", "of_the_next_version")
+    room.lay("of_others", {"tools.txt": b"", "data.dat": b""})
+    room.expect(made(1000), "init", "of_others")
 
 
 def half_made_ones_are_made(room):
@@ -217,7 +243,15 @@ def without_permission_it_fails(room):
         os.chmod(room.at(name), mode)
     for words in ("init closed", "inspect closed", "init closed/inner", "init unwritten", "init unwritten/inner"):
         room.expect(told("device"), *words.split(), **as_nobody)
-    for name in ("closed", "unwritten"):
+    for name, lock in (("read_only", {"lock": b""}), ("read_only_copy", {})):
+        room.lay(name, {**lock, **TOPICS})
+        for file in os.listdir(room.at(name)):
+            os.chmod(room.at(f"{name}/{file}"), 0o444)
+        os.chmod(room.at(name), 0o555)
+        room.expect_kept((LINES, "" if lock else NOT_HELD, 0), "inspect", name, **as_nobody)
+        room.expect_kept(told("already initialised"), "init", name, **as_nobody)
+        room.expect_kept(told("device"), "serve", "127.0.0.1:0", name, **as_nobody)
+    for name in ("closed", "unwritten", "read_only", "read_only_copy"):
         os.chmod(room.at(name), 0o755)
     room.expect_files("closed", {"catalog.dat": NEW})
     if contents(room.at("unwritten")) != {}:
@@ -251,7 +285,7 @@ def where_printing_fails(room):
     room.expect_files("made", {"catalog.dat": NEW})
 
 
-TRIED = (folders_are_made, words_are_refused, what_is_not_there_is_not_made, half_made_ones_are_made, topics_are_told, damage_is_told,
+TRIED = (folders_are_made, words_are_refused, what_is_not_there_is_not_made, a_lock_file_that_lacks_is_made, topics_without_a_list_are_kept, half_made_ones_are_made, topics_are_told, damage_is_told,
          what_is_no_folder_fails, without_permission_it_fails, one_process_has_it, where_printing_fails)
 
 

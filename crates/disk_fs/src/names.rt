@@ -7,12 +7,22 @@ use std::io;
 use std::io::ErrorKind;
 use std::rt::Files;
 
+/// What the files of a folder are opened for.
+#[derive(Clone, Copy, Debug, PartialEq, Eq)]
+pub(crate) enum Access {
+    /// To be read and written.
+    Writing,
+    /// To be read alone: no write and no shortening of a file succeeds, and no file is made.
+    Reading,
+}
+
 /// A folder as a place of names.
 #[derive(Drop)]
 pub(crate) struct Names<R: Files> {
     pub(crate) rt: R,
     pub(crate) alloc: Global,
     pub(crate) path: String,
+    pub(crate) access: Access,
     /// The folder itself, which stays open from its first sync on: what goes wrong with it from then on is told to its next
     /// sync here, whoever else syncs it.
     pub(crate) folder: Option<R::File>,
@@ -48,7 +58,7 @@ impl<R: Files + Drop> Names<R> {
     fn find(&mut self, path: &str, makes: bool) -> io::Result<Option<R::File>> {
         let found = OpenOptions::new()
             .read(true)
-            .write(true)
+            .write(self.access == Access::Writing)
             .open(&self.rt, path);
         match found {
             Ok(file) => Ok(Some(file)),
@@ -60,6 +70,9 @@ impl<R: Files + Drop> Names<R> {
 
     // Makes the file, whose name isn't synced yet.
     fn make(&mut self, path: &str) -> io::Result<R::File> {
+        if self.access == Access::Reading {
+            return Err(io::Error::from(ErrorKind::PermissionDenied));
+        }
         self.are_synced = false;
         OpenOptions::new()
             .read(true)

@@ -9,7 +9,7 @@ use Rattle.node.specs.Driving.{StatusIn}
 use Rattle.node.specs.Opening.{IsJustOpened, IsFirstFault}
 use Rattle.node.specs.declared.status.TopicStatus.{TopicStatus}
 use Rattle.folder.specs.declared.fault.FolderFault.{FolderFault}
-use Rattle.folder.specs.declared.fault.FolderFault.TheVariants.{Refused, AlreadyInitialised, InUse}
+use Rattle.folder.specs.declared.fault.FolderFault.TheVariants.{Refused, AlreadyInitialised, HoldsTopics, InUse}
 use Rattle.folder.specs.Faults.{IsOutage}
 
 -- each of these topics is told by its number
@@ -29,6 +29,7 @@ AreFound files_stand files statuses = (state : State) × IsJustOpened files_stan
 abbrev pub IsFoundFault : (ℕ → Image → Entries → Kept → Type 0) → (ℕ → Image → Refusal → Type 0) → Image → FolderFault → Type 0
 IsFoundFault files_stand faulty files (Refused why) = IsFirstFault files_stand faulty files why
 IsFoundFault files_stand faulty files AlreadyInitialised = ⊥
+IsFoundFault files_stand faulty files HoldsTopics = ⊥
 IsFoundFault files_stand faulty files InUse = ⊥
 
 -- memory was refused, or the device failed, or that

@@ -1,7 +1,9 @@
 -- How a node is made.
 use Rattle.std.specs.Prelude.{◌≡◌, ◌⊎◌, ◌++◌, ℕ, Result, List, codes, IsErr, IsErrOf}
 use Rattle.std.specs.Fmt.{decimal}
-use Rattle.disk.specs.Disk.{Disk, Same, Leaves}
+use Rattle.disk.specs.declared.file_id.FileId.TheVariants.{Catalog as catalog_file}
+use Rattle.disk.specs.Disk.{Disk, Image, Same, Leaves}
+use Rattle.gated_log.specs.Headers.{HasOpenHeader}
 use Rattle.gated_log.specs.declared.refusal.Refusal.{Refusal}
 use Rattle.gated_log.specs.declared.refusal.Refusal.TheVariants as refusal
 use Rattle.folder.specs.declared.fault.FolderFault.{FolderFault}
@@ -11,6 +13,10 @@ use Rattle.folder.specs.Faults.{IsOutage}
 -- `initialised`, and how many entries a ledger has
 abbrev pub initialised_line : ℕ → List ℕ
 initialised_line count = codes "initialised, " ++ (decimal count ++ codes " entries a ledger\n")
+
+-- a list of topics is there, sound or not: its file has an open header
+abbrev pub HasList : Image → Type 0
+HasList files = HasOpenHeader (files catalog_file)
 
 -- Why no node is made where the opening of a list of topics is refused so: behind an open header there is one, sound or not.
 abbrev pub fault_of_making : Refusal → FolderFault

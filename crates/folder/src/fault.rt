@@ -20,6 +20,9 @@ pub enum FolderFault {
     /// The folder has a list of topics, sound or not.
     #[error("already initialised")]
     AlreadyInitialised,
+    /// The folder has no list of topics, but files of topics, which a node that was made there would not know.
+    #[error("not initialised")]
+    HoldsTopics,
     /// Another process holds the folder, which is told as a failure of the device.
     #[error("device")]
     InUse,
@@ -69,6 +72,9 @@ pub fn exit_status(fault: &FolderFault) -> u8
     ensures { result ≡ 1 }
 {
     match fault {
-        FolderFault::Refused(_) | FolderFault::AlreadyInitialised | FolderFault::InUse => 1,
+        FolderFault::Refused(_)
+        | FolderFault::AlreadyInitialised
+        | FolderFault::HoldsTopics
+        | FolderFault::InUse => 1,
     }
 }

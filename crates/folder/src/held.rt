@@ -1,11 +1,11 @@
 // A folder that one process holds.
-ghost use Rattle.std.specs.Prelude.{◌≡◌, ◌≢◌, ◌⊎◌, IfOk, IfErr, IsErrOf, length};
+ghost use Rattle.std.specs.Prelude.{◌≡◌, ◌≢◌, ◌⊎◌, IfOk, IfErr, IsErr, IsErrOf, IsTrue, length};
 ghost use Rattle.std.specs.IoError.{error_kind};
 ghost use Rattle.gated_log.specs.declared.refusal.Refusal.TheVariants.{NotInitialised};
 ghost use Rattle.folder.specs.Faults.{IsFaultOf, IsFaultOfHolding};
 
 use crate::fault::FolderFault;
-use disk::Shelf;
+use disk::{FileId, Shelf};
 use disk_fs::FsShelf;
 use gated_log::Refusal;
 use std::alloc::{AllocError, Global};
@@ -22,12 +22,13 @@ const LOCK: &str = "lock";
 #[derive(Drop)]
 pub struct Folder {
     path: String,
-    _lock: File,
+    lock: Option<File>,
 }
 
 impl Folder {
-    /// Takes the folder of this path. It is `NotInitialised` where the folder or its lock file isn't there, and `InUse` where
-    /// another process holds it. Nothing is made.
+    /// Takes the folder of this path, to be served. It is `NotInitialised` where the folder isn't there, or neither its lock file
+    /// nor a list of topics is, and `InUse` where another process holds it. A lock file that is lacking beside a list of topics, as
+    /// in a copy that left it out, is made; nothing else is.
     pub fn open<R: AllocGlobal + Files<File = File>>(
         rt: &R,
         path: &str,
@@ -35,13 +36,42 @@ impl Folder {
         ensures faults { IfErr result (λ fault. (fault ≡ FolderFault.Refused NotInitialised) ⊎ IsFaultOfHolding fault) }
         ensures unnamed { length path.now ≡ 0 → IsErrOf result (FolderFault.Refused NotInitialised) }
     {
-        if path.is_empty() {
-            return Err(FolderFault::Refused(Refusal::NotInitialised));
-        }
-        let lock = lock_path(rt.alloc(), path)?;
-        match lock_options().open(rt, lock.as_str()) {
+        match open_lock(rt, path) {
             Ok(lock) => Folder::locked(rt.alloc(), path, lock),
             Err(error) => Err(fault_of_opening(error)),
+        }
+    }
+
+    /// Takes the folder of this path, to be looked at alone: as `open` does or, where it may not be written, as it is.
+    pub fn look<R: AllocGlobal + Files<File = File>>(
+        rt: &R,
+        path: &str,
+    ) -> Result<Folder, FolderFault>
+        ensures faults { IfErr result (λ fault. (fault ≡ FolderFault.Refused NotInitialised) ⊎ IsFaultOfHolding fault) }
+        ensures unnamed { length path.now ≡ 0 → IsErrOf result (FolderFault.Refused NotInitialised) }
+    {
+        match open_lock(rt, path) {
+            Ok(lock) => Folder::locked(rt.alloc(), path, lock),
+            Err(error) if is_of_leave(error.kind()) => Folder::as_it_is(rt, path),
+            Err(error) => Err(fault_of_opening(error)),
+        }
+    }
+
+    /// Takes the folder of this path and makes nothing: by its lock file, which is only read, or, where it has none, by no lock.
+    pub fn as_it_is<R: AllocGlobal + Files<File = File>>(
+        rt: &R,
+        path: &str,
+    ) -> Result<Folder, FolderFault>
+        ensures faults { IfErr result IsFaultOfHolding }
+    {
+        let lock = lock_path(rt.alloc(), path)?;
+        match OpenOptions::new().read(true).open(rt, lock.as_str()) {
+            Ok(lock) => Folder::locked(rt.alloc(), path, lock),
+            Err(error) if error.kind() == ErrorKind::NotFound => Ok(Folder {
+                path: String::from_str(rt.alloc(), path)?,
+                lock: None,
+            }),
+            Err(error) => Err(FolderFault::from(error)),
         }
     }
 
@@ -68,8 +98,13 @@ impl Folder {
         lock.try_lock()?;
         Ok(Folder {
             path: String::from_str(alloc, path)?,
-            _lock: lock,
+            lock: Some(lock),
         })
+    }
+
+    /// Whether its lock was taken: it isn't where the folder has no lock file and was taken as it is.
+    pub fn is_locked(&self) -> bool {
+        self.lock.is_some()
     }
 
     /// The files of the folder, as a device that never failed. Nothing is asked of the system yet.
@@ -83,10 +118,44 @@ impl Folder {
         let path = String::from_str(alloc, self.path.as_str())?;
         Ok(FsShelf::new(rt, alloc, path))
     }
+
+    /// The same to be read alone.
+    pub fn reading_shelf<R: AllocGlobal + Files<File = File> + Drop>(
+        &self,
+        rt: R,
+    ) -> Result<FsShelf<R>, AllocError>
+        ensures { IfOk result (λ shelf. (⟦<FsShelf<R> as Shelf>⟧.disk shelf).faults ≡ 0) }
+    {
+        let alloc = rt.alloc();
+        let path = String::from_str(alloc, self.path.as_str())?;
+        Ok(FsShelf::reading(rt, alloc, path))
+    }
 }
 
 fn lock_path(alloc: Global, path: &str) -> Result<String, AllocError> {
     format!(in alloc; "{path}/{LOCK}")
+}
+
+// Opens the lock file of a folder, which is made where it is lacking beside a list of topics. An empty path names no folder.
+fn open_lock<R: AllocGlobal + Files<File = File>>(rt: &R, path: &str) -> io::Result<File>
+    ensures unnamed { length path.now ≡ 0 → IsErr result × IfErr result (λ error. error_kind error ≡ ErrorKind.NotFound) }
+{
+    if path.is_empty() {
+        return Err(io::Error::from(ErrorKind::NotFound));
+    }
+    let lock = lock_path(rt.alloc(), path)?;
+    match lock_options().open(rt, lock.as_str()) {
+        Err(error) if error.kind() == ErrorKind::NotFound && has_list(rt, path)? => {
+            lock_options().create(true).open(rt, lock.as_str())
+        }
+        opened => opened,
+    }
+}
+
+// Whether the file of a list of topics stands in a folder.
+fn has_list<R: AllocGlobal + Files>(rt: &R, path: &str) -> io::Result<bool> {
+    let list = format!(in rt.alloc(); "{path}/{}", FileId::Catalog)?;
+    fs::exists(rt, list.as_str())
 }
 
 // A lock is taken through a file that may be written, which some file systems want.
@@ -94,6 +163,13 @@ fn lock_options() -> OpenOptions {
     let mut options = OpenOptions::new();
     options.read(true).write(true);
     options
+}
+
+// Whether a file wasn't opened for want of leave to write it, or the folder that it is in.
+fn is_of_leave(kind: ErrorKind) -> bool
+    ensures { IsTrue result → kind ≢ ErrorKind.NotFound }
+{
+    kind == ErrorKind::PermissionDenied || kind == ErrorKind::ReadOnlyFilesystem
 }
 
 // Nothing is there exactly where the system found no such name.

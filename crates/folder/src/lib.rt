@@ -1,14 +1,12 @@
 //! What is done with a node's folder from the command line: it is made, looked at, and held by one process. A folder whose
-//! list of topics is there is never made anew, and what is printed are whole lines. What real files hold, and that a file lock
-//! keeps others out, is claimed nowhere.
+//! list of topics is open, sound or not, is never made anew, and what is printed are whole lines. What real files hold, and that
+//! a file lock keeps others out, is claimed nowhere.
 #![tactic(auto)]
 
 mod fault;
 mod held;
 mod looking;
 mod making;
-#[cfg(test)]
-mod tests;
 
 pub use fault::{FolderFault, exit_status};
 pub use held::Folder;

@@ -12,6 +12,7 @@ use crate::fault::FolderFault;
 use crate::held::Folder;
 use admin::print_status;
 use disk::Shelf;
+use log::{Log, warn};
 use node::{Node, ReplyText, Site, TopicStatus};
 use std::alloc::{AllocError, Global};
 use std::fs::File;
@@ -22,8 +23,10 @@ use topic_core::{FileStores, TopicStore};
 /// By which clients would find the broker of a folder that is only looked at.
 const SERVICE_URL: &str = "pulsar://inspect";
 
-/// Writes the status lines of the node in the folder of this path, as `inspect_on` does. No folder and no file is made.
-pub fn inspect<R: AllocGlobal + Files<File = File>, W: Write>(
+/// Writes the status lines of the node in the folder of this path, as `inspect_on` does. Nothing is made but a lock file that a
+/// list of topics lacks, and nothing is written to. A folder that may not be written and has no lock file is looked at without its
+/// lock, which the log tells.
+pub fn inspect<R: AllocGlobal + Log + Files<File = File>, W: Write>(
     rt: &R,
     path: &str,
     writer: &mut W,
@@ -31,8 +34,11 @@ pub fn inspect<R: AllocGlobal + Files<File = File>, W: Write>(
     ensures lines { OnOk result ((statuses : List TopicStatus) × Appends (W.contents writer.old) (W.contents writer.new) (lines_of_all statuses)) }
     ensures silent { IfErr result (λ fault. fault ≢ FolderFault.Refused Device → fault ≢ FolderFault.Refused NoMemory → writer.new ≡ writer.old) }
 {
-    let folder = Folder::open(rt, path)?;
-    let shelf = folder.shelf(rt)?;
+    let folder = Folder::look(rt, path)?;
+    if !folder.is_locked() {
+        warn!(rt; "the folder has no lock file and may not be written, so it isn't held");
+    }
+    let shelf = folder.reading_shelf(rt)?;
     inspect_on(rt.alloc(), shelf, writer)
 }
 

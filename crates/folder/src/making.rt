@@ -3,11 +3,9 @@ ghost use Rattle.std.specs.Prelude.{◌≡◌, ◌≢◌, ℕ, List, IfErr, IsEr
 ghost use Rattle.std.specs.Io.KnownBytes.{Appends};
 ghost use Rattle.disk.specs.Disk.{Same, Failed};
 ghost use Rattle.gated_log.specs.declared.refusal.Refusal.TheVariants.{Device, NoMemory};
-ghost use Rattle.catalog.specs.Names.{Names};
-ghost use Rattle.catalog.specs.Catalogs.{StandsFor};
 ghost use Rattle.node.specs.State.{State, fresh_broker};
 ghost use Rattle.node.specs.Standing.{AtRest};
-ghost use Rattle.folder.specs.Making.{initialised_line, fault_of_making, IsFaultOfMaking, MakesNothing};
+ghost use Rattle.folder.specs.Making.{initialised_line, fault_of_making, HasList, IsFaultOfMaking, MakesNothing};
 
 use crate::fault::FolderFault;
 use crate::held::Folder;
@@ -16,14 +14,14 @@ use disk::Shelf;
 use node::{Node, Refusal};
 use std::alloc::Global;
 use std::fs::File;
-use std::io;
-use std::io::Write;
+use std::io::{ErrorKind, Write};
 use std::rt::Files;
+use std::{fs, io};
 use topic_core::{FileStores, TopicStore};
 
 /// Makes a node without topics in the folder of this path, and writes a line that says how many entries its ledgers have. The
-/// folder is made where it isn't there. One that has a list of topics, sound or not, stays as it is; one in which an
-/// earlier `init` was cut off is made anew. Nothing is written where the node isn't made.
+/// folder is made where it isn't there. One that has a list of topics, sound or not, stays as it is, and so does one that has files of
+/// topics without such a list; one in which an earlier `init` was cut off is made anew. Nothing is written where the node isn't made.
 pub fn init<R: AllocGlobal + Files<File = File>, W: Write>(
     rt: &R,
     path: &str,
@@ -33,6 +31,9 @@ pub fn init<R: AllocGlobal + Files<File = File>, W: Write>(
     ensures line { OnOk result (Appends (W.contents writer.old) (W.contents writer.new) (initialised_line per_ledger.count)) }
     ensures silent { IfErr result (λ fault. fault ≢ FolderFault.Refused Device → fault ≢ FolderFault.Refused NoMemory → writer.new ≡ writer.old) }
 {
+    if holds_topics(rt, path)? {
+        return Err(fault_over_topics(rt, path));
+    }
     let folder = Folder::make(rt, path)?;
     let mut shelf = folder.shelf(rt)?;
     init_on(rt.alloc(), per_ledger, &mut shelf)?;
@@ -48,8 +49,53 @@ fn write_line<W: Write>(per_ledger: EntriesPerLedger, writer: &mut W) -> io::Res
     writeln!(writer, "initialised, {count} entries a ledger")
 }
 
-/// Makes a node without topics on a device that has none. Where a list of topics stands nothing is made, whenever the power is
-/// cut.
+// Whether a file of a topic stands in the folder of this path, where there is one.
+fn holds_topics<R: AllocGlobal + Files>(rt: &R, path: &str) -> io::Result<bool> {
+    let entries = match fs::read_dir(&rt, path) {
+        Ok(entries) => entries,
+        Err(error) if error.kind() == ErrorKind::NotFound => return Ok(false),
+        Err(error) => return Err(error),
+    };
+    for entry in entries {
+        match entry {
+            Ok(entry) if is_of_a_topic(entry.file_name()) => return Ok(true),
+            // A name that is no text is none of ours.
+            Err(error) if error.kind() != ErrorKind::InvalidFilename => return Err(error),
+            Ok(_) | Err(_) => {}
+        }
+    }
+    Ok(false)
+}
+
+// Whether a file of this name is one of a topic, of this version of a folder or of the next one.
+fn is_of_a_topic(name: &str) -> bool {
+    (name.starts_with('t') || name.starts_with('u')) && name.ends_with(".dat")
+}
+
+// Why no node is made where files of topics stand. Nothing changes.
+fn fault_over_topics<R: AllocGlobal + Files<File = File>>(rt: &R, path: &str) -> FolderFault {
+    match look_for_list(rt, path) {
+        Ok(()) => FolderFault::AlreadyInitialised,
+        Err(FolderFault::Refused(Refusal::NotInitialised)) => FolderFault::HoldsTopics,
+        Err(fault) => fault,
+    }
+}
+
+// Looks whether a list of topics stands in the folder, which stays as it is.
+fn look_for_list<R: AllocGlobal + Files<File = File>>(
+    rt: &R,
+    path: &str,
+) -> Result<(), FolderFault> {
+    let folder = Folder::as_it_is(rt, path)?;
+    let mut shelf = folder.reading_shelf(rt)?;
+    match Catalog::open(rt.alloc(), &mut shelf) {
+        Ok(_) => Ok(()),
+        Err(refusal) => Err(fault_of_making(refusal)),
+    }
+}
+
+/// Makes a node without topics on a device that has none. Where a list of topics is open, sound or not, nothing is made, whenever the
+/// power is cut, and that is told; it is told nowhere else.
 pub fn init_on<S: Shelf + Drop>(
     alloc: Global,
     per_ledger: EntriesPerLedger,
@@ -57,8 +103,8 @@ pub fn init_on<S: Shelf + Drop>(
 ) -> Result<(), FolderFault>
     ensures made { OnOk result ((S.disk shelf.old).honest → (url : List ℕ) →
         (state : State) × (state.broker ≡ fresh_broker per_ledger.count url) × AtRest (⟦<FileStores as TopicStore>⟧.stands) state (S.disk shelf.new)) }
-    ensures once { (number : ℕ) (names : Names) → (S.disk shelf.old).honest → StandsFor number (S.disk shelf.old).seen names → MakesNothing (S.disk shelf.old) (S.disk shelf.new) result }
-    ensures already { (S.disk shelf.old).honest → IsErrOf result FolderFault.AlreadyInitialised → Same (S.disk shelf.old).seen (S.disk shelf.new).seen }
+    ensures once { (S.disk shelf.old).honest → HasList (S.disk shelf.old).seen → MakesNothing (S.disk shelf.old) (S.disk shelf.new) result }
+    ensures already { (S.disk shelf.old).honest → IsErrOf result FolderFault.AlreadyInitialised → HasList (S.disk shelf.old).seen × Same (S.disk shelf.old).seen (S.disk shelf.new).seen }
     ensures faults { IfErr result IsFaultOfMaking }
     ensures cause { IsErrOf result (FolderFault.Refused Device) → Failed (S.disk shelf.old) (S.disk shelf.new) }
 {

@@ -1,5 +1,9 @@
 // Real files, of which some can't be opened.
+use log::kv::Source;
+use log::span::Spans;
+use log::{Log, Record};
 use std::alloc::{Allocator, Global};
+use std::fmt::Display;
 use std::fs::{File, Metadata, OpenOptions};
 use std::io;
 use std::io::ErrorKind;
@@ -18,6 +22,25 @@ impl<'a, R: AllocGlobal> Alloc for Refusing<'a, R> {
 
     fn alloc(&self) -> Global {
         self.rt.alloc()
+    }
+}
+
+// It logs where the runtime does.
+impl<'a, R: Log> Log for Refusing<'a, R> {
+    fn enabled(&self, metadata: &log::Metadata<'_>) -> bool {
+        self.rt.enabled(metadata)
+    }
+
+    fn log<D: Display, K: Source, S: Spans>(&self, record: &Record<'_, D, K, S>) {
+        self.rt.log(record);
+    }
+
+    fn flush(&self) {
+        self.rt.flush();
+    }
+
+    fn target(&self) -> &str {
+        self.rt.target()
     }
 }
 

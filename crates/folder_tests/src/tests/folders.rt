@@ -1,10 +1,11 @@
 // Folders of the system.
 use super::refusing::Refusing;
-use crate::{Folder, FolderFault, exit_status, init, inspect};
 use catalog::EntriesPerLedger;
+use folder::{Folder, FolderFault, exit_status, init, inspect};
 use gated_log::Refusal;
 use std::alloc::Global;
 use std::fs;
+use std::fs::File;
 use std::io::ErrorKind;
 use std::process::Abort;
 use std::rt::Files;
@@ -134,6 +135,42 @@ fn a_lock_file_that_cannot_be_opened_is_told(rt: HostRuntime) -> Result<(), Fail
 }
 
 #[test]
+fn a_lacking_lock_file_is_made_beside_a_list(rt: HostRuntime) -> Result<(), Fail> {
+    without(&rt, rt.alloc(), "folder_copied")?;
+    let mut lines = Vec::new(rt.alloc());
+    init(&rt, "folder_copied", seven(&rt), &mut lines)?;
+    fs::remove_file(&rt, "folder_copied/lock")?;
+    let as_it_is = Folder::as_it_is(&rt, "folder_copied")?;
+    assert!(rt; !as_it_is.is_locked());
+    assert!(rt; !fs::exists(&rt, "folder_copied/lock")?);
+    let looked_at = Folder::look(&rt, "folder_copied")?;
+    assert!(rt; looked_at.is_locked());
+    drop(looked_at);
+    let opened = Folder::open(&rt, "folder_copied")?;
+    assert!(rt; opened.is_locked());
+    Ok(())
+}
+
+#[test]
+fn no_node_is_made_over_files_of_topics(rt: HostRuntime) -> Result<(), Fail> {
+    let mut lines = Vec::new(rt.alloc());
+    for name in [
+        "folder_of_topics/t00000-c0.dat",
+        "folder_of_topics/u00000-c0.dat",
+    ] {
+        without(&rt, rt.alloc(), "folder_of_topics")?;
+        fs::create_dir(&rt, "folder_of_topics")?;
+        drop(File::create(&rt, name)?);
+        let made = told_of_files(init(&rt, "folder_of_topics", seven(&rt), &mut lines))?;
+        assert_eq!(rt; made, Some(FolderFault::HoldsTopics));
+        assert!(rt; !fs::exists(&rt, "folder_of_topics/lock")?);
+        assert!(rt; !fs::exists(&rt, "folder_of_topics/catalog.dat")?);
+    }
+    assert_eq!(rt; lines.len(), 0);
+    Ok(())
+}
+
+#[test]
 fn each_fault_has_its_text(rt: HostRuntime) -> Result<(), Fail> {
     for (fault, text) in [
         (FolderFault::Refused(Refusal::Device), "device"),
@@ -143,6 +180,7 @@ fn each_fault_has_its_text(rt: HostRuntime) -> Result<(), Fail> {
         ),
         (FolderFault::Refused(Refusal::Version), "version"),
         (FolderFault::AlreadyInitialised, "already initialised"),
+        (FolderFault::HoldsTopics, "not initialised"),
         (FolderFault::InUse, "device"),
     ] {
         assert_eq!(rt; format!(in rt.alloc(); "{fault}")?.as_str(), text);
