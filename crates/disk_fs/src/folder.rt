@@ -2,7 +2,7 @@
 ghost use Rattle.std.specs.Prelude.{◌≡◌, ◌<◌, ◌≤◌, false, length, vec_len, IfOk, OnOk, IsTrue};
 ghost use Rattle.disk_fs.specs.Device.{GivesUp};
 
-use crate::names::Names;
+use crate::names::{Access, Names};
 use crate::opened::OpenedFiles;
 use crate::reads::read_whole;
 use crate::syncs::Syncs;
@@ -11,6 +11,7 @@ use std::alloc::Global;
 use std::fs::OpenFile;
 use std::io;
 use std::io::ErrorKind;
+use std::os::fd::AsRawFd;
 use std::os::unix::fs::FileExt;
 use std::rt::Files;
 
@@ -25,9 +26,9 @@ pub(crate) struct Folder<R: Files> {
 
 impl<R: Files + Drop> Folder<R>
 where
-    R::File: FileExt,
+    R::File: FileExt + AsRawFd,
 {
-    pub(crate) fn new(rt: R, alloc: Global, path: String) -> Folder<R>
+    pub(crate) fn new(rt: R, alloc: Global, path: String, access: Access) -> Folder<R>
         ensures { result.syncs.have_failed ≡ false }
     {
         Folder {
@@ -35,6 +36,7 @@ where
                 rt,
                 alloc,
                 path,
+                access,
                 folder: None,
                 are_synced: false,
             },
@@ -120,7 +122,8 @@ where
         it.file.set_len(len)
     }
 
-    /// Syncs the file, also where nothing was written to it here, since an earlier process may have written.
+    /// Syncs the file, also where nothing was written to it here, since an earlier process may have written. What is read then is
+    /// what the disk has.
     pub(crate) fn sync(&mut self, id: FileId) -> io::Result<()>
         ensures given_up { GivesUp result self.old.syncs.have_failed self.new.syncs.have_failed }
     {
@@ -128,7 +131,11 @@ where
             return Ok(());
         }
         let it = &mut self.opened.files[0];
-        self.syncs.sync_file(&it.file)?;
+        if it.is_dirty {
+            self.syncs.sync_file(&it.file)?;
+        } else {
+            self.syncs.settle_file(&it.file)?;
+        }
         it.is_dirty = false;
         Ok(())
     }

@@ -3,8 +3,10 @@ ghost use Rattle.std.specs.Prelude.{◌≡◌, ◌+◌, ◌≤◌, ◌^◌, true
 ghost use Rattle.disk_fs.specs.Device.{Counted, GivesUp};
 
 use crate::folder::Folder;
+use crate::names::Access;
 use disk::{DeviceError, FileId, History, Shelf};
 use std::alloc::Global;
+use std::os::fd::AsRawFd;
 use std::os::unix::fs::FileExt;
 use std::rt::Files;
 
@@ -28,7 +30,7 @@ pub struct FsShelf<R: Files> {
 
 impl<R: Files + Drop> FsShelf<R>
 where
-    R::File: FileExt,
+    R::File: FileExt + AsRawFd,
 {
     /// The files of the folder of this path. Nothing is asked of the system yet; in a folder that isn't there reads find
     /// nothing, and writes fail. An empty path names no folder, and each call fails.
@@ -36,8 +38,24 @@ where
         ensures failures { length result.failures.items ≡ 0 }
         ensures syncs { result.folder.syncs.have_failed ≡ false }
     {
+        FsShelf::opened_for(rt, alloc, path, Access::Writing)
+    }
+
+    /// The same to be read alone, so that it takes no leave to write: a write fails, and so does a cut that shortens a file.
+    pub fn reading(rt: R, alloc: Global, path: String) -> FsShelf<R>
+        ensures failures { length result.failures.items ≡ 0 }
+        ensures syncs { result.folder.syncs.have_failed ≡ false }
+    {
+        FsShelf::opened_for(rt, alloc, path, Access::Reading)
+    }
+
+    // The files of the folder, opened for this.
+    fn opened_for(rt: R, alloc: Global, path: String, access: Access) -> FsShelf<R>
+        ensures failures { length result.failures.items ≡ 0 }
+        ensures syncs { result.folder.syncs.have_failed ≡ false }
+    {
         FsShelf {
-            folder: Folder::new(rt, alloc, path),
+            folder: Folder::new(rt, alloc, path, access),
             failures: History::new(),
         }
     }
@@ -61,7 +79,7 @@ fn fits(offset: u64, count: usize) -> bool
 
 impl<R: Files + Drop> Shelf for FsShelf<R>
 where
-    R::File: FileExt,
+    R::File: FileExt + AsRawFd,
 {
     ghost use Rattle.disk_fs.specs.Device.{disk_counting, lawful_counting};
 

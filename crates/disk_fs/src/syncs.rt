@@ -4,6 +4,7 @@ ghost use Rattle.std.specs.Prelude.{◌≡◌, ◌↔◌, true, false, IsOk, IsE
 use std::fs::OpenFile;
 use std::io;
 use std::io::ErrorKind;
+use std::os::fd::AsRawFd;
 
 /// Whether all syncs so far went well. A system that couldn't write a file's bytes says so to one sync, counts them as
 /// written, and may answer the next sync as if nothing had happened. So after a sync that failed no other one is believed.
@@ -29,6 +30,20 @@ impl Syncs {
         ensures fine { OnOk result (self.new ≡ self.old) }
     {
         self.note(file.sync_data())
+    }
+
+    /// The same, of a file that nothing was written to here: the system's copies of it, which a sync that failed in an earlier
+    /// process may have left other than the disk has them, are dropped, so that what is read is what the disk has.
+    pub(crate) fn settle_file<F: OpenFile + AsRawFd>(&mut self, file: &F) -> io::Result<()>
+        ensures failed { IsErr result → self.new.have_failed ≡ true }
+        ensures fine { OnOk result (self.new ≡ self.old) }
+    {
+        self.sync_file(file)?;
+        let advised = libc::posix_fadvise(file.as_raw_fd(), 0, 0, libc::POSIX_FADV_DONTNEED);
+        if advised != 0 {
+            return self.note(Err(io::Error::from_raw_os_error(advised)));
+        }
+        Ok(())
     }
 
     /// Has the system write what it holds of the folder: the names of its files.

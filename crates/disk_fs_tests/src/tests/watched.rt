@@ -4,6 +4,7 @@ use std::cell::Cell;
 use std::fs::{Metadata, OpenFile, OpenOptions};
 use std::io;
 use std::io::{ErrorKind, Read, Seek, SeekFrom, Write};
+use std::os::fd::{AsRawFd, RawFd};
 use std::os::unix::fs::FileExt;
 use std::rt::Files;
 
@@ -197,6 +198,13 @@ impl<'a, F: FileExt> FileExt for WatchedFile<'a, F> {
         self.plan.meet(Call::Write)?;
         let count = buf.len().min(self.plan.piece.get());
         self.file.write_at(&buf[..count], offset)
+    }
+}
+
+// What a shelf has advised of a file isn't counted, and doesn't fail.
+impl<'a, F: AsRawFd> AsRawFd for WatchedFile<'a, F> {
+    fn as_raw_fd(&self) -> RawFd {
+        self.file.as_raw_fd()
     }
 }
 
