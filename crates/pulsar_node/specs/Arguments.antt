@@ -19,3 +19,7 @@ folder_in words = or_none (first_value (found_of words) (codes "DIR"))
 -- the text that says how many entries a ledger is to have
 abbrev pub entries_in : ArgMatches → Option (List ℕ)
 entries_in words = one_text (found_of words) (codes "entries")
+
+-- the text that says for how many seconds a client may say nothing
+abbrev pub silence_in : ArgMatches → Option (List ℕ)
+silence_in words = one_text (found_of words) (codes "idle")

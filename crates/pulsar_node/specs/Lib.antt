@@ -1,5 +1,1 @@
 pub mod Arguments
-pub mod Cause
-pub mod Event
-pub mod Fault
-pub mod Replay

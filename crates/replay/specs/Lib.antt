@@ -1,0 +1,4 @@
+pub mod Cause
+pub mod Event
+pub mod Fault
+pub mod Replay
