@@ -16,7 +16,12 @@ A Protocol Buffers message is a list of fields. A field is a varint, which is it
 varint length and so many bytes (wire type 2). A varint has seven bits a byte, the low ones first; the high bit says that another byte follows. In a
 command field 1 is its type, and what belongs to type k stands in field k, which is a message itself.
 """
+import contextlib
 import socket
+import threading
+import time
+
+PING_SECONDS = 30  # the broker cuts off a client that says nothing for ten minutes
 
 # The types of commands that are used here
 CONNECT, CONNECTED, SUBSCRIBE, PRODUCER, SEND, SEND_RECEIPT, SEND_ERROR, MESSAGE, ACK, FLOW = 2, 3, 4, 5, 6, 7, 8, 9, 10, 11
@@ -94,13 +99,22 @@ class Connection:
             self.socket = socket.create_connection((host, int(port)))
         except (OSError, ValueError, OverflowError) as why:
             raise Failed(f"no connection to {address}: {why}") from None
-        self.stream = self.socket.makefile("rb")
+        self.stream, self.sending = self.socket.makefile("rb"), threading.Lock()
         self.send(CONNECT, text(1, b"examples") + number(4, 5))
         self.expect(CONNECTED)
+        threading.Thread(target=self.keep_alive, daemon=True).start()
+
+    def keep_alive(self):
+        """Says now and then that the client is still there, as long as it is."""
+        with contextlib.suppress(Failed):
+            while True:
+                time.sleep(PING_SECONDS)
+                self.send(PING, b"")
 
     def send(self, kind, fields, entry=b""):
         try:
-            self.socket.sendall(frame(kind, fields, entry))
+            with self.sending:
+                self.socket.sendall(frame(kind, fields, entry))
         except OSError as why:
             raise Failed(f"the connection failed: {why}") from None
 
@@ -113,6 +127,8 @@ class Connection:
         fields = fields_of(command[kind])
         if kind == PING:  # a broker asks so whether the client is still there
             self.send(PONG, b"")
+            return self.receive()
+        if kind == PONG:
             return self.receive()
         if ERROR_TEXT.get(kind) in fields:
             raise Failed(fields[ERROR_TEXT[kind]].decode())

@@ -23,8 +23,9 @@ def free_port():
 class Server:
     """A served folder. What the program says on standard error stands in the file `log` beside the folder."""
 
-    def __init__(self, program, folder, entries=1000, survives_limits=False):
+    def __init__(self, program, folder, entries=1000, survives_limits=False, words=()):
         self.program, self.folder, self.log, self.process, self.port = program, folder, f"{folder}.log", None, None
+        self.words = words  # that `serve` gets besides
         self.restores = not survives_limits  # a limit that is passed is an error of the call, and no signal ends the program
         said = self.run("init", folder, "--entries", str(entries))
         if said != (0, f"initialised, {entries} entries a ledger\n", ""):
@@ -42,7 +43,7 @@ class Server:
         """Begins to serve, and doesn't wait until clients are taken."""
         self.port = free_port()
         with open(self.log, "a", encoding="utf-8") as log:
-            self.process = subprocess.Popen([self.program, "serve", f"127.0.0.1:{self.port}", self.folder], stdin=subprocess.DEVNULL,
+            self.process = subprocess.Popen([self.program, "serve", f"127.0.0.1:{self.port}", self.folder, *self.words], stdin=subprocess.DEVNULL,
                                             stdout=subprocess.PIPE, stderr=log, text=True, restore_signals=self.restores)
 
     def start(self):
@@ -60,6 +61,10 @@ class Server:
     def log_end(self):
         with open(self.log, encoding="utf-8", errors="replace") as log:
             return log.read()[-500:]
+
+    def log_lines(self):
+        with open(self.log, encoding="utf-8", errors="replace") as log:
+            return log.read().splitlines()
 
     def end(self, how=signal.SIGKILL):
         """Ends the program by a signal; it must live until then."""

@@ -1,10 +1,13 @@
-ghost use Rattle.std.specs.Prelude.{◌≡◌, ℕ, List, option_map, IfSome};
-ghost use Rattle.pulsar_node.specs.Arguments.{file_of, folder_in, entries_in};
+ghost use Rattle.std.specs.Prelude.{◌≡◌, ◌*◌, ℕ, List, ◌⊎◌, option_map, IfSome, IfNone};
+ghost use Rattle.std.specs.Duration.{as_nanos};
+ghost use Rattle.clap.specs.Words.{ReadsOne};
+ghost use Rattle.pulsar_node.specs.Arguments.{file_of, folder_in, entries_in, silence_in};
 
 use clap::{Arg, ArgMatches, Command, value_parser};
 use node::EntriesPerLedger;
 use std::alloc::{AllocError, Global};
 use std::str::FromStr;
+use std::time::Duration;
 
 const NAME: &str = "pulsar_node";
 
@@ -46,10 +49,17 @@ fn serve_command<'a>(alloc: Global) -> Result<Command<'a>, AllocError> {
     let address = Arg::new(alloc, "ADDR")
         .required(true)
         .help("Where to listen, as 127.0.0.1:6650");
+    let idle = Arg::new(alloc, "idle")
+        .long("idle")
+        .value_name("SECONDS")
+        .value_parser(value_parser!(u32).range(0..=86400))
+        .default_value("600")
+        .help("How long a client may say nothing before it is cut off, 0 to 86400; 0 is for ever");
     Command::new(alloc, "serve")
         .about("Serves the broker of a folder to clients, until it is killed")
         .arg(address)?
-        .arg(folder_argument(alloc))
+        .arg(folder_argument(alloc))?
+        .arg(idle)
 }
 
 fn inspect_command<'a>(alloc: Global) -> Result<Command<'a>, AllocError> {
@@ -74,6 +84,19 @@ pub(crate) fn folder_of<'a>(words: &ArgMatches<'a>) -> &'a str
 /// The address that `serve` names.
 pub(crate) fn address_of<'a>(words: &ArgMatches<'a>) -> &'a str {
     words.get_str("ADDR").unwrap_or_default()
+}
+
+/// How long a client of `serve` may say nothing; none, where that is for ever.
+pub(crate) fn longest_silence(serve: &ArgMatches<'_>) -> Option<Duration>
+    ensures some { (text : List ℕ) → silence_in serve.now ≡ Some text → IfSome result (λ longest.
+        (seconds : ℕ) × (⟦<u32 as FromStr>⟧.from_str_gives) text (Ok seconds) × (as_nanos longest ≡ seconds * 1_000_000_000)) }
+    ensures none { (text : List ℕ) → silence_in serve.now ≡ Some text → IfNone result
+        (ReadsOne (⟦<u32 as FromStr>⟧.from_str_gives) text None ⊎ (⟦<u32 as FromStr>⟧.from_str_gives) text (Ok 0)) }
+{
+    match serve.get_one::<u32>("idle")? {
+        0 => None,
+        seconds => Some(Duration::from_secs(u64::from(seconds))),
+    }
 }
 
 /// How many entries a ledger is to have; none where a ledger may not have so many, which the command line refuses.

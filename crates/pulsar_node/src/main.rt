@@ -1,28 +1,22 @@
-//! The broker as a program: it makes, serves and inspects a node's folder, of which `folder` and `server` say what holds, and it
-//! replays scripts over a device in memory. A replay reads a whole script before it works the first line, and writes a line for each
-//! line of the script, in order and by a run of the broker: all of them where it ends well, otherwise a front of them. A
-//! bad script is answered by the number of its first bad line, and nothing is written.
+//! The broker as a program: it makes, serves and inspects a node's folder, and replays scripts over a device in memory. What holds of
+//! these say `folder`, `server` and `replay`. Whatever standard descriptors it is begun without, it puts something there before it
+//! opens anything else.
 #![tactic(auto)]
 
 ghost use Rattle.std.specs.Prelude.{◌≡◌, OnOk, OnErr};
 
 mod arguments;
-mod event;
-mod fault;
-mod replay;
-mod sink;
-mod source;
-mod working;
+mod descriptors;
 
-use crate::arguments::{address_of, command, entries_per_ledger, folder_of, script_file};
-use crate::fault::{ProgramFault, exit_status, write_fault};
-use crate::replay::replay;
-use crate::sink::ToWriter;
-use crate::source::FromReader;
+use crate::arguments::{
+    address_of, command, entries_per_ledger, folder_of, longest_silence, script_file,
+};
+use crate::descriptors::StandIns;
 use clap::ArgMatches;
 use clap::error::ErrorKind;
 use folder::FolderFault;
 use log::{Log, error};
+use replay::{FromReader, ProgramFault, ToWriter, exit_status, replay, write_fault};
 use server::ServeFault;
 use std::fs::File;
 use std::net::{Net, TcpListener, TcpStream};
@@ -35,7 +29,7 @@ use std::{env, io};
 const REFUSED: u8 = 2;
 
 fn main(rt: HostRuntime) -> ExitCode {
-    match run(&rt) {
+    match hold_and_run(&rt) {
         Ok(status) => ExitCode::from(status),
         Err(fault) => {
             // Where standard error fails too, the status alone tells.
@@ -43,6 +37,28 @@ fn main(rt: HostRuntime) -> ExitCode {
             ExitCode::from(exit_status(&fault))
         }
     }
+}
+
+// Does what the command line says, with something at each standard descriptor.
+fn hold_and_run<R>(rt: &R) -> Result<u8, ProgramFault>
+where
+    R: AllocGlobal
+        + Print
+        + Eprint
+        + Input
+        + Env
+        + Log
+        + Files<File = File>
+        + Threads
+        + Wait
+        + Sync,
+    R: Net<Stream = TcpStream, Listener = TcpListener>,
+    R::Dir: Send + Sync,
+{
+    let stand_ins = StandIns::open(rt).map_err(|_| ProgramFault::Device)?;
+    let done = run(rt);
+    drop(stand_ins);
+    done
 }
 
 // Reads the command line and does what it says. The status is 0, or 2 for a command line that is refused.
@@ -113,7 +129,8 @@ where
     R: Net<Stream = TcpStream, Listener = TcpListener>,
     R::Dir: Send + Sync,
 {
-    match server::serve(rt, address_of(words), folder_of(words)) {
+    let idle = longest_silence(words);
+    match server::serve(rt, address_of(words), folder_of(words), idle) {
         Ok(()) => 0,
         Err(ServeFault::Folder(fault)) => status_of(rt, Err(fault)),
         Err(fault) => {
@@ -140,8 +157,12 @@ fn status_of<R: Eprint + Log>(rt: &R, done: Result<(), FolderFault>) -> u8
     let Err(fault) = done else {
         return 0;
     };
-    if fault == FolderFault::InUse {
-        error!(rt; "another process holds the folder");
+    match fault {
+        FolderFault::InUse => error!(rt; "another process holds the folder"),
+        FolderFault::HoldsTopics => {
+            error!(rt; "the folder holds files of topics, but its list of topics isn't open; nothing was made")
+        }
+        FolderFault::Refused(_) | FolderFault::AlreadyInitialised => {}
     }
     // Where standard error fails too, the status alone tells.
     let _ = eprintln!(rt; "error: {fault}");

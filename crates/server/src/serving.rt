@@ -18,6 +18,7 @@ use std::rt::Files;
 use std::sync::atomic::AtomicBool;
 use std::sync::{Mutex, Wait};
 use std::thread::Threads;
+use std::time::Duration;
 use topic_core::FileStores;
 use topic_lock::{
     Blanks, Flusher, Ledgers, PortShares, SharedBroker, Spare, Tallies, Totals, empty_places,
@@ -30,8 +31,14 @@ const PORTS: u32 = 512;
 const LONGEST_ADDRESS: usize = 1024;
 
 /// Takes a folder for itself, opens the node that is in it, listens at the address, tells both, and serves whatever connects until
-/// the program is killed. All that was told to clients is then in the folder's files.
-pub fn serve<R>(rt: &R, address: &str, folder: &str) -> Result<(), ServeFault>
+/// the program is killed. All that was told to clients is then in the folder's files. A connection is ended whose client says
+/// nothing for as long as `idle`, where there is one, or takes nothing of what is written to it for a minute.
+pub fn serve<R>(
+    rt: &R,
+    address: &str,
+    folder: &str,
+    idle: Option<Duration>,
+) -> Result<(), ServeFault>
 where
     R: AllocGlobal + Print + Log + Files<File = File> + Threads + Wait + Sync,
     R: Net<Stream = TcpStream, Listener = TcpListener>,
@@ -39,7 +46,7 @@ where
 {
     let folder = Folder::open(rt, folder)?;
     let address = String::from_str(rt.alloc(), address)?;
-    serve_counted::<Brand, R>(rt, address, &folder, Blanks::new(PORTS))
+    serve_counted::<Brand, R>(rt, address, &folder, idle, Blanks::new(PORTS))
 }
 
 // The same, once a type stands for the ledgers.
@@ -47,6 +54,7 @@ fn serve_counted<K, R>(
     rt: &R,
     address: String,
     folder: &Folder,
+    idle: Option<Duration>,
     blanks: Blanks,
 ) -> Result<(), ServeFault>
 where
@@ -68,7 +76,9 @@ where
     let spares = spares(rt, alloc, folder, topics)?;
     let shelf = folder.shelf(rt)?;
     let address = address.as_str();
-    serve_devices(rt, alloc, address, shelf, spares, totals, flushers, ports)
+    serve_devices(
+        rt, alloc, address, shelf, spares, totals, flushers, ports, idle,
+    )
 }
 
 // The same over devices: the catalog's, and one for each topic.
@@ -81,6 +91,7 @@ fn serve_devices<S, K, R>(
     totals: Totals<K>,
     flushers: Vec<Flusher<K>>,
     ports: Vec<PortShares<K>>,
+    idle: Option<Duration>,
 ) -> Result<(), ServeFault>
 where
     S: Shelf + Drop + Send,
@@ -99,6 +110,8 @@ where
         pool,
         flushers: Mutex::new(flushers),
         stop: AtomicBool::new(false),
+        idle,
+        is_told: AtomicBool::new(false),
     };
     serve_hall(rt, alloc, address, &hall)
 }

@@ -5,8 +5,9 @@ use crate::pool::Pool;
 use bells::Bells;
 use disk::Shelf;
 use gates::FlusherGate;
-use log::Log;
+use log::{Log, warn};
 use std::alloc::Global;
+use std::fmt::Display;
 use std::net::TcpListener;
 use std::sync::atomic::{AtomicBool, Ordering};
 use std::sync::{Mutex, Wait};
@@ -23,14 +24,17 @@ const TOPICS: u64 = 64;
 /// How long nobody is let in after an arrival failed, as where too many files are open, in milliseconds.
 const PAUSE: u64 = 100;
 
-/// What the threads of a server share: the broker, the places for connections, the flushers that have no topic yet, and
-/// whether flushers are to stop.
+/// What the threads of a server share: the broker, the places for connections, the flushers that have no topic yet, whether
+/// flushers are to stop, and how long a client may say nothing before its connection is ended; for ever, where that is none.
 #[derive(Drop)]
 pub struct Hall<'a, T: TopicStore, S: Shelf + Drop, K: Tallies> {
     pub broker: SharedBroker<'a, T, S, K>,
     pub pool: Mutex<Pool<K>>,
     pub flushers: Mutex<Vec<Flusher<K>>>,
     pub stop: AtomicBool,
+    pub idle: Option<Duration>,
+    /// Whether the log tells that a client isn't served, and none was given a place since.
+    pub is_told: AtomicBool,
 }
 
 /// Serves so many connections that arrive at the listener, with a flusher for each topic, and returns once all of them have ended.
@@ -110,17 +114,33 @@ where
     T: TopicStore + Send,
     S: Shelf + Drop + Send,
     K: Tallies + Send + Sync,
-    R: Threads + Wait + Sync,
+    R: Threads + Wait + Log + Sync,
 {
     let rest = Parker::new();
     thread::scope(thread::scope_env(), rt, |scope| {
         for session in 0..connections {
-            let Ok((stream, _)) = listener.accept() else {
-                rest.park_timeout(rt, Duration::from_millis(PAUSE));
-                continue;
+            let stream = match listener.accept() {
+                Ok((stream, _)) => stream,
+                Err(why) => {
+                    tell_once(rt, &hall.is_told, &why);
+                    rest.park_timeout(rt, Duration::from_millis(PAUSE));
+                    continue;
+                }
             };
             // Where no thread can be made the socket is closed.
-            let _ = scope.spawn(move || serve_socket(rt, alloc, hall, session, &stream));
+            if scope
+                .spawn(move || serve_socket(rt, alloc, hall, session, &stream))
+                .is_err()
+            {
+                tell_once(rt, &hall.is_told, &"no thread can be made");
+            }
         }
     });
+}
+
+/// Says why a client isn't served, where the log doesn't tell so already.
+pub(crate) fn tell_once<R: Log, E: Display>(rt: &R, is_told: &AtomicBool, why: &E) {
+    if !is_told.swap(true, Ordering::SeqCst) {
+        warn!(rt; "a client can't be served: {why}");
+    }
 }

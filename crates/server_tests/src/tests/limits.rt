@@ -18,7 +18,9 @@ use std::test::Fail;
 use std::thread::Threads;
 use std::{io, thread};
 use topic_core::FileStores;
-use topic_lock::{Blanks, Ledgers, SharedBroker, Spare, Tallies, TopicParts, empty_places};
+use topic_lock::{
+    Blanks, Ledgers, Place, SharedBroker, Spare, Tallies, TopicParts, Totals, empty_places,
+};
 
 // So many connections the client makes in all.
 const CONNECTIONS: u64 = 100;
@@ -147,6 +149,88 @@ fn visit<R: Net<Stream = TcpStream>>(net: &R, address: SocketAddr) -> io::Result
     })
 }
 
+// A new broker without topics.
+fn new_broker<'a, K: Tallies, R: Wait>(
+    rt: &R,
+    alloc: Global,
+    places: &'a [Place<FileStores, MemShelf, K>],
+    totals: Totals<K>,
+    parts: Vec<TopicParts<K>>,
+) -> Result<SharedBroker<'a, FileStores, MemShelf, K>, Refusal>
+    requires { (length places.now ≡ 64) × (length parts.items ≡ 64) }
+{
+    let url = ReplyText::new(String::from_str(alloc, "pulsar://test")?);
+    let shelf = catalog_shelf(alloc)?;
+    let spares = spares(alloc, parts)?;
+    SharedBroker::open(rt, alloc, url, shelf, places, spares, totals)
+}
+
+// A client in another thread than the server, where the system has a socket for it.
+fn serve_a_visit<'a, K, R>(
+    rt: &R,
+    alloc: Global,
+    hall: &Hall<'a, FileStores, MemShelf, K>,
+) -> Option<Seen>
+where
+    K: Tallies + Send + Sync,
+    R: Threads + Wait + Log + Sync + Net<Stream = TcpStream, Listener = TcpListener>,
+{
+    let listener = TcpListener::bind(rt, "127.0.0.1:0").ok()?;
+    let address = listener.local_addr().ok()?;
+    let listener = &listener;
+    let (served, seen) = thread::join(
+        rt,
+        move || serve_connections(rt, alloc, listener, hall, CONNECTIONS).is_ok(),
+        move || visit(rt, address).ok(),
+    );
+    if served { seen } else { None }
+}
+
+// A server of one place, over the places of its topics.
+fn run_at<K, R>(
+    rt: &R,
+    alloc: Global,
+    places: &[Place<FileStores, MemShelf, K>],
+    ledgers: Ledgers<K>,
+) -> Result<Option<Seen>, Refusal>
+where
+    K: Tallies + Send + Sync,
+    R: Threads + Wait + Log + Sync + Net<Stream = TcpStream, Listener = TcpListener>,
+    requires { (length places.now ≡ 64) × (length ledgers.topics.items ≡ 64) }
+{
+    let Ledgers {
+        totals,
+        topics,
+        flushers,
+        ports,
+    } = ledgers;
+    let pool = match Pool::new(alloc, ports) {
+        Ok(pool) => pool,
+        Err(_) => {
+            drop((totals, topics, flushers));
+            return Err(Refusal::NoMemory);
+        }
+    };
+    let broker = match new_broker(rt, alloc, places, totals, topics) {
+        Ok(broker) => broker,
+        Err(refusal) => {
+            drop((pool, flushers));
+            return Err(refusal);
+        }
+    };
+    let hall = Hall {
+        broker,
+        pool: Mutex::new(pool),
+        flushers: Mutex::new(flushers),
+        stop: AtomicBool::new(false),
+        idle: None,
+        is_told: AtomicBool::new(false),
+    };
+    let seen = serve_a_visit(rt, alloc, &hall);
+    drop(hall);
+    Ok(seen)
+}
+
 // A server of one place, and a client of it in another thread.
 fn run<K, R>(rt: &R, alloc: Global, blanks: Blanks) -> Result<Option<Seen>, Refusal>
 where
@@ -156,36 +240,17 @@ where
     requires handed { IsOf blanks.handed_topics K.handed.one 64 × IsOf blanks.handed_ports K.handed.other 2 }
     requires durable { IsOf blanks.durable_stores K.durable.one 64 × IsOf blanks.durable_topics K.durable.other 192 }
 {
-    let Ledgers {
-        totals,
-        topics,
-        flushers,
-        ports,
-    } = Ledgers::<K>::open(alloc, blanks, 2)?;
-    let url = ReplyText::new(String::from_str(alloc, "pulsar://test")?);
-    let (shelf, spares) = (catalog_shelf(alloc)?, spares(alloc, topics)?);
-    let pool = Mutex::new(Pool::new(alloc, ports)?);
-    let places = empty_places::<FileStores, MemShelf, K>(alloc)?;
-    let places = places.as_slice();
-    let hall = Hall {
-        broker: SharedBroker::open(rt, alloc, url, shelf, places, spares, totals)?,
-        pool,
-        flushers: Mutex::new(flushers),
-        stop: AtomicBool::new(false),
+    let ledgers = Ledgers::<K>::open(alloc, blanks, 2)?;
+    let places = match empty_places(alloc) {
+        Ok(places) => places,
+        Err(_) => {
+            drop(ledgers);
+            return Err(Refusal::NoMemory);
+        }
     };
-    let Ok(listener) = TcpListener::bind(rt, "127.0.0.1:0") else {
-        return Ok(None);
-    };
-    let Ok(address) = listener.local_addr() else {
-        return Ok(None);
-    };
-    let (hall, listener) = (&hall, &listener);
-    let (served, seen) = thread::join(
-        rt,
-        move || serve_connections(rt, alloc, listener, hall, CONNECTIONS).is_ok(),
-        move || visit(rt, address).ok(),
-    );
-    Ok(if served { seen } else { None })
+    let seen = run_at(rt, alloc, places.as_slice(), ledgers);
+    drop(places);
+    seen
 }
 
 // One session is told all that it must be, one beside it nothing, and its place comes back.
