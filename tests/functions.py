@@ -154,3 +154,23 @@ def functions_changed(folder, crate, changes):
                 return None
             found.update({it.name: it for it in inside})
     return list(found.values()) or None
+
+
+def callees_of(folder, crate):
+    """Of each function of a crate by its name, which functions of the crate it calls, as far as the names in its text show; and which ones it leads to."""
+    found = {it.name: it for path in sources_of(folder) for _, _, it in functions_of(crate, path, "\n".join(lines_of(folder, path)))}
+    named = {}
+    for it in found.values():
+        named.setdefault(it.own, set()).add(it.name)
+    direct = {name: set().union(*(named.get(call, ()) for call in it.calls)) for name, it in found.items()}
+    return direct, {name: led_to(name, direct) for name in direct}
+
+
+def led_to(name, direct):
+    """What a function calls, and what that calls, and so on."""
+    found, left = set(), [name]
+    while left:
+        more = direct[left.pop()] - found
+        found |= more
+        left += more
+    return found

@@ -1,4 +1,4 @@
-"""What the checks of a gate cost, crate by crate: the processor time of each `rattle` that runs while the meter does."""
+"""What the checks of a gate, or of wrong bodies, cost, crate by crate: the processor time of each `rattle` that runs while the meter does."""
 import os
 import threading
 from collections import Counter
@@ -19,28 +19,32 @@ def ticks_of(pid):
     return int(fields[11]) + int(fields[12]), fields[19]
 
 
-def kind_of(words):
-    """What a check is for: a crate's proof, that of its tests, or a wrong body."""
+def crate_named(words):
+    return words[words.index("--crate-name") + 1]
+
+
+def kind_of_gate(words):
+    """What a check of the gate is for: a crate's proof, that of its tests, or a wrong body."""
     if any("rt-edits-" in word for word in words):
         return "must-fail"
     return "tests" if "--test" in words else "proof"
 
 
 class Meter(threading.Thread):
-    """Counts while it runs; `stop` ends it, and gives the seconds by crate and kind."""
+    """Counts while it runs the checks of which `kind_of` says by their words what they are for; `stop` ends it, and gives the seconds by crate and kind."""
 
-    def __init__(self):
+    def __init__(self, kind_of=kind_of_gate):
         super().__init__(daemon=True)
-        self.seen, self.ended = {}, threading.Event()
+        self.seen, self.ended, self.kind_of = {}, threading.Event(), kind_of
 
     def look(self):
         for pid in filter(str.isdigit, os.listdir("/proc")):
             try:
                 words = words_of(pid)
-                if "--crate-name" in words:
+                kind = self.kind_of(words) if "--crate-name" in words else None
+                if kind:
                     ticks, started = ticks_of(pid)
-                    crate = words[words.index("--crate-name") + 1]
-                    self.seen[pid, started] = crate, kind_of(words), ticks
+                    self.seen[pid, started] = crate_named(words), kind, ticks
             except (OSError, IndexError, ValueError):
                 pass  # it has ended
 
