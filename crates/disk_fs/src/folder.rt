@@ -16,7 +16,7 @@ use std::os::unix::fs::FileExt;
 use std::rt::Files;
 
 /// A folder. A file stays open once it was used; where eight are open, the one that was used least lately is closed.
-/// Each call fails once a sync has failed.
+/// Once a sync has failed each call fails, but for one that begins anew: a sync, or a cut to nothing.
 #[derive(Drop)]
 pub(crate) struct Folder<R: Files> {
     names: Names<R>,
@@ -45,10 +45,23 @@ where
         }
     }
 
+    // Where a sync has failed, closes all files, and the folder: each is then opened anew, and its first sync drops what the system
+    // holds of it.
+    fn begin_anew(&mut self)
+        ensures { self.new.syncs.have_failed ≡ false }
+    {
+        if self.syncs.have_failed {
+            self.opened.close_all();
+            self.names.forget();
+            self.syncs.begin_anew();
+        }
+    }
+
     // Closes a file, where too many are open. What was written to it is synced before: an error that its descriptor would
     // have told is told to no later one.
     fn make_place(&mut self) -> io::Result<()>
-        ensures { OnOk result (vec_len self.new.opened.files < 8) }
+        ensures room { OnOk result (vec_len self.new.opened.files < 8) }
+        ensures fine { OnOk result (self.new.syncs ≡ self.old.syncs) }
     {
         let Some(last) = self.opened.make_place() else {
             return Ok(());
@@ -61,7 +74,8 @@ where
 
     // Opens the file, which then stands first. False where it isn't there and isn't to be made.
     fn open(&mut self, id: FileId, makes: bool) -> io::Result<bool>
-        ensures { IfOk result (λ there. IsTrue there → 0 < vec_len self.new.opened.files) }
+        ensures first { IfOk result (λ there. IsTrue there → 0 < vec_len self.new.opened.files) }
+        ensures fine { OnOk result (self.new.syncs ≡ self.old.syncs) }
     {
         self.opened.reserve()?;
         self.make_place()?;
@@ -75,6 +89,7 @@ where
     // Has the file stand first among those that are open. False where it isn't there and isn't to be made.
     fn use_file(&mut self, id: FileId, makes: bool) -> io::Result<bool>
         ensures first { IfOk result (λ there. IsTrue there → 0 < vec_len self.new.opened.files) }
+        ensures believed { OnOk result (self.new.syncs.have_failed ≡ false) }
         ensures given_up { GivesUp result self.old.syncs.have_failed self.new.syncs.have_failed }
     {
         self.syncs.check()?;
@@ -107,10 +122,13 @@ where
         it.file.write_all_at(bytes, offset)
     }
 
-    /// Cuts the file to a length in bytes, where it is longer.
+    /// Cuts the file to a length in bytes, where it is longer. A cut to nothing begins anew: nothing that was in the file counts.
     pub(crate) fn cut(&mut self, id: FileId, len: u64) -> io::Result<()>
-        ensures given_up { GivesUp result self.old.syncs.have_failed self.new.syncs.have_failed }
+        ensures given_up { 0 < len → GivesUp result self.old.syncs.have_failed self.new.syncs.have_failed }
     {
+        if len == 0 {
+            self.begin_anew();
+        }
         if !self.use_file(id, false)? {
             return Ok(());
         }
@@ -123,10 +141,11 @@ where
     }
 
     /// Syncs the file, also where nothing was written to it here, since an earlier process may have written. What is read then is
-    /// what the disk has.
+    /// what the disk has, also where a sync had failed: it begins anew.
     pub(crate) fn sync(&mut self, id: FileId) -> io::Result<()>
-        ensures given_up { GivesUp result self.old.syncs.have_failed self.new.syncs.have_failed }
+        ensures { OnOk result (self.new.syncs.have_failed ≡ false) }
     {
+        self.begin_anew();
         if !self.use_file(id, false)? {
             return Ok(());
         }

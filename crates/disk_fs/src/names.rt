@@ -1,4 +1,6 @@
 // The names of a folder's files.
+ghost use Rattle.std.specs.Prelude.{◌≡◌, None, false, OnOk};
+
 use crate::syncs::Syncs;
 use disk::FileId;
 use std::alloc::Global;
@@ -31,6 +33,14 @@ pub(crate) struct Names<R: Files> {
 }
 
 impl<R: Files + Drop> Names<R> {
+    /// Closes the folder: its next sync here is over a new descriptor.
+    pub(crate) fn forget(&mut self)
+        ensures { (self.new.folder ≡ None) × (self.new.are_synced ≡ false) }
+    {
+        self.folder = None;
+        self.are_synced = false;
+    }
+
     // An empty path names no folder, though a name behind it would be one of the root.
     fn path_of(&self, id: FileId) -> io::Result<String> {
         if self.path.is_empty() {
@@ -45,7 +55,9 @@ impl<R: Files + Drop> Names<R> {
         id: FileId,
         makes: bool,
         syncs: &mut Syncs,
-    ) -> io::Result<Option<R::File>> {
+    ) -> io::Result<Option<R::File>>
+        ensures { OnOk result (syncs.new ≡ syncs.old) }
+    {
         let path = self.path_of(id)?;
         let Some(file) = self.find(path.as_str(), makes)? else {
             return Ok(None);
@@ -83,7 +95,9 @@ impl<R: Files + Drop> Names<R> {
 
     // Has the folder keep its names: also that of a file which an earlier process made, since it may have ended before it
     // synced the folder.
-    fn sync(&mut self, syncs: &mut Syncs) -> io::Result<()> {
+    fn sync(&mut self, syncs: &mut Syncs) -> io::Result<()>
+        ensures { OnOk result (syncs.new ≡ syncs.old) }
+    {
         if self.are_synced {
             return Ok(());
         }

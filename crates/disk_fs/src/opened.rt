@@ -48,6 +48,13 @@ impl<F: Drop> OpenedFiles<F> {
         true
     }
 
+    /// Closes them all.
+    pub(crate) fn close_all(&mut self)
+        ensures { vec_len self.new.files ≡ 0 }
+    {
+        self.files.clear();
+    }
+
     /// Gives up the file that was used least lately, where eight are open.
     pub(crate) fn make_place(&mut self) -> Option<OpenedFile<F>>
         ensures { vec_len self.new.files < 8 }

@@ -1,5 +1,5 @@
 // The shelf.
-ghost use Rattle.std.specs.Prelude.{◌≡◌, ◌+◌, ◌≤◌, ◌^◌, true, false, length, IfOk, OnOk};
+ghost use Rattle.std.specs.Prelude.{◌≡◌, ◌+◌, ◌<◌, ◌≤◌, ◌^◌, true, false, length, IfOk, OnOk};
 ghost use Rattle.disk_fs.specs.Device.{Counted, GivesUp};
 
 use crate::folder::Folder;
@@ -18,7 +18,9 @@ const MAX_LENGTH: u64 = 1 << 62;
 ///
 /// A failure of the system is a `DeviceError`, and so are a write past 2^62 bytes and want of memory. Where a sync has failed
 /// (a caller's, that of a folder that got a new file, or that before a file is closed) each later call fails, reads too:
-/// what the system then holds of the files need not be what the disk has. A new value begins anew.
+/// what the system then holds of the files need not be what the disk has. A sync begins anew, as an opening does, and so does a
+/// cut to nothing, as the making of a file does: all files are closed and opened again, and the first sync of each drops what
+/// the system holds of it.
 ///
 /// At most eight files stay open, and the folder itself.
 #[derive(Drop)]
@@ -114,7 +116,7 @@ where
 
     fn cut(&mut self, file: FileId, len: u64) -> Result<(), DeviceError>
         ensures counted { Counted result (length self.old.failures.items) (length self.new.failures.items) }
-        ensures given_up { GivesUp result self.old.folder.syncs.have_failed self.new.folder.syncs.have_failed }
+        ensures given_up { 0 < len → GivesUp result self.old.folder.syncs.have_failed self.new.folder.syncs.have_failed }
     {
         match self.folder.cut(file, len) {
             Ok(()) => Ok(()),
@@ -124,7 +126,7 @@ where
 
     fn sync(&mut self, file: FileId) -> Result<(), DeviceError>
         ensures counted { Counted result (length self.old.failures.items) (length self.new.failures.items) }
-        ensures given_up { GivesUp result self.old.folder.syncs.have_failed self.new.folder.syncs.have_failed }
+        ensures believed { OnOk result (self.new.folder.syncs.have_failed ≡ false) }
     {
         match self.folder.sync(file) {
             Ok(()) => Ok(()),

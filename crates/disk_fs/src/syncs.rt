@@ -7,7 +7,8 @@ use std::io::ErrorKind;
 use std::os::fd::AsRawFd;
 
 /// Whether all syncs so far went well. A system that couldn't write a file's bytes says so to one sync, counts them as
-/// written, and may answer the next sync as if nothing had happened. So after a sync that failed no other one is believed.
+/// written, and may answer the next sync as if nothing had happened. So after a sync that failed no other one is believed, until
+/// what the system holds of the files is let go.
 #[derive(Drop)]
 pub(crate) struct Syncs {
     pub(crate) have_failed: bool,
@@ -22,6 +23,13 @@ impl Syncs {
             return Err(io::Error::from(ErrorKind::Other));
         }
         Ok(())
+    }
+
+    /// Believes syncs again.
+    pub(crate) fn begin_anew(&mut self)
+        ensures { self.new.have_failed ≡ false }
+    {
+        self.have_failed = false;
     }
 
     /// Has the system write what it holds of the file: its bytes and its length, but not its times.

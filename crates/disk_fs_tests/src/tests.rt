@@ -2,19 +2,20 @@
 mod failures;
 mod files;
 mod open_files;
+mod plan;
 mod steps;
 mod sweeps;
-mod watched;
 
 use disk::{DeviceError, FileId, Shelf};
 use disk_fs::FsShelf;
+use plan::Plan;
 use std::alloc::Global;
 use std::marker::Send;
 use std::rt::Files;
 use std::test::Fail;
 use std::{fs, io};
 use steps::{Step, first_wrong};
-use watched::{Plan, Watched};
+use watched_files::Watched;
 
 // The file of a number, of which 0 is the catalog's.
 fn file_of(number: u64) -> FileId {
@@ -88,7 +89,8 @@ fn wrong_by_plan(
     let Ok(path) = String::from_str(rt.alloc(), folder) else {
         return Err(DeviceError);
     };
-    let mut shelf = FsShelf::new(Watched { rt, plan }, rt.alloc(), path);
+    let watched = Watched { rt, watch: plan };
+    let mut shelf = FsShelf::new(watched, rt.alloc(), path);
     first_wrong(rt, plan, &mut shelf, steps)
 }
 

@@ -1,9 +1,9 @@
 // Calls of the system that fail, are interrupted, or move few bytes.
 use super::steps::{Ask, Step};
-use super::watched::Call;
 use super::{FILE, OTHER, follow_by_plan};
 use std::io::ErrorKind;
 use std::test::Fail;
+use watched_files::Call;
 
 const FAILED_SYNC: [Step; 4] = [
     Step::Works(&[FILE], Ask::Write(0, b"abc")),
@@ -11,6 +11,40 @@ const FAILED_SYNC: [Step; 4] = [
     Step::Fails(&[FILE], Ask::Sync),
     Step::HasGivenUp,
 ];
+
+// A name and its folder are opened by three calls where the file is made, and by two behind it.
+const SYNCED_BY_THE_SAME: [Step; 8] = [
+    Step::Works(&[FILE], Ask::Write(0, b"abc")),
+    Step::Order(Call::SyncFile, 1, ErrorKind::Other),
+    Step::Fails(&[FILE], Ask::Sync),
+    Step::HasGivenUp,
+    Step::Made(Call::Open, 3),
+    Step::Works(&[FILE], Ask::Sync),
+    Step::Made(Call::Open, 5),
+    Step::Works(&[FILE], Ask::Read(0, 3, *b"abc------")),
+];
+
+#[test]
+fn a_sync_begins_anew(rt: HostRuntime) -> Result<(), Fail> {
+    follow_by_plan(&rt, "disk_fs_anew", &[&SYNCED_BY_THE_SAME])
+}
+
+const MADE_BY_THE_SAME: [Step; 9] = [
+    Step::Works(&[FILE], Ask::Write(0, b"abcd")),
+    Step::Order(Call::SyncFile, 2, ErrorKind::Other),
+    Step::Works(&[FILE], Ask::Sync),
+    Step::Fails(&[FILE], Ask::Sync),
+    Step::HasGivenUp,
+    Step::Works(&[FILE], Ask::Cut(0)),
+    Step::Works(&[FILE], Ask::Write(0, b"abc")),
+    Step::Works(&[FILE], Ask::Sync),
+    Step::Works(&[FILE], Ask::Length(3)),
+];
+
+#[test]
+fn a_cut_to_nothing_begins_anew(rt: HostRuntime) -> Result<(), Fail> {
+    follow_by_plan(&rt, "disk_fs_cut_anew", &[&MADE_BY_THE_SAME])
+}
 
 const SYNCED_ANEW: [Step; 3] = [
     Step::Works(&[FILE], Ask::Sync),

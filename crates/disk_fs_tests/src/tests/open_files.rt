@@ -1,9 +1,9 @@
 // Which files stay open, and what is synced when.
 use super::steps::{Ask, Step};
-use super::watched::Call;
 use super::{FILE, OTHER, follow_by_plan};
 use std::io::ErrorKind;
 use std::test::Fail;
+use watched_files::Call;
 
 // Each file is looked for and made, and the folder is opened once: nineteen. Then the first one was closed, and behind it the
 // one that was used least lately.

@@ -1,10 +1,11 @@
 // Steps that a test takes one behind another, and whether they go as they must.
-use super::watched::{Call, Plan};
+use super::plan::Plan;
 use super::{FILE, OTHER, file_of};
 use disk::{DeviceError, Shelf, persist};
 use std::fs;
 use std::io::ErrorKind;
 use std::rt::Files;
+use watched_files::Call;
 
 /// What is asked of a shelf for a file, and what is found.
 #[derive(Clone, Copy)]
@@ -35,7 +36,7 @@ pub(crate) enum Step {
     HasFailed,
     /// The same, where memory isn't wanted.
     IsSpent,
-    /// Each call fails, and asks nothing of the system.
+    /// Each call fails, but for those that begin anew, and asks nothing of the system.
     HasGivenUp,
     /// So many of these calls were made.
     Made(Call, u64),
@@ -81,16 +82,15 @@ fn each_fails(shelf: &mut impl Shelf, numbers: &[u64], ask: Ask) -> bool {
     true
 }
 
-// One call of each kind.
-const CALLS: [Ask; 5] = [
+// One call of each kind that doesn't begin anew.
+const CALLS: [Ask; 4] = [
     Ask::Read(0, 0, [b'-'; 9]),
     Ask::Write(0, b"a"),
-    Ask::Cut(0),
-    Ask::Sync,
+    Ask::Cut(1),
     Ask::Length(0),
 ];
 
-// Whether each call of the shelf fails, on either file, and asks nothing of the system.
+// Whether each of these calls of the shelf fails, on either file, and asks nothing of the system.
 fn has_given_up(shelf: &mut impl Shelf, plan: &Plan) -> bool {
     let before = plan.total();
     for ask in CALLS {

@@ -1,10 +1,11 @@
 // A failure at each call of the system.
 use crate::tests::empty_folder;
-use crate::tests::watched::{Plan, Watched};
+use crate::tests::plan::Plan;
 use disk::{DeviceError, FileId, Shelf};
 use disk_fs::FsShelf;
 use std::io::ErrorKind;
 use std::test::Fail;
+use watched_files::Watched;
 
 const FOLDER: &str = "disk_fs_each";
 
@@ -32,7 +33,8 @@ fn answer_at(rt: &HostRuntime, k: u64) -> Result<(bool, Result<usize, DeviceErro
     };
     let plan = Plan::new();
     plan.fail(None, k, ErrorKind::Other);
-    let mut shelf = FsShelf::new(Watched { rt, plan: &plan }, rt.alloc(), path);
+    let watched = Watched { rt, watch: &plan };
+    let mut shelf = FsShelf::new(watched, rt.alloc(), path);
     let answer = work(&mut shelf);
     Ok((plan.is_armed(), answer))
 }
