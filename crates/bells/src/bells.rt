@@ -1,6 +1,8 @@
 // What the threads of connections and the flushers sleep on.
 use crate::marks::Marks;
+use crate::members::Members;
 use std::alloc::{AllocError, Global};
+use std::sync::atomic::{AtomicBool, AtomicU64, Ordering};
 use std::sync::{Mutex, Wait};
 use std::thread::Parker;
 use std::time::Duration;
@@ -19,6 +21,10 @@ const PAUSE: u64 = 20;
 struct Pair {
     reader: Parker,
     writer: Parker,
+    /// How long the writer sleeps at most when it next waits, in milliseconds; until it is rung, where that is 0.
+    patience: AtomicU64,
+    /// Whether the connection is to end.
+    is_to_end: AtomicBool,
 }
 
 /// What threads sleep on: those of connections by the places of these, flushers by the numbers of their topics, and the ringer, who
@@ -60,10 +66,57 @@ impl Bells {
         }
     }
 
-    /// Sleeps until it is rung, also where it was rung before.
+    /// Sleeps until it is rung, also where it was rung before, or for as long as it was last told.
     pub fn wait_writer<R: Wait>(&self, rt: &R, place: u8) {
-        if let Some(pair) = self.pairs.get(usize::from(place)) {
+        let Some(pair) = self.pairs.get(usize::from(place)) else {
+            return;
+        };
+        let patience = pair.patience.swap(0, Ordering::SeqCst);
+        if patience == 0 {
             pair.writer.park(rt);
+        } else {
+            pair.writer
+                .park_timeout(rt, Duration::from_millis(patience));
+        }
+    }
+
+    /// The writer sleeps for so many milliseconds at most when it next waits.
+    pub fn hurry_writer(&self, place: u8, patience: u64) {
+        if let Some(pair) = self.pairs.get(usize::from(place)) {
+            pair.patience.store(patience, Ordering::SeqCst);
+        }
+    }
+
+    /// A connection begins at this place: nobody has told it to end.
+    pub fn begin(&self, place: u8) {
+        if let Some(pair) = self.pairs.get(usize::from(place)) {
+            pair.patience.store(0, Ordering::SeqCst);
+            pair.is_to_end.store(false, Ordering::SeqCst);
+        }
+    }
+
+    /// The connections at these places are to end: their writers are woken.
+    pub fn end_all(&self, members: &Members) {
+        for place in 0..=u8::MAX {
+            if members.has(place) {
+                self.end(place);
+            }
+        }
+    }
+
+    /// The connection at this place is to end.
+    fn end(&self, place: u8) {
+        if let Some(pair) = self.pairs.get(usize::from(place)) {
+            pair.is_to_end.store(true, Ordering::SeqCst);
+            pair.writer.unpark();
+        }
+    }
+
+    /// Whether the connection at this place is to end.
+    pub fn is_to_end(&self, place: u8) -> bool {
+        match self.pairs.get(usize::from(place)) {
+            Some(pair) => pair.is_to_end.load(Ordering::SeqCst),
+            None => true,
         }
     }
 
@@ -157,6 +210,8 @@ fn pairs(alloc: Global) -> Result<Vec<Pair>, AllocError> {
         pairs.push(Pair {
             reader: Parker::new(),
             writer: Parker::new(),
+            patience: AtomicU64::new(0),
+            is_to_end: AtomicBool::new(false),
         })?;
     }
     Ok(pairs)

@@ -1,15 +1,18 @@
 use bells::Bells;
+use std::sync::atomic::{AtomicBool, Ordering};
 use std::sync::{Mutex, Wait};
 use workers::{Numbered, Point, Turnstile};
 
 /// A writer's turnstile. It wakes a reader that waits for room, and waits until it is rung; where the last turn stopped at a
-/// bound of its own, the next one comes at once.
+/// bound of its own, the next one comes at once. Once the connection is to end it lets one turn more pass, which writes what is due.
 #[derive(Drop)]
 pub struct WriterGate<'a, R: Wait> {
     rt: &'a R,
     bells: &'a Bells,
     session: &'a Mutex<Numbered>,
     place: u8,
+    /// Whether the last turn was let pass. One thread alone asks.
+    is_last: AtomicBool,
 }
 
 fn has_more<R: Wait>(rt: &R, session: &Mutex<Numbered>) -> bool {
@@ -29,6 +32,7 @@ impl<'a, R: Wait> WriterGate<'a, R> {
             bells,
             session,
             place,
+            is_last: AtomicBool::new(false),
         }
     }
 }
@@ -36,9 +40,14 @@ impl<'a, R: Wait> WriterGate<'a, R> {
 impl<'a, R: Wait> Turnstile for WriterGate<'a, R> {
     fn pass(&self, _point: Point) -> bool {
         self.bells.ring_reader(self.place);
+        if self.is_last.load(Ordering::SeqCst) {
+            return false;
+        }
         if !has_more(self.rt, self.session) {
             self.bells.wait_writer(self.rt, self.place);
         }
+        self.is_last
+            .store(self.bells.is_to_end(self.place), Ordering::SeqCst);
         true
     }
 }

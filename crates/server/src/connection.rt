@@ -13,7 +13,7 @@ use std::thread::Threads;
 use std::time::Duration;
 use topic_core::TopicStore;
 use topic_lock::{RestingPort, Seat, Tallies};
-use workers::{Numbered, serve_connection};
+use workers::{Ended, Numbered, serve_connection};
 
 /// How long a client may take nothing of what is written to it before its connection is ended, in seconds. Our own rule.
 const PATIENCE: u64 = 60;
@@ -39,14 +39,15 @@ where
     };
     hall.is_told.store(false, Ordering::SeqCst);
     let peer = stream.peer_addr().ok();
-    let (free, fault) = talk(rt, alloc, hall, number, stream, free);
-    hall.pool.lock(rt).give(free);
+    let (free, ended, fault) = talk(rt, alloc, hall, number, stream, free);
+    hall.pool.lock(rt).give(free, ended);
     if let (Some(peer), Some(fault)) = (peer, fault) {
         warn!(rt; "the client at {peer} is cut off: {fault}");
     }
 }
 
-// Serves a socket at a place, and hands the place back with what its ports were told, and the fault that ended the session, if one did.
+// Serves a socket at a place, and hands the place back with what its ports were told, that the session has ended, and the fault that
+// ended it, if one did.
 fn talk<'a, T, S, K, R>(
     rt: &R,
     alloc: Global,
@@ -54,7 +55,7 @@ fn talk<'a, T, S, K, R>(
     number: u64,
     stream: &TcpStream,
     free: Free<K>,
-) -> (Free<K>, Option<Fault>)
+) -> (Free<K>, Ended, Option<Fault>)
 where
     T: TopicStore + Send,
     S: Shelf + Drop + Send,
@@ -68,6 +69,7 @@ where
     } = free;
     limit_waits(stream, hall.idle);
     let bells = &hall.broker.bells;
+    bells.begin(place);
     let seat = Seat::new(place);
     let session = Mutex::new(Numbered::new(alloc, Session::new(alloc, number)));
     let reader = RestingPort::new(rt, alloc, &hall.broker, &seat, reader);
@@ -92,7 +94,7 @@ where
         reader: served.reader_port.into_shares(),
         writer: served.writer_port.into_shares(),
     };
-    (free, fault)
+    (free, served.ended, fault)
 }
 
 // Has the system end what waits for a client that says nothing, or takes nothing, for too long.

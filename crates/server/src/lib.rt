@@ -12,5 +12,5 @@ mod threads;
 
 pub use fault::{ServeFault, exit_status};
 pub use pool::{Free, Pool};
-pub use serving::serve;
+pub use serving::{Shelves, serve, serve_shelves};
 pub use threads::{Hall, serve_connections};

@@ -3,6 +3,7 @@ ghost use Rattle.std.specs.Prelude.{◌≡◌, ◌<◌, ◌++◌, [], ◌∷◌,
 
 use std::alloc::{AllocError, Global};
 use topic_lock::{PortShares, Tallies};
+use workers::Ended;
 
 /// A place that no connection has, with the shares of its two ports.
 #[derive(Drop)]
@@ -45,8 +46,9 @@ impl<K: Tallies> Pool<K> {
         self.free.pop()
     }
 
-    /// A place is free again, where there is room for it: as one that was taken from here finds.
-    pub fn give(&mut self, free: Free<K>)
+    /// A place is free again, since the session that sat there has ended, where there is room for it: as one that was taken from here
+    /// finds.
+    pub fn give(&mut self, free: Free<K>, _ended: Ended)
         ensures back { vec_len self.old.free < vec_capacity self.old.free → self.new.free.items ≡ self.old.free.items ++ free ∷ [] }
     {
         if self.free.len() < self.free.capacity() {

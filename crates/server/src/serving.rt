@@ -8,6 +8,7 @@ use crate::pool::Pool;
 use crate::threads::{Hall, serve_connections};
 use commands::ReplyText;
 use disk::Shelf;
+use disk_fs::FsShelf;
 use folder::Folder;
 use log::{Log, info};
 use std::alloc::{AllocError, Global};
@@ -30,6 +31,29 @@ const PORTS: u32 = 512;
 /// The longest address, in bytes; a reply that names it has room for more.
 const LONGEST_ADDRESS: usize = 1024;
 
+/// Where the devices of a broker come from, its catalog's and one for each topic: all are over the same files.
+pub trait Shelves {
+    type Device: Shelf + Drop + Send;
+
+    /// A device that never failed.
+    fn shelf(&self) -> Result<Self::Device, AllocError>;
+}
+
+/// A folder's devices.
+#[derive(Drop)]
+struct FolderShelves<'r, R> {
+    rt: &'r R,
+    folder: &'r Folder,
+}
+
+impl<'r, R: AllocGlobal + Files<File = File> + Sync> Shelves for FolderShelves<'r, R> {
+    type Device = FsShelf<&'r R>;
+
+    fn shelf(&self) -> Result<FsShelf<&'r R>, AllocError> {
+        self.folder.shelf(self.rt)
+    }
+}
+
 /// Takes a folder for itself, opens the node that is in it, listens at the address, tells both, and serves whatever connects until
 /// the program is killed. All that was told to clients is then in the folder's files. A connection is ended whose client says
 /// nothing for as long as `idle`, where there is one, or takes nothing of what is written to it for a minute.
@@ -45,23 +69,42 @@ where
     R::Dir: Send + Sync,
 {
     let folder = Folder::open(rt, folder)?;
+    let shelves = FolderShelves {
+        rt,
+        folder: &folder,
+    };
+    serve_shelves(rt, address, &shelves, idle)
+}
+
+/// The same over the devices of a folder that whoever calls has taken for himself.
+pub fn serve_shelves<F, R>(
+    rt: &R,
+    address: &str,
+    shelves: &F,
+    idle: Option<Duration>,
+) -> Result<(), ServeFault>
+where
+    F: Shelves,
+    R: AllocGlobal + Print + Log + Threads + Wait + Sync,
+    R: Net<Stream = TcpStream, Listener = TcpListener>,
+{
     let address = String::from_str(rt.alloc(), address)?;
-    serve_counted::<Brand, R>(rt, address, &folder, idle, Blanks::new(PORTS))
+    serve_counted::<Brand, F, R>(rt, address, shelves, idle, Blanks::new(PORTS))
 }
 
 // The same, once a type stands for the ledgers.
-fn serve_counted<K, R>(
+fn serve_counted<K, F, R>(
     rt: &R,
     address: String,
-    folder: &Folder,
+    shelves: &F,
     idle: Option<Duration>,
     blanks: Blanks,
 ) -> Result<(), ServeFault>
 where
     K: Tallies + Send + Sync,
-    R: AllocGlobal + Print + Log + Files<File = File> + Threads + Wait + Sync,
+    F: Shelves,
+    R: AllocGlobal + Print + Log + Threads + Wait + Sync,
     R: Net<Stream = TcpStream, Listener = TcpListener>,
-    R::Dir: Send + Sync,
     requires accepted { IsOf blanks.accepted_topics K.accepted.one 64 × IsOf blanks.accepted_ports K.accepted.other 512 }
     requires handed { IsOf blanks.handed_topics K.handed.one 64 × IsOf blanks.handed_ports K.handed.other 512 }
     requires durable { IsOf blanks.durable_stores K.durable.one 64 × IsOf blanks.durable_topics K.durable.other 192 }
@@ -73,8 +116,8 @@ where
         flushers,
         ports,
     } = Ledgers::<K>::open(alloc, blanks, PORTS)?;
-    let spares = spares(rt, alloc, folder, topics)?;
-    let shelf = folder.shelf(rt)?;
+    let spares = spares(alloc, shelves, topics)?;
+    let shelf = shelves.shelf()?;
     let address = address.as_str();
     serve_devices(
         rt, alloc, address, shelf, spares, totals, flushers, ports, idle,

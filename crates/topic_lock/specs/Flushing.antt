@@ -1,5 +1,5 @@
 -- A flush in three parts, each under one lock.
-use Rattle.std.specs.Prelude.{◌≡◌, ℕ, Result, Ok, Err}
+use Rattle.std.specs.Prelude.{◌≡◌, ℕ, Option, Some, None, Result, Ok, Err}
 use Rattle.topic_stores.specs.declared.batch.Batch.{Batch}
 use Rattle.topic_stores.specs.declared.error.WriteError.{WriteError}
 use Rattle.topic_stores.specs.declared.error.WriteError.TheVariants as write
@@ -7,8 +7,27 @@ use Rattle.topic_stores.specs.Views.{StoreView}
 use Rattle.topic_stores.specs.Writing.{Fits, Remembers}
 use Rattle.topic_core.specs.State.{Topic, entries_of}
 use Rattle.topic_core.specs.Flush.{finished, taken_back, failed}
+use Rattle.topic_lock.specs.declared.flushing.Taken.{Taken}
+use Rattle.topic_lock.specs.declared.flushing.Taken.TheVariants as taken
+use Rattle.topic_lock.specs.declared.flushing.Flushed.{Flushed}
 use Rattle.topic_lock.specs.declared.fault.FlushFault.{FlushFault}
 use Rattle.topic_lock.specs.declared.fault.FlushFault.TheVariants.{Device, NoMemory, Apart}
+
+-- why no batch was taken, where a flush says so
+abbrev pub none_of : Result ℕ FlushFault → Result (Option Batch) WriteError
+none_of (Ok count) = Ok None
+none_of (Err NoMemory) = Err write.NoMemory
+none_of (Err Device) = Err write.Device
+none_of (Err Apart) = Err write.Device
+
+-- the batch that was taken, or why none was
+abbrev pub taken_of : Taken → Result (Option Batch) WriteError
+taken_of (taken.Nothing flushed) = none_of flushed.count
+taken_of (taken.Batch that) = Ok (Some that.batch)
+
+abbrev pub IfNothing : Taken → (Flushed → Type 0) → Type 0
+IfNothing (taken.Nothing flushed) says = says flushed
+IfNothing (taken.Batch that) says = Unit {0}
 
 -- what the stores remember after a write: one that doesn't fit them isn't tried
 abbrev pub Writes : StoreView → Batch → Result (Unit {0}) FlushFault → StoreView → Type 0

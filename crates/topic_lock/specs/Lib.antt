@@ -6,3 +6,4 @@ pub mod Flushing
 pub mod Locked
 pub mod Granting
 pub mod Finding
+pub mod Portions

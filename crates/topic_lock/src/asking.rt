@@ -75,10 +75,11 @@ impl<T: TopicStore, S: Shelf + Drop, K: Tallies> SharedTopic<T, S, K> {
         (hold, sent)
     }
 
-    /// The session leaves. What it sent stays; what its consumers held is given back.
-    pub(crate) fn leave<R: Wait>(&self, rt: &R, bells: &Bells, who: u64) {
+    /// The session of the connection at this place leaves. What it sent stays; what its consumers held is given back.
+    pub(crate) fn leave<R: Wait>(&self, rt: &R, bells: &Bells, place: u8, who: u64) {
         let mut topic = self.topic.lock(rt);
         topic.leave(who);
+        topic.waiting.members.leave(place);
         let hungry = topic.waiting.take_hungry();
         drop(topic);
         bells.ring_all(&hungry);

@@ -12,6 +12,7 @@ use crate::tally::Tallies;
 use catalog::Catalog;
 use disk::Shelf;
 use gated_log::Refusal;
+use names::TopicName;
 use session::Found;
 use std::alloc::Global;
 use std::sync::{Mutex, Wait};
@@ -50,12 +51,14 @@ pub(crate) fn share<T: TopicStore, S: Shelf + Drop, K: Tallies, R: Wait>(
     tally: &DurableTally<K>,
     core: LockedCore,
     stores: T,
+    name: TopicName,
     number: u64,
     spare: Spare<S, K>,
 ) -> SharedTopic<T, S, K>
     requires number { number ≡ (T.view stores).topic }
     requires new { (core.accepted ≡ 0) × (core.handed ≡ 0) }
     requires counted { core.committed ≡ (T.view stores).count }
+    ensures { result.name ≡ name }
 {
     let Spare { shelf, parts } = spare;
     let TopicParts {
@@ -78,6 +81,7 @@ pub(crate) fn share<T: TopicStore, S: Shelf + Drop, K: Tallies, R: Wait>(
         behind,
     };
     SharedTopic {
+        name,
         topic: Mutex::new(CountedTopic::new(core, number, shares)),
         stores: Mutex::new(CountedStores::new(stores, shelf, held)),
     }

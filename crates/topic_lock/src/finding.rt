@@ -108,8 +108,7 @@ impl<'a, T: TopicStore, S: Shelf + Drop, K: Tallies> SharedCatalog<'a, T, S, K> 
             spare,
             ..
         } = self;
-        let per_ledger = again.entries_per_ledger();
-        open_next(rt, *alloc, tally, per_ledger, *places, known, spare)?;
+        open_next(rt, *alloc, tally, &again, *places, known, spare)?;
         *catalog = again;
         Ok(())
     }
@@ -133,6 +132,7 @@ impl<'a, T: TopicStore, S: Shelf + Drop, K: Tallies> SharedCatalog<'a, T, S, K> 
         let per_ledger = self.catalog.entries_per_ledger();
         self.known.reserve(1)?;
         let added = name.clone()?;
+        let own = name.clone()?;
         let Some(next) = self.spare.last_mut() else {
             unreachable!();
         };
@@ -146,7 +146,7 @@ impl<'a, T: TopicStore, S: Shelf + Drop, K: Tallies> SharedCatalog<'a, T, S, K> 
         let Some(next) = self.spare.pop() else {
             unreachable!();
         };
-        let topic = share(rt, tally, core, stores, number as u64, next);
+        let topic = share(rt, tally, core, stores, own, number as u64, next);
         let token = place.init(rt, move || topic);
         self.known.push(Known::new(place, token)).unwrap();
         Ok(number as u64)

@@ -8,6 +8,7 @@ use crate::counted::{AcceptedTally, CountedTopic};
 use crate::stores::CountedStores;
 use crate::tally::{AcceptedByPorts, Tallies};
 use bells::{Bells, Marks};
+use commands::Reply;
 use disk::Shelf;
 use permits::Granter;
 use std::sync::ledger::Share;
@@ -46,6 +47,11 @@ impl<'t, T: TopicStore, S: Shelf + Drop, K: Tallies> Hold<'t, T, S, K> {
         }
     }
 
+    /// Whether it has the lock of the stores, too, so that an entry was read.
+    pub(crate) fn has_stores(&self) -> bool {
+        self.stores.is_some()
+    }
+
     /// The topic's step, for the connection at this place, as `CountedTopic::command` says.
     pub(crate) fn command<R: Wait>(
         &mut self,
@@ -71,7 +77,11 @@ impl<'t, T: TopicStore, S: Shelf + Drop, K: Tallies> Hold<'t, T, S, K> {
         if may_give_back(&command) {
             *gives_back = true;
         }
+        let makes_a_member = makes_a_member(&command);
         let answer = topic.command(rt, tally, port, who, command, granter);
+        if makes_a_member && is_granted(&answer) {
+            topic.waiting.members.enter(place);
+        }
         let is_owed = matches!(&answer, Answer::Later | Answer::Nothing);
         if (is_owed && topic.waiting.owe(place)) || topic.is_failed() {
             *rings_flusher = true;
@@ -152,6 +162,23 @@ impl<'t, T: TopicStore, S: Shelf + Drop, K: Tallies> Hold<'t, T, S, K> {
 pub(crate) fn ring_reader(bells: &Bells, reader: Option<u8>) {
     if let Some(place) = reader {
         bells.ring_reader(place);
+    }
+}
+
+/// Whether a command asks for a producer or a consumer.
+fn makes_a_member(command: &TopicCommand) -> bool {
+    matches!(
+        command,
+        TopicCommand::Producer { .. } | TopicCommand::Subscribe(_)
+    )
+}
+
+/// Whether an answer is no refusal.
+fn is_granted(answer: &Answer) -> bool {
+    match answer {
+        Answer::Later => true,
+        Answer::Now(reply) => !matches!(reply, Reply::Error { .. }),
+        Answer::Nothing | Answer::NoMemory => false,
     }
 }
 

@@ -4,11 +4,11 @@ ghost use Rattle.topic_lock.specs.Ledgers.{IsOf};
 
 use crate::counted::{AcceptedTally, HandedTally, TopicShares};
 use crate::durable::{Durable, DurableByStores, DurableByTopics, DurableTally};
+use crate::flushing::Flusher;
 use crate::parts::{PortShares, TopicParts};
 use crate::tally::{
     AcceptedByPorts, AcceptedByTopics, HandedByPorts, HandedByTopics, Tallies, Tally,
 };
-use crate::written::Flusher;
 use std::alloc::{AllocError, Global};
 use std::sync::Mutex;
 use std::sync::ledger::{Blank, Share};

@@ -1,24 +1,29 @@
 // A port over the topics' locks.
-ghost use Rattle.std.specs.Prelude.{◌≡◌, ◌+◌, ◌-◌, ◌<◌, ◌≤◌, ◌^◌, ℕ, true, false, length, min, IfOk, IfSome};
+ghost use Rattle.std.specs.Prelude.{◌≡◌, ◌+◌, ◌-◌, ◌<◌, ◌≤◌, ◌^◌, ℕ, true, false, length, min, position, Some, None, Ok, IfOk, IfErr, IfSome};
+ghost use Rattle.std.specs.Str.{bytes_eq};
 ghost use Rattle.topic_core.specs.Steps.{Fits, has_producer, has_consumer};
-ghost use Rattle.session.specs.Broker.{CommandStep, GrantAt, CollectedAt, FindStep, IfFound, IfFailed};
+ghost use Rattle.session.specs.declared.port.Found.TheVariants.{TooMany, NoMemory as OutOfMemory};
+ghost use Rattle.session.specs.Broker.{CommandStep, GrantAt, CollectedAt, DispatchAt, SendsTo, FindStep, IfFound, IfFailed};
 ghost use Rattle.topic_lock.specs.Counting.{sends_of, receipts_collected, is_later};
 ghost use Rattle.topic_lock.specs.Granting.{GrantsBy};
 ghost use Rattle.topic_lock.specs.Locked.{unknown_broker};
+ghost use Rattle.topic_lock.specs.Portions.{is_full, left_behind};
 ghost use Rattle.std.specs.Sync.Mutex.{mutex_guard_value};
 
 use crate::asking::length_of;
 use crate::broker::{Seat, SharedBroker};
 use crate::holding::Hold;
 use crate::parts::PortShares;
-use crate::places::{Known, SharedTopic};
+use crate::places::{Known, SharedTopic, place_named};
+use crate::portion::Portion;
 use crate::resting::RestingPort;
 use crate::tally::{AcceptedByPorts, HandedByPorts, Tallies};
+use crate::troubles::{Reading, Troubles};
 use crate::turns::Turns;
 use commands::Reply;
 use disk::Shelf;
 use gated_log::Refusal;
-use log::{Log, error};
+use log::{Log, error, info};
 use names::TopicName;
 use permits::{Granter, TooManyPermits};
 use session::{Found, Port};
@@ -44,6 +49,8 @@ pub struct LockedPort<'p, 'a, T: TopicStore, S: Shelf + Drop, K: Tallies, R: Wai
     lent: Option<Granter>,
     held: Cell<Option<Hold<'a, T, S, K>>>,
     is_in_turn: bool,
+    portion: Portion,
+    troubles: Troubles,
     ghost parts: { (accepted.parts ≡ 1) × (handed.parts ≡ 1) },
 }
 
@@ -71,6 +78,8 @@ impl<'p, 'a, T: TopicStore, S: Shelf + Drop, K: Tallies, R: Wait> LockedPort<'p,
             lent: None,
             held: Cell::new(None),
             is_in_turn: false,
+            portion: Portion::new(),
+            troubles: Troubles::new(alloc),
         }
     }
 
@@ -170,9 +179,10 @@ impl<'p, 'a, T: TopicStore, S: Shelf + Drop, K: Tallies, R: Wait> LockedPort<'p,
         )
     }
 
-    /// Keeps a lock until the port is asked for something else, where a turn is on.
+    /// Keeps a lock until the port is asked for something else, where a turn is on. One behind which an entry was read is let go, so
+    /// that others needn't wait for more than one read.
     fn keep(&self, hold: Hold<'a, T, S, K>) {
-        if self.is_in_turn {
+        if self.is_in_turn && !hold.has_stores() {
             self.held.set(Some(hold));
         } else {
             hold.release(&self.broker.bells);
@@ -199,6 +209,33 @@ impl<'p, 'a, T: TopicStore, S: Shelf + Drop, K: Tallies, R: Wait> LockedPort<'p,
         Ok(())
     }
 
+    /// The number of the topic of this name, among those that the port knows.
+    fn number_of(&self, name: &TopicName) -> Option<u64>
+        ensures number { result ≡ position (λ known. bytes_eq known.token.value.name name.now) self.now.known.items }
+        ensures there { IfSome result (λ number. number < length self.now.known.items) }
+    {
+        match place_named(self.known.as_slice(), name) {
+            Some(place) => Some(place as u64),
+            None => None,
+        }
+    }
+
+    /// What a search for a name found, where the topic of that number has that name, as the port knows it.
+    fn confirm(&self, found: Found, name: &TopicName) -> Found
+        requires { IfFound found (λ number. number < length self.now.known.items) }
+        ensures there { IfFound result (λ number. number < length self.now.known.items) }
+        ensures named { IfFound result (λ number. position (λ known. bytes_eq known.token.value.name name.now) self.now.known.items ≡ Some number) }
+        ensures refused { (found ≡ TooMany → result ≡ TooMany) × (found ≡ OutOfMemory → result ≡ OutOfMemory) }
+    {
+        let Found::Topic(_) = found else {
+            return found;
+        };
+        match self.number_of(name) {
+            Some(number) => Found::Topic(number),
+            None => Found::Failed,
+        }
+    }
+
     /// Learns of the topics that are there by now, without the catalog's lock.
     fn look_around(&mut self) -> Result<(), AllocError>
         ensures grows { length self.old.known.items ≤ length self.new.known.items }
@@ -217,17 +254,88 @@ impl<'p, 'a, T: TopicStore, S: Shelf + Drop, K: Tallies, R: Wait> LockedPort<'p,
     }
 }
 
+impl<'p, 'a, T: TopicStore, S: Shelf + Drop, K: Tallies, R: Wait + Log> LockedPort<
+    'p,
+    'a,
+    T,
+    S,
+    K,
+    R,
+> {
+    /// The topic of this name, which the port doesn't know, by the catalog.
+    fn find_or_make(&mut self, name: &TopicName) -> Found
+        ensures there { IfFound result (λ number. number < length self.new.known.items) }
+        ensures named { IfFound result (λ number. position (λ known. bytes_eq known.token.value.name name.now) self.new.known.items ≡ Some number) }
+        ensures grows { length self.old.known.items ≤ length self.new.known.items }
+    {
+        let broker = self.broker;
+        let mut catalog = broker.catalog.lock(self.rt);
+        let (found, news) = catalog.find_or_make(self.rt, &broker.totals.durable, name);
+        let learnt = self.learn(&catalog.known);
+        drop(catalog);
+        log_news(self.rt, name, news);
+        match learnt {
+            Ok(()) => self.confirm(found, name),
+            Err(AllocError) => Found::NoMemory,
+        }
+    }
+
+    /// Hands on what a topic gave a consumer. A message that can't be read is none for now: the log tells that once, and once that it
+    /// can be read again, and the writer tries again behind a pause.
+    fn pass_on(
+        &mut self,
+        reading: Reading,
+        sent: Result<Option<Outgoing>, ReadError>,
+    ) -> Result<Option<Outgoing>, ReadError>
+        requires known { reading.topic < length self.old.known.items }
+        requires sends { SendsTo reading.consumer_id sent }
+        ensures sends { SendsTo reading.consumer_id result }
+        ensures passed { IfOk sent (λ _. result ≡ sent) }
+        ensures counted { IfOk result (λ given. IfSome given (λ message. self.new.portion.left ≡ left_behind self.old.portion.left (length message.entry))) }
+        ensures passes { self.new.known ≡ self.old.known }
+    {
+        let rt = self.rt;
+        let name = &self.topic(reading.topic).name;
+        let id = reading.consumer_id;
+        match sent {
+            Err(ReadError::NoMemory) => Err(ReadError::NoMemory),
+            Err(why) => {
+                if self.troubles.meet(reading) {
+                    error!(rt; "topic {name}: a message for consumer {id} can't be read: {why}");
+                }
+                Ok(None)
+            }
+            Ok(None) => Ok(None),
+            Ok(Some(message)) => {
+                self.portion.add(&message);
+                if self.troubles.end(reading) {
+                    info!(rt; "topic {name}: messages for consumer {id} can be read again");
+                }
+                Ok(Some(message))
+            }
+        }
+    }
+}
+
 impl<'p, 'a, T: TopicStore, S: Shelf + Drop, K: Tallies, R: Wait> Turns
     for LockedPort<'p, 'a, T, S, K, R> {
     fn begin_turn(&mut self) {
         // Where memory is refused, the topics that aren't known are passed over in this turn.
         let _ = self.look_around();
         self.is_in_turn = true;
+        self.portion = Portion::new();
     }
 
     fn end_turn(&mut self) {
         self.is_in_turn = false;
         self.let_go();
+        let bells = &self.broker.bells;
+        if self.portion.is_cut_short() {
+            bells.ring_writer(self.seat.place);
+        }
+        if let Some(pause) = self.troubles.end_turn() {
+            bells.hurry_writer(self.seat.place, pause);
+        }
     }
 }
 
@@ -271,18 +379,22 @@ impl<'p, 'a, T: TopicStore, S: Shelf + Drop, K: Tallies, R: Wait + Log> Port
             .has_consumer(who, consumer_id)
     }
 
-    fn find(&mut self, name: &TopicName) -> Found {
+    // A topic that is there is found without the catalog's lock, which somebody may have who makes one.
+    fn find(&mut self, name: &TopicName) -> Found
+        ensures step { ⊥ → FindStep unknown_broker name.now result unknown_broker }
+        ensures there { IfFound result (λ number. number < length self.new.known.items) }
+        ensures failed { IfFailed result (Unit {0}) }
+        ensures works { length self.old.known.items ≤ length self.new.known.items }
+        ensures named { IfFound result (λ number. position (λ known. bytes_eq known.token.value.name name.now) self.new.known.items ≡ Some number) }
+    {
         self.let_go();
-        let broker = self.broker;
-        let mut catalog = broker.catalog.lock(self.rt);
-        let (found, news) = catalog.find_or_make(self.rt, &broker.totals.durable, name);
-        let learnt = self.learn(&catalog.known);
-        drop(catalog);
-        log_news(self.rt, name, news);
-        match learnt {
-            Ok(()) => self.seat.use_topic(found),
-            Err(AllocError) => Found::NoMemory,
+        // Where memory is refused, the topics that aren't known yet are asked for behind the catalog's lock.
+        let _ = self.look_around();
+        if let Some(number) = self.number_of(name) {
+            return self.seat.use_topic(Found::Topic(number));
         }
+        let found = self.find_or_make(name);
+        self.seat.use_topic(found)
     }
 
     fn command(&mut self, topic: u64, who: u64, command: TopicCommand) -> Answer
@@ -350,7 +462,18 @@ impl<'p, 'a, T: TopicStore, S: Shelf + Drop, K: Tallies, R: Wait + Log> Port
         topic: u64,
         who: u64,
         consumer_id: u64,
-    ) -> Result<Option<Outgoing>, ReadError> {
+    ) -> Result<Option<Outgoing>, ReadError>
+        requires { topic < length self.old.known.items }
+        ensures step { ⊥ → DispatchAt unknown_broker topic who consumer_id result unknown_broker }
+        ensures sends { SendsTo consumer_id result }
+        ensures refused { IfErr result (λ why. Unit {0}) }
+        ensures passes { length self.new.known.items ≡ length self.old.known.items }
+        ensures full { is_full self.old.portion ≡ true → result ≡ Ok None }
+        ensures counted { IfOk result (λ sent. IfSome sent (λ message. self.new.portion.left ≡ left_behind self.old.portion.left (length message.entry))) }
+    {
+        if self.portion.ends() {
+            return Ok(None);
+        }
         let held = self.hold(topic, None);
         let shared = self.topic(topic);
         let place = self.seat.place;
@@ -363,7 +486,7 @@ impl<'p, 'a, T: TopicStore, S: Shelf + Drop, K: Tallies, R: Wait + Log> Port
             consumer_id,
         );
         self.keep(hold);
-        sent
+        self.pass_on(Reading { topic, consumer_id }, sent)
     }
 
     fn is_quiet(&mut self, topic: u64, who: u64) -> bool {
@@ -404,7 +527,8 @@ impl<'p, 'a, T: TopicStore, S: Shelf + Drop, K: Tallies, R: Wait + Log> Port
     fn leave(&mut self, topic: u64, who: u64) {
         self.let_go();
         if self.seat.uses(topic) {
-            self.topic(topic).leave(self.rt, &self.broker.bells, who)
+            self.topic(topic)
+                .leave(self.rt, &self.broker.bells, self.seat.place, who)
         }
     }
 

@@ -32,15 +32,7 @@ impl<'a, T: TopicStore, S: Shelf + Drop, K: Tallies> SharedCatalog<'a, T, S, K> 
         let catalog = Catalog::open(alloc, &mut shelf)?;
         let mut known = Vec::new(alloc);
         for _ in 0..catalog.len() {
-            open_next(
-                rt,
-                alloc,
-                tally,
-                catalog.entries_per_ledger(),
-                places,
-                &mut known,
-                &mut spare,
-            )?;
+            open_next(rt, alloc, tally, &catalog, places, &mut known, &mut spare)?;
         }
         Ok(SharedCatalog {
             alloc,
@@ -61,34 +53,38 @@ impl<'a, T: TopicStore, S: Shelf + Drop, K: Tallies> SharedCatalog<'a, T, S, K> 
     }
 }
 
-/// Opens the topic of the next number. A refusal leaves what is known.
+/// Opens the topic of the next number of a catalog. A refusal leaves what is known.
 pub(crate) fn open_next<'a, T: TopicStore, S: Shelf + Drop, K: Tallies, R: Wait>(
     rt: &R,
     alloc: Global,
     tally: &DurableTally<K>,
-    per_ledger: u32,
+    catalog: &Catalog,
     places: &'a [Place<T, S, K>],
     known: &mut Vec<Known<'a, T, S, K>>,
     spare: &mut Vec<Spare<S, K>>,
 ) -> Result<(), Refusal>
-    requires numbered { 0 < per_ledger }
     requires all { (length places.now ≡ 64) × (length known.old.items + length spare.old.items ≡ 64) }
-    requires room { length known.old.items < 64 }
+    requires named { length known.old.items < length (remembered catalog.now) }
     ensures more { OnOk result (length known.new.items ≡ length known.old.items + 1) }
     ensures same { IsErr result → length known.new.items ≡ length known.old.items }
     ensures all { length known.new.items + length spare.new.items ≡ 64 }
 {
     let number = known.len();
     known.reserve(1)?;
+    let Some(name) = catalog.name(number as u16) else {
+        unreachable!();
+    };
+    let name = name.clone()?;
     let Some(next) = spare.last_mut() else {
         unreachable!();
     };
+    let per_ledger = catalog.entries_per_ledger();
     let (core, stores) = TopicCore::open(alloc, &mut next.shelf, number as u16, per_ledger)?;
     let Some(next) = spare.pop() else {
         unreachable!();
     };
     let place = &places[number];
-    let topic = share(rt, tally, core, stores, number as u64, next);
+    let topic = share(rt, tally, core, stores, name, number as u64, next);
     let token = place.init(rt, move || topic);
     known.push(Known::new(place, token)).unwrap();
     Ok(())

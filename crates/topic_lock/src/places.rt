@@ -1,10 +1,12 @@
 // A topic that is there, as threads share it.
-ghost use Rattle.std.specs.Prelude.{◌≡◌, IfOk, length};
+ghost use Rattle.std.specs.Prelude.{◌≡◌, ◌<◌, IfOk, IfSome, length, position};
+ghost use Rattle.std.specs.Str.{bytes_eq};
 
 use crate::counted::CountedTopic;
 use crate::stores::CountedStores;
 use crate::tally::Tallies;
 use disk::Shelf;
+use names::TopicName;
 use std::alloc::{AllocError, Global};
 use std::sync::{Mutex, OnceLock, OnceToken};
 use topic_core::TopicStore;
@@ -12,9 +14,10 @@ use topic_core::TopicStore;
 /// A topic behind its lock.
 pub type LockedTopic<K> = Mutex<CountedTopic<K>>;
 
-/// A topic that is there, and its stores. The lock of the stores is taken before that of the topic, or alone.
+/// A topic that is there, by its name, and its stores. The lock of the stores is taken before that of the topic, or alone.
 #[derive(Drop)]
 pub struct SharedTopic<T: TopicStore, S: Shelf + Drop, K: Tallies> {
+    pub name: TopicName,
     pub topic: LockedTopic<K>,
     pub stores: Mutex<CountedStores<T, S, K>>,
 }
@@ -58,15 +61,37 @@ impl<'a, T: TopicStore, S: Shelf + Drop, K: Tallies> Known<'a, T, S, K> {
     }
 
     /// The topic that is there.
-    pub fn get(&self) -> &'a SharedTopic<T, S, K> {
+    pub fn get(&self) -> &'a SharedTopic<T, S, K>
+        ensures { result.now ≡ self.now.token.value }
+    {
         self.place.value(&self.token)
     }
 
     /// The same once more.
-    pub fn again(&self) -> Known<'a, T, S, K> {
+    pub fn again(&self) -> Known<'a, T, S, K>
+        ensures { result.token.value ≡ self.now.token.value }
+    {
         Known {
             place: self.place,
             token: self.token.again(),
         }
     }
+
+    /// Whether the topic that is there has this name.
+    fn is_named(&self, name: &TopicName) -> bool
+        ensures { result ≡ bytes_eq self.now.token.value.name name.now }
+    {
+        self.get().name == *name
+    }
+}
+
+/// Where the topic of this name stands among those that are known.
+pub(crate) fn place_named<'a, T: TopicStore, S: Shelf + Drop, K: Tallies>(
+    known: &[Known<'a, T, S, K>],
+    name: &TopicName,
+) -> Option<usize>
+    ensures place { result ≡ position (λ it. bytes_eq it.token.value.name name.now) known.now }
+    ensures within { IfSome result (λ place. place < length known.now) }
+{
+    known.iter().position(|it| it.is_named(name))
 }

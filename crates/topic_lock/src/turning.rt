@@ -3,15 +3,15 @@ ghost use Rattle.std.specs.Prelude.{◌≡◌};
 
 use crate::durable::DurableTally;
 use crate::fault::FlushFault;
+use crate::flushing::{Flushed, Flusher, Taken, Unawaited};
 use crate::holding::ring_reader;
 use crate::places::SharedTopic;
 use crate::tally::Tallies;
-use crate::written::{Flusher, Written};
 use bells::{Bells, Marks};
 use disk::Shelf;
 use gated_log::Refusal;
 use std::sync::Wait;
-use topic_core::{Batch, TopicStore, WriteError};
+use topic_core::TopicStore;
 
 impl<T: TopicStore, S: Shelf + Drop, K: Tallies> SharedTopic<T, S, K> {
     /// Flushes the topic in three parts, each under one lock, and hands the flusher back, with how many entries were committed: none
@@ -24,20 +24,19 @@ impl<T: TopicStore, S: Shelf + Drop, K: Tallies> SharedTopic<T, S, K> {
         tally: &DurableTally<K>,
         bells: &Bells,
         flusher: Flusher<K>,
-    ) -> Result<(Flusher<K>, Result<usize, FlushFault>), Written<K>> {
+    ) -> Result<(Flusher<K>, Flushed), Unawaited<K>> {
         let (taken, owed) = self.take(rt);
         let batch = match taken {
-            Ok(Some(batch)) => batch,
-            Ok(None) => {
+            Taken::Batch(batch) => batch,
+            Taken::Nothing(flushed) => {
                 bells.ring_by_another(rt, &owed);
-                return Ok((flusher, Ok(0)));
+                return Ok((flusher, flushed));
             }
-            Err(_) => return Ok((flusher, Err(FlushFault::NoMemory))),
         };
         let written = self.stores.lock(rt).write(rt, tally, flusher, batch);
         let mut topic = self.topic.lock(rt);
         let ended = topic.finish(written);
-        if matches!(&ended, Ok((_, Err(FlushFault::NoMemory)))) {
+        if lacks_memory(&ended) {
             topic.waiting.owe_all();
         }
         let hungry = topic.waiting.take_hungry();
@@ -54,20 +53,36 @@ impl<T: TopicStore, S: Shelf + Drop, K: Tallies> SharedTopic<T, S, K> {
         self.topic.lock(rt).is_failed()
     }
 
-    /// Opens the topic again where it has failed. A refusal changes nothing.
-    pub fn reopen<R: Wait>(&self, rt: &R, tally: &DurableTally<K>) -> Result<(), Refusal> {
-        self.stores.lock(rt).reopen_topic(rt, tally, &self.topic)
+    /// Opens the topic again where it has failed, and has the connections end whose sessions had asked it for a producer or a
+    /// consumer, as a restart of the broker would: they have none there now, and their clients come back. A refusal changes nothing.
+    pub fn reopen<R: Wait>(
+        &self,
+        rt: &R,
+        tally: &DurableTally<K>,
+        bells: &Bells,
+    ) -> Result<(), Refusal> {
+        let members = self.stores.lock(rt).reopen_topic(rt, tally, &self.topic)?;
+        // A connection that has taken the place of one that ended meanwhile ends, too.
+        bells.end_all(&members);
+        Ok(())
     }
 
     /// A batch of all that waits, and whom its flush owes a reply. Where memory is refused what is owed stays.
-    fn take<R: Wait>(&self, rt: &R) -> (Result<Option<Batch>, WriteError>, Marks) {
+    fn take<R: Wait>(&self, rt: &R) -> (Taken, Marks) {
         let mut topic = self.topic.lock(rt);
         let taken = topic.take_batch();
-        let owed = if taken.is_ok() {
-            topic.waiting.take_owed()
-        } else {
-            Marks::new()
+        let owed = match &taken {
+            Taken::Nothing(flushed) if flushed.count().is_err() => Marks::new(),
+            Taken::Nothing(_) | Taken::Batch(_) => topic.waiting.take_owed(),
         };
         (taken, owed)
+    }
+}
+
+/// Whether a flush ended so for want of memory.
+fn lacks_memory<K: Tallies>(ended: &Result<(Flusher<K>, Flushed), Unawaited<K>>) -> bool {
+    match ended {
+        Ok((_, flushed)) => flushed.count() == Err(FlushFault::NoMemory),
+        Err(_) => false,
     }
 }

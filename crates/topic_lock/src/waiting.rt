@@ -2,15 +2,17 @@
 ghost use Rattle.std.specs.Prelude.{◌≡◌, ◌↔◌, true, false, IfSome, IfNone, ℕ};
 ghost use Rattle.bells.specs.Marking.{no_marks, all_marks, is_marked, with_mark, without_mark};
 
-use bells::{Crowd, Marks};
+use bells::{Crowd, Marks, Members};
 
 /// Who waits for a topic: those whom a flush owes a reply, those whose consumers were given nothing, and those whose readers have a
-/// SEND for which there is no room.
+/// SEND for which there is no room. Beside them stand all who asked for a producer or a consumer, since an opening behind a failure
+/// leaves them none.
 #[derive(Drop)]
 pub struct Waiting {
     pub(crate) owed: Marks,
     pub(crate) hungry: Marks,
     pub(crate) crowd: Crowd,
+    pub(crate) members: Members,
 }
 
 impl Waiting {
@@ -18,11 +20,13 @@ impl Waiting {
     pub const fn new() -> Waiting
         ensures marks { (result.owed ≡ no_marks) × (result.hungry ≡ no_marks) }
         ensures crowd { result.crowd.waits ≡ no_marks }
+        ensures members { result.members.places ≡ no_marks }
     {
         Waiting {
             owed: Marks::new(),
             hungry: Marks::new(),
             crowd: Crowd::new(),
+            members: Members::new(),
         }
     }
 

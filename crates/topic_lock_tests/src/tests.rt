@@ -160,9 +160,12 @@ fn flush_first<'a, K: Tallies, R: Wait>(
         return Ok(flusher);
     };
     match shared.flush(rt, &broker.totals.durable, &broker.bells, flusher) {
-        Ok((flusher, Ok(_))) => Ok(flusher),
-        Ok((_, Err(FlushFault::NoMemory))) => Err(Refusal::NoMemory),
-        _ => Err(Refusal::Device),
+        Ok((flusher, flushed)) => match flushed.count() {
+            Ok(_) => Ok(flusher),
+            Err(FlushFault::NoMemory) => Err(Refusal::NoMemory),
+            Err(_) => Err(Refusal::Device),
+        },
+        Err(_) => Err(Refusal::Device),
     }
 }
 

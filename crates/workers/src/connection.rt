@@ -4,7 +4,7 @@ ghost use Rattle.rtrb.specs.Ring.{received, known_items, all_sent, SameConsumer}
 ghost use Rattle.workers.specs.Writes.{FinishesAfter};
 
 use crate::loops::Turnstile;
-use crate::numbered::Numbered;
+use crate::numbered::{Ended, Numbered};
 use crate::outgoing::{Outgoing, Output};
 use crate::resting::PortAtRest;
 use rtrb::{Consumer, Finished, Producer, RingBuffer};
@@ -45,6 +45,8 @@ pub struct Served<A, W> {
     /// The ports that its reader and its writer had.
     pub reader_port: A,
     pub writer_port: A,
+    /// That its session has ended.
+    pub ended: Ended,
     /// The ends of its ring, where the reader's could be finished; or that memory was refused before any byte was read.
     pub end: Result<Option<(Outgoing<W>, Finished<Output>)>, AllocError>,
 }
@@ -77,11 +79,11 @@ where
 {
     let ring = RingBuffer::new(alloc, PLACES);
     let Ok((replies, ring)) = ring else {
-        return refused(reader_port, writer_port);
+        return refused(rt, session, reader_port, writer_port);
     };
     let buffer = vec![in alloc; 0u8; PIECE];
     let Ok(buffer) = buffer else {
-        return refused(reader_port, writer_port);
+        return refused(rt, session, reader_port, writer_port);
     };
     let outgoing = Outgoing {
         writer: output,
@@ -89,10 +91,10 @@ where
         next: 0,
         replied: 0,
     };
-    let ((reader_port, finished), (writer_port, outgoing)) = thread::scope(
+    let ((reader_port, finished, ended), (writer_port, outgoing)) = thread::scope(
         thread::scope_env(),
         rt,
-        move |scope| -> ((A, Option<Finished<Output>>), (A, Outgoing<W>))
+        move |scope| -> ((A, Option<Finished<Output>>, Ended), (A, Outgoing<W>))
             ensures read { IfSome result.0.1 (λ f. FinishesAfter replies f) }
             ensures written { SameConsumer outgoing.replies result.1.1.replies }
         {
@@ -129,9 +131,9 @@ where
                     (read, writing.join(rt))
                 }
                 Err(refused) => {
-                    session.lock(rt).stop();
+                    let (reader_port, ended) = reader_port.end(rt, session);
                     ends.reader_is_over();
-                    ((reader_port, None), (refused.value)())
+                    ((reader_port, None, ended), (refused.value)())
                 }
             }
         },
@@ -140,6 +142,7 @@ where
         return Served {
             reader_port,
             writer_port,
+            ended,
             end: Ok(None),
         };
     };
@@ -148,17 +151,25 @@ where
     Served {
         reader_port,
         writer_port,
+        ended,
         end: Ok(Some((outgoing, finished))),
     }
 }
 
 // Nothing was read, since memory was refused.
-fn refused<A, W>(reader_port: A, writer_port: A) -> Served<A, W>
+fn refused<A: PortAtRest, W, R: Wait>(
+    rt: &R,
+    session: &Mutex<Numbered>,
+    reader_port: A,
+    writer_port: A,
+) -> Served<A, W>
     ensures { IsErr result.end }
 {
+    let (reader_port, ended) = reader_port.end(rt, session);
     Served {
         reader_port,
         writer_port,
+        ended,
         end: Err(AllocError),
     }
 }
@@ -174,7 +185,7 @@ fn reader<I: Read + Drop, A: PortAtRest, T: Turnstile, E: Ends, R: Wait>(
     ends: &E,
     port: A,
     replies: Producer<Output>,
-) -> (A, Option<Finished<Output>>)
+) -> (A, Option<Finished<Output>>, Ended)
     ensures { IfSome result.1 (λ f. FinishesAfter replies f) }
 {
     let mut input = input;

@@ -15,6 +15,6 @@ pub use connection::{Ends, Served, serve_connection};
 pub use flushing::flush_loop;
 pub use listing::{Listing, Pumped};
 pub use loops::{Point, Turnstile, read_loop, write_loop};
-pub use numbered::Numbered;
+pub use numbered::{Ended, Numbered, Piece};
 pub use outgoing::{Outgoing, Output};
 pub use resting::PortAtRest;

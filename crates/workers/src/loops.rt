@@ -4,7 +4,7 @@ ghost use Rattle.rtrb.specs.Ring.{known_free, known_items, SameConsumer};
 ghost use Rattle.workers.specs.Writes.{Wrote, Extends, FinishesAfter};
 
 use crate::listing::{Listing, Pumped};
-use crate::numbered::{NUMBERS, Numbered};
+use crate::numbered::{Ended, NUMBERS, Numbered, Piece};
 use crate::outgoing::{Outgoing, Output};
 use rtrb::{Finished, Producer};
 use session::Port;
@@ -31,7 +31,7 @@ pub trait Turnstile {
 fn feed_locked<P: Port + Turns, R: Wait>(
     rt: &R,
     session: &Mutex<Numbered>,
-    piece: &[u8],
+    piece: Piece<'_>,
     port: &mut P,
     replies: &mut Producer<Output>,
 ) -> bool
@@ -40,6 +40,7 @@ fn feed_locked<P: Port + Turns, R: Wait>(
 {
     let mut session = session.lock(rt);
     if session.is_over() {
+        piece.refuse(&session);
         return false;
     }
     port.begin_turn();
@@ -62,13 +63,10 @@ fn read_turn<I: Read, P: Port + Turns, R: Wait>(
     if replies.slots() == 0 {
         return true;
     }
-    let Ok(count) = input.read(buffer) else {
+    let Some(piece) = Piece::read(input, buffer) else {
         return false;
     };
-    if count == 0 {
-        return false;
-    }
-    feed_locked(rt, session, &buffer[..count], port, replies)
+    feed_locked(rt, session, piece, port, replies)
 }
 
 // Reads and feeds until the input or the session ends or no turn is let pass.
@@ -96,7 +94,7 @@ fn read_all<I: Read, P: Port + Turns, T: Turnstile, R: Wait>(
 
 /// Feeds a session what the input gives, at most as many bytes a turn as the buffer has, and pushes what each feed gave as one
 /// reply, until the input or the session ends or no turn is let pass. A turn that finds the ring full reads nothing. Then the
-/// session ends.
+/// session ends, and leaves each topic.
 pub fn read_loop<I: Read, P: Port + Turns, T: Turnstile, R: Wait>(
     rt: &R,
     number: u64,
@@ -106,8 +104,8 @@ pub fn read_loop<I: Read, P: Port + Turns, T: Turnstile, R: Wait>(
     buffer: &mut [u8],
     port: &mut P,
     replies: Producer<Output>,
-) -> Option<Finished<Output>>
-    ensures { IfSome result (λ f. FinishesAfter replies f) }
+) -> (Option<Finished<Output>>, Ended)
+    ensures { IfSome result.0 (λ f. FinishesAfter replies f) }
 {
     let mut replies = replies;
     read_all(
@@ -120,8 +118,8 @@ pub fn read_loop<I: Read, P: Port + Turns, T: Turnstile, R: Wait>(
         port,
         &mut replies,
     );
-    session.lock(rt).end(port);
-    replies.finish()
+    let ended = session.lock(rt).end(port);
+    (replies.finish(), ended)
 }
 
 // Says what is written, and lists by what the session is served, where it goes on.

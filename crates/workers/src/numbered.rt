@@ -13,6 +13,7 @@ use crate::outgoing::Output;
 use rtrb::Producer;
 use session::{Fault, More, Port, PumpFault, Session};
 use std::alloc::Global;
+use std::io::Read;
 
 /// The loops end at this number.
 pub(crate) const NUMBERS: u64 = 1 << 62;
@@ -39,6 +40,43 @@ pub struct Numbered {
     /// What was last served of it stopped at a bound of its own, so that more may be due or admitted.
     more: bool,
     ended: bool,
+}
+
+/// What was read at once of what a client sent. Nobody may let it go: a session is fed all of it, or has ended.
+pub struct Piece<'b> {
+    bytes: &'b [u8],
+}
+
+/// That a session has ended, and has left each topic. `Numbered::end` alone gives it.
+#[derive(Drop)]
+pub struct Ended {
+    is_sealed: (),
+}
+
+impl<'b> Piece<'b> {
+    ghost use Rattle.std.specs.Io.KnownBytes.{Consumes};
+
+    /// Reads what there is, as far as the buffer takes it. None where the input has ended, or fails.
+    pub fn read<I: Read>(input: &mut I, buffer: &'b mut [u8]) -> Option<Piece<'b>>
+        ensures { IfSome result (λ piece. Consumes (I.remaining input.old) (I.remaining input.new) piece.bytes.now) }
+    {
+        let Ok(count) = input.read(buffer) else {
+            return None;
+        };
+        if count == 0 {
+            return None;
+        }
+        Some(Piece {
+            bytes: &buffer[..count],
+        })
+    }
+
+    /// Lets it go, since the session is over.
+    pub fn refuse(self, session: &Numbered)
+        requires { is_over session.now ≡ true }
+    {
+        let Piece { bytes: _ } = self;
+    }
 }
 
 impl Numbered {
@@ -112,7 +150,7 @@ impl Numbered {
     /// Feeds a piece, and pushes what that gave as one reply. Answers whether the session goes on.
     pub fn feed<P: Port>(
         &mut self,
-        piece: &[u8],
+        piece: Piece<'_>,
         port: &mut P,
         replies: &mut Producer<Output>,
     ) -> bool
@@ -120,10 +158,11 @@ impl Numbered {
         requires stands { is_over self.old ≡ false }
         ensures ring { SameProducer replies.old replies.new }
         ensures pushed { (more : List (ℕ × List ℕ)) × (pushed replies.new ≡ pushed replies.old ++ more) × Feeds self.old more self.new
-            × (P.sole port.old → FeedStep (P.fails port.old port.new) (play self.old.session (P.broker port.old) []) piece.now (feed_result self.new.session.fault)
+            × (P.sole port.old → FeedStep (P.fails port.old port.new) (play self.old.session (P.broker port.old) []) piece.entry.bytes.now (feed_result self.new.session.fault)
             (play self.new.session (P.broker port.new) (bytes_of_replies more))) }
         ensures goes_on { result ≡ is_none self.new.session.fault }
     {
+        let Piece { bytes: piece } = piece;
         let mut bytes = Vec::new(self.alloc);
         let goes_on = self.session.feed(piece, port, &mut bytes).is_ok();
         let Some(reply) = self.number(bytes) else {
@@ -182,11 +221,13 @@ impl Numbered {
     }
 
     /// No further turn is made, and the session leaves each topic.
-    pub fn end<P: Port>(&mut self, port: &mut P)
-        ensures { self.new ≡ record self.old { ended = true } }
+    pub fn end<P: Port>(&mut self, port: &mut P) -> Ended
+        ensures ended { self.new ≡ record self.old { ended = true } }
+        ensures left { P.sole port.old → P.broker port.new ≡ left_all (P.broker port.old) self.old.session.number }
     {
         self.ended = true;
         self.session.end(port);
+        Ended { is_sealed: () }
     }
 
     /// No further turn is made.

@@ -4,7 +4,7 @@ ghost use Rattle.rtrb.specs.Ring.{SameConsumer};
 ghost use Rattle.workers.specs.Writes.{FinishesAfter};
 
 use crate::loops::{Turnstile, read_loop, write_loop};
-use crate::numbered::Numbered;
+use crate::numbered::{Ended, Numbered};
 use crate::outgoing::{Outgoing, Output};
 use disk::Shelf;
 use log::Log;
@@ -26,8 +26,11 @@ pub trait PortAtRest {
         input: &mut I,
         buffer: &mut [u8],
         replies: Producer<Output>,
-    ) -> (Self, Option<Finished<Output>>)
+    ) -> (Self, Option<Finished<Output>>, Ended)
         ensures { IfSome result.1 (λ f. FinishesAfter replies f) };
+
+    /// Ends the session over the port, and hands it back.
+    fn end<R: Wait>(self, rt: &R, session: &Mutex<Numbered>) -> (Self, Ended);
 
     /// Runs `write_loop` over the port, and hands it back.
     fn write<W: Write, G: Turnstile, R: Wait>(
@@ -52,10 +55,26 @@ impl<'p, 'a, T: TopicStore, S: Shelf + Drop, K: Tallies, Q: Wait + Log> PortAtRe
         input: &mut I,
         buffer: &mut [u8],
         replies: Producer<Output>,
-    ) -> (RestingPort<'p, 'a, T, S, K, Q>, Option<Finished<Output>>) {
+    ) -> (
+        RestingPort<'p, 'a, T, S, K, Q>,
+        Option<Finished<Output>>,
+        Ended,
+    ) {
         let mut port = self.begin();
-        let finished = read_loop(rt, number, gate, session, input, buffer, &mut port, replies);
-        (port.rest(), finished)
+        let (finished, ended) = read_loop(
+            rt, number, gate, session, input, buffer, &mut port, replies,
+        );
+        (port.rest(), finished, ended)
+    }
+
+    fn end<R: Wait>(
+        self,
+        rt: &R,
+        session: &Mutex<Numbered>,
+    ) -> (RestingPort<'p, 'a, T, S, K, Q>, Ended) {
+        let mut port = self.begin();
+        let ended = session.lock(rt).end(&mut port);
+        (port.rest(), ended)
     }
 
     fn write<W: Write, G: Turnstile, R: Wait>(

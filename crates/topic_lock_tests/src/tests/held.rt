@@ -16,8 +16,8 @@ use std::thread;
 use std::thread::Threads;
 use topic_core::{Answer, FileStores};
 use topic_lock::{
-    Blanks, DurableTally, FlushFault, Flusher, Ledgers, RestingPort, Seat, SharedBroker,
-    SharedTopic, Tallies, empty_places,
+    Blanks, DurableTally, FlushFault, Flushed, Flusher, Ledgers, RestingPort, Seat, SharedBroker,
+    SharedTopic, Taken, Tallies, empty_places,
 };
 
 // A port over topics in memory, at rest.
@@ -40,8 +40,9 @@ fn flush_held<K: Tallies, R: Wait>(
     gate: &Gate,
 ) -> Result<(bool, usize), Refusal> {
     let taken = shared.topic.lock(rt).take_batch();
-    let Some(batch) = taken? else {
-        return Ok((false, 0));
+    let batch = match taken {
+        Taken::Batch(batch) => batch,
+        Taken::Nothing(flushed) => return counted(false, &flushed),
     };
     let mut stores = shared.stores.lock(rt);
     gate.is_held.store(true, Ordering::SeqCst);
@@ -49,9 +50,17 @@ fn flush_held<K: Tallies, R: Wait>(
     let written = stores.write(rt, tally, flusher, batch);
     drop(stores);
     match shared.topic.lock(rt).finish(written) {
-        Ok((_, Ok(count))) => Ok((went_on, count)),
-        Ok((_, Err(FlushFault::NoMemory))) => Err(Refusal::NoMemory),
-        _ => Err(Refusal::Device),
+        Ok((_, flushed)) => counted(went_on, &flushed),
+        Err(_) => Err(Refusal::Device),
+    }
+}
+
+// Whether others went on meanwhile, beside what a flush says.
+fn counted(went_on: bool, flushed: &Flushed) -> Result<(bool, usize), Refusal> {
+    match flushed.count() {
+        Ok(count) => Ok((went_on, count)),
+        Err(FlushFault::NoMemory) => Err(Refusal::NoMemory),
+        Err(_) => Err(Refusal::Device),
     }
 }
 

@@ -9,7 +9,7 @@ use std::sync::atomic::{AtomicBool, Ordering};
 use std::sync::{Mutex, Wait};
 use topic_core::{Answer, Outgoing as Sent, ReadError, TopicCommand};
 use topic_lock::Turns;
-use workers::{Numbered, Outgoing, Output, PortAtRest, Turnstile, read_loop, write_loop};
+use workers::{Ended, Numbered, Outgoing, Output, PortAtRest, Turnstile, read_loop, write_loop};
 
 /// Where a desk is held that owes a reply, until it may go on.
 #[derive(Drop)]
@@ -79,10 +79,18 @@ impl<'g> PortAtRest for Desk<'g> {
         input: &mut I,
         buffer: &mut [u8],
         replies: Producer<Output>,
-    ) -> (Desk<'g>, Option<Finished<Output>>) {
+    ) -> (Desk<'g>, Option<Finished<Output>>, Ended) {
         let mut desk = self;
-        let finished = read_loop(rt, number, gate, session, input, buffer, &mut desk, replies);
-        (desk, finished)
+        let (finished, ended) = read_loop(
+            rt, number, gate, session, input, buffer, &mut desk, replies,
+        );
+        (desk, finished, ended)
+    }
+
+    fn end<R: Wait>(self, rt: &R, session: &Mutex<Numbered>) -> (Desk<'g>, Ended) {
+        let mut desk = self;
+        let ended = session.lock(rt).end(&mut desk);
+        (desk, ended)
     }
 
     fn write<W: Write, G: Turnstile, R: Wait>(

@@ -8,7 +8,7 @@ use std::sync::atomic::{AtomicU64, Ordering};
 use std::sync::{Mutex, Wait};
 use std::test::Fail;
 use std::thread;
-use workers::{Numbered, Outgoing, Output, write_loop};
+use workers::{Numbered, Outgoing, Output, Piece, write_loop};
 
 // To the subscription "s" of the topic `persistent://a/b/c`, as consumer 2.
 const SUBSCRIBE: &[u8] =
@@ -59,12 +59,18 @@ fn feed<R: Wait>(
     if replies.slots() == 0 {
         return false;
     }
+    let mut input = command;
+    let mut buffer = [0; 128];
+    let Some(piece) = Piece::read(&mut input, &mut buffer) else {
+        return false;
+    };
     let mut desk = Desk::new();
     let mut numbered = session.lock(rt);
     if numbered.is_over() {
+        piece.refuse(&numbered);
         return false;
     }
-    numbered.feed(command, &mut desk, replies)
+    numbered.feed(piece, &mut desk, replies)
 }
 
 // Whether this was written, in this order: what was answered before, what was served, and what was answered meanwhile.

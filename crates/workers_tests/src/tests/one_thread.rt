@@ -8,7 +8,7 @@ use std::io;
 use std::sync::atomic::AtomicU64;
 use std::sync::{Mutex, Wait};
 use std::test::Fail;
-use workers::{Listing, Numbered, Outgoing, Output, Pumped, read_loop};
+use workers::{Listing, Numbered, Outgoing, Output, Piece, Pumped, read_loop};
 
 // Above each number of an output.
 const ABOVE: u64 = 1 << 62;
@@ -112,7 +112,12 @@ impl Feeder {
         if self.numbered.is_over() {
             return false;
         }
-        self.numbered.feed(bytes, &mut self.desk, &mut self.replies)
+        let mut input = bytes;
+        let mut buffer = [0; 32];
+        let Some(piece) = Piece::read(&mut input, &mut buffer) else {
+            return false;
+        };
+        self.numbered.feed(piece, &mut self.desk, &mut self.replies)
     }
 }
 
@@ -199,7 +204,7 @@ fn read<R: Wait>(rt: &R, feeder: Feeder, turns: u64) -> (usize, bool, Numbered) 
     };
     let mut input: &[u8] = PING;
     let mut buffer = [0; 16];
-    let finished = read_loop(
+    let (finished, _) = read_loop(
         rt,
         3,
         &turns,
