@@ -1,4 +1,4 @@
-use Rattle.server.proofs.serving.serve.Given as goal
+use Rattle.server.proofs.serving.serve_shelves.Given as goal
 
 abbrev pub ghosts-serve_counted : goal.ghosts-serve_counted
 ghosts-serve_counted g a = record {
