@@ -14,6 +14,7 @@ import subprocess
 import sys
 import tempfile
 from contextlib import contextmanager
+from errno import EACCES, EISDIR, ENOENT, ENOSPC, ENOTDIR
 
 sys.dont_write_bytecode = True
 from encoding import entry_of
@@ -47,6 +48,12 @@ RANGE = "error: invalid value '{0}' for '--entries <N>': {0} is not in 1..=50000
 def told(fault):
     """How a command ends that says this fault."""
     return "", f"error: {fault}\n", 1
+
+
+def failed(place, number):
+    """How a command ends for which the system had this error at this place of the folder, or of the device over it."""
+    module = "disk_fs::shelf" if " failed" in place else "folder::fault"
+    return "", f"[WARN  {module}] {place}: {os.strerror(number)} (os error {number})\nerror: device\n", 1
 
 
 # How a command ends whose folder another process holds.
@@ -154,8 +161,8 @@ def words_are_refused(room):
 def what_is_not_there_is_not_made(room):
     room.expect_kept(told("not initialised"), "inspect", "nowhere")
     room.expect_kept(told("not initialised"), "inspect", "")
-    room.expect_kept(told("device"), "init", "")
-    room.expect_kept(told("device"), "init", "nowhere/inner")
+    room.expect_kept(failed("", ENOENT), "init", "")
+    room.expect_kept(failed("nowhere/inner", ENOENT), "init", "nowhere/inner")
     room.lay("bare", {})
     room.expect_kept(told("not initialised"), "inspect", "bare")
 
@@ -220,18 +227,18 @@ def what_is_no_folder_fails(room):
     with open(room.at("file"), "wb") as file:
         file.write(b"text")
     os.symlink("gone", room.at("link"))
-    for name in ("file", "link"):
-        room.expect_kept(told("device"), "init", name)
-    room.expect_kept(told("device"), "inspect", "file")
+    room.expect_kept(failed("file", ENOTDIR), "init", "file")
+    room.expect_kept(failed("link/..", ENOENT), "init", "link")
+    room.expect_kept(failed("file/lock", ENOTDIR), "inspect", "file")
     room.expect_kept(told("not initialised"), "inspect", "link")
     room.lay("folders", {"lock": b""})
     os.mkdir(room.at("folders/catalog.dat"))
-    for command in ("init", "inspect"):
-        room.expect_kept(told("device"), command, "folders")
+    for command, call in (("init", "a sync"), ("inspect", "a read at 0")):
+        room.expect_kept(failed(f"catalog.dat: {call} failed", EISDIR), command, "folders")
     room.lay("no_lock", {"catalog.dat": NEW})
     os.mkdir(room.at("no_lock/lock"))
     for command in ("init", "inspect"):
-        room.expect_kept(told("device"), command, "no_lock")
+        room.expect_kept(failed("no_lock/lock", EISDIR), command, "no_lock")
 
 
 def without_permission_it_fails(room):
@@ -241,8 +248,10 @@ def without_permission_it_fails(room):
     room.lay("unwritten", {})
     for name, mode in (("closed", 0), ("unwritten", 0o555)):
         os.chmod(room.at(name), mode)
-    for words in ("init closed", "inspect closed", "init closed/inner", "init unwritten", "init unwritten/inner"):
-        room.expect(told("device"), *words.split(), **as_nobody)
+    for words, place in (("init closed", "closed"), ("inspect closed", "closed/lock"), ("init closed/inner", "closed/inner"), ("init unwritten/inner", "unwritten/inner")):
+        room.expect(failed(place, EACCES), *words.split(), **as_nobody)
+    # Where the room's owner is another one, the room can't be read, and else the lock file can't be made.
+    room.expect(failed("unwritten/.." if as_nobody else "unwritten/lock", EACCES), "init", "unwritten", **as_nobody)
     for name, lock in (("read_only", {"lock": b""}), ("read_only_copy", {})):
         room.lay(name, {**lock, **TOPICS})
         for file in os.listdir(room.at(name)):
@@ -250,7 +259,7 @@ def without_permission_it_fails(room):
         os.chmod(room.at(name), 0o555)
         room.expect_kept((LINES, "" if lock else NOT_HELD, 0), "inspect", name, **as_nobody)
         room.expect_kept(told("already initialised"), "init", name, **as_nobody)
-        room.expect_kept(told("device"), "serve", "127.0.0.1:0", name, **as_nobody)
+        room.expect_kept(failed(f"{name}/lock", EACCES), "serve", "127.0.0.1:0", name, **as_nobody)
     for name in ("closed", "unwritten", "read_only", "read_only_copy"):
         os.chmod(room.at(name), 0o755)
     room.expect_files("closed", {"catalog.dat": NEW})
@@ -280,8 +289,8 @@ def one_process_has_it(room):
 def where_printing_fails(room):
     room.lay("told", {"lock": b"", **TOPICS})
     with open("/dev/full", "wb") as full:
-        room.expect_kept(told("device"), "inspect", "told", stdout=full)
-        room.expect(told("device"), "init", "made", stdout=full)
+        room.expect_kept(failed("printing", ENOSPC), "inspect", "told", stdout=full)
+        room.expect(failed("printing", ENOSPC), "init", "made", stdout=full)
     room.expect_files("made", {"catalog.dat": NEW})
 
 

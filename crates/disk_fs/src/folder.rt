@@ -19,7 +19,7 @@ use std::rt::Files;
 /// Once a sync has failed each call fails, but for one that begins anew: a sync, or a cut to nothing.
 #[derive(Drop)]
 pub(crate) struct Folder<R: Files> {
-    names: Names<R>,
+    pub(crate) names: Names<R>,
     opened: OpenedFiles<R::File>,
     pub(crate) syncs: Syncs,
 }
@@ -138,6 +138,11 @@ where
         }
         it.is_dirty = true;
         it.file.set_len(len)
+    }
+
+    /// Whether a sync of the file has to write what was written to it, or cut from it, here.
+    pub(crate) fn is_written(&self, id: FileId) -> bool {
+        !self.syncs.have_failed && self.opened.is_written(id)
     }
 
     /// Syncs the file, also where nothing was written to it here, since an earlier process may have written. What is read then is

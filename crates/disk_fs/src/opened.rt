@@ -30,6 +30,11 @@ impl<F: Drop> OpenedFiles<F> {
         }
     }
 
+    /// Whether the file is open, and something was written to it, or cut from it, since its last sync.
+    pub(crate) fn is_written(&self, id: FileId) -> bool {
+        self.files.iter().any(|it| it.id == id && it.is_dirty)
+    }
+
     /// Takes the memory for one more.
     pub(crate) fn reserve(&mut self) -> Result<(), AllocError>
         ensures { vec_len self.new.files ≡ vec_len self.old.files }

@@ -1,11 +1,16 @@
 // The shelf.
-ghost use Rattle.std.specs.Prelude.{◌≡◌, ◌+◌, ◌<◌, ◌≤◌, ◌^◌, true, false, length, IfOk, OnOk};
+ghost use Rattle.std.specs.Prelude.{◌≡◌, ◌+◌, ◌<◌, ◌≤◌, ◌^◌, true, false, length, Ok, IfOk, OnOk, IsErr};
 ghost use Rattle.disk_fs.specs.Device.{Counted, GivesUp};
 
 use crate::folder::Folder;
 use crate::names::Access;
+use crate::syncs::is_of_check;
+use crate::troubles::{Call, Failure, Troubles};
 use disk::{DeviceError, FileId, History, Shelf};
+use log::{Log, warn};
 use std::alloc::Global;
+use std::io;
+use std::io::ErrorKind;
 use std::os::fd::AsRawFd;
 use std::os::unix::fs::FileExt;
 use std::rt::Files;
@@ -22,15 +27,19 @@ const MAX_LENGTH: u64 = 1 << 62;
 /// cut to nothing, as the making of a file does: all files are closed and opened again, and the first sync of each drops what
 /// the system holds of it.
 ///
+/// The log tells each failure by its file, its call and what the system said; the same one again only once that call went well. A
+/// call that fails for a sync before it is told no more: nothing is asked of the system then.
+///
 /// At most eight files stay open, and the folder itself.
 #[derive(Drop)]
 pub struct FsShelf<R: Files> {
     folder: Folder<R>,
+    troubles: Troubles,
     // The failures so far.
     failures: History<()>,
 }
 
-impl<R: Files + Drop> FsShelf<R>
+impl<R: Files + Log + Drop> FsShelf<R>
 where
     R::File: FileExt + AsRawFd,
 {
@@ -58,17 +67,48 @@ where
     {
         FsShelf {
             folder: Folder::new(rt, alloc, path, access),
+            troubles: Troubles::new(alloc),
             failures: History::new(),
         }
     }
 
-    // Counts a failure.
-    fn fail(&mut self) -> DeviceError
-        ensures count { length self.new.failures.items ≡ length self.old.failures.items + 1 }
+    // Answers as the folder did to this call, and counts a failure, which the log tells where that is news.
+    fn answer<T>(
+        &mut self,
+        file: FileId,
+        call: Call,
+        answered: io::Result<T>,
+    ) -> Result<T, DeviceError>
+        ensures value { IfOk result (λ value. answered ≡ Ok value) }
+        ensures failed { IsErr answered → IsErr result }
+        ensures counted { Counted result (length self.old.failures.items) (length self.new.failures.items) }
         ensures folder { self.new.folder ≡ self.old.folder }
     {
-        self.failures = self.failures.and(&());
-        DeviceError
+        match answered {
+            Ok(value) => {
+                self.troubles.end(file, call);
+                Ok(value)
+            }
+            Err(error) => {
+                self.failures = self.failures.and(&());
+                self.tell(file, call, &error);
+                Err(DeviceError)
+            }
+        }
+    }
+
+    // Has the log tell why a call failed, where that is news.
+    fn tell(&mut self, file: FileId, call: Call, error: &io::Error)
+        ensures failures { self.new.failures ≡ self.old.failures }
+        ensures folder { self.new.folder ≡ self.old.folder }
+    {
+        if is_of_check(error) {
+            return;
+        }
+        let code = error.raw_os_error();
+        if self.troubles.meet(Failure { file, call, code }) {
+            warn!(self.folder.names.rt; "{file}: {call} failed: {error}");
+        }
     }
 }
 
@@ -79,7 +119,7 @@ fn fits(offset: u64, count: usize) -> bool
     offset <= MAX_LENGTH && count as u64 <= MAX_LENGTH - offset
 }
 
-impl<R: Files + Drop> Shelf for FsShelf<R>
+impl<R: Files + Log + Drop> Shelf for FsShelf<R>
 where
     R::File: FileExt + AsRawFd,
 {
@@ -94,10 +134,8 @@ where
         ensures counted { Counted result (length self.old.failures.items) (length self.new.failures.items) }
         ensures given_up { GivesUp result self.old.folder.syncs.have_failed self.new.folder.syncs.have_failed }
     {
-        match self.folder.read(file, offset, buffer) {
-            Ok(count) => Ok(count),
-            Err(_) => Err(self.fail()),
-        }
+        let answered = self.folder.read(file, offset, buffer);
+        self.answer(file, Call::Read { offset }, answered)
     }
 
     fn write_at(&mut self, file: FileId, offset: u64, bytes: &[u8]) -> Result<(), DeviceError>
@@ -105,33 +143,33 @@ where
         ensures counted { Counted result (length self.old.failures.items) (length self.new.failures.items) }
         ensures given_up { GivesUp result self.old.folder.syncs.have_failed self.new.folder.syncs.have_failed }
     {
-        if !fits(offset, bytes.len()) {
-            return Err(self.fail());
-        }
-        match self.folder.write_at(file, offset, bytes) {
-            Ok(()) => Ok(()),
-            Err(_) => Err(self.fail()),
-        }
+        let answered = if fits(offset, bytes.len()) {
+            self.folder.write_at(file, offset, bytes)
+        } else {
+            Err(io::Error::from(ErrorKind::FileTooLarge))
+        };
+        self.answer(file, Call::Write, answered)
     }
 
     fn cut(&mut self, file: FileId, len: u64) -> Result<(), DeviceError>
         ensures counted { Counted result (length self.old.failures.items) (length self.new.failures.items) }
         ensures given_up { 0 < len → GivesUp result self.old.folder.syncs.have_failed self.new.folder.syncs.have_failed }
     {
-        match self.folder.cut(file, len) {
-            Ok(()) => Ok(()),
-            Err(_) => Err(self.fail()),
-        }
+        let answered = self.folder.cut(file, len);
+        self.answer(file, Call::Cut, answered)
     }
 
     fn sync(&mut self, file: FileId) -> Result<(), DeviceError>
         ensures counted { Counted result (length self.old.failures.items) (length self.new.failures.items) }
         ensures believed { OnOk result (self.new.folder.syncs.have_failed ≡ false) }
     {
-        match self.folder.sync(file) {
-            Ok(()) => Ok(()),
-            Err(_) => Err(self.fail()),
-        }
+        let call = if self.folder.is_written(file) {
+            Call::Sync
+        } else {
+            Call::Settle
+        };
+        let answered = self.folder.sync(file);
+        self.answer(file, call, answered)
     }
 
     fn length(&mut self, file: FileId) -> Result<u64, DeviceError>
@@ -139,9 +177,10 @@ where
         ensures counted { Counted result (length self.old.failures.items) (length self.new.failures.items) }
         ensures given_up { GivesUp result self.old.folder.syncs.have_failed self.new.folder.syncs.have_failed }
     {
-        match self.folder.length(file) {
-            Ok(len) if len <= MAX_LENGTH => Ok(len),
-            Ok(_) | Err(_) => Err(self.fail()),
-        }
+        let answered = match self.folder.length(file) {
+            Ok(len) if len > MAX_LENGTH => Err(io::Error::from(ErrorKind::FileTooLarge)),
+            answered => answered,
+        };
+        self.answer(file, Call::Length, answered)
     }
 }

@@ -1,5 +1,6 @@
 // Whether a sync has failed.
-ghost use Rattle.std.specs.Prelude.{◌≡◌, ◌↔◌, true, false, IsOk, IsErr, OnOk};
+ghost use Rattle.std.specs.Prelude.{◌≡◌, ◌↔◌, true, false, IsOk, IsErr, IfErr, IsTrue, OnOk};
+ghost use Rattle.disk_fs.specs.Troubles.{IsOfCheck};
 
 use std::fs::OpenFile;
 use std::io;
@@ -17,10 +18,11 @@ pub(crate) struct Syncs {
 impl Syncs {
     /// An error where a sync has failed.
     pub(crate) fn check(&self) -> io::Result<()>
-        ensures { IsOk result ↔ (self.now.have_failed ≡ false) }
+        ensures well { IsOk result ↔ (self.now.have_failed ≡ false) }
+        ensures told { IfErr result IsOfCheck }
     {
         if self.have_failed {
-            return Err(io::Error::from(ErrorKind::Other));
+            return Err(io::Error::other("a sync has failed"));
         }
         Ok(())
     }
@@ -73,4 +75,11 @@ impl Syncs {
         }
         synced
     }
+}
+
+/// Whether this is the error of `Syncs::check`, and not what the system said.
+pub(crate) fn is_of_check(error: &io::Error) -> bool
+    ensures { IsTrue result ↔ IsOfCheck error.now }
+{
+    error.kind() == ErrorKind::Other && error.raw_os_error().is_none()
 }

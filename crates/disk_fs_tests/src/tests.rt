@@ -5,9 +5,12 @@ mod open_files;
 mod plan;
 mod steps;
 mod sweeps;
+mod telling;
 
 use disk::{DeviceError, FileId, Shelf};
 use disk_fs::FsShelf;
+use log::sink::Discard;
+use log::{LevelFilter, Logged};
 use plan::Plan;
 use std::alloc::Global;
 use std::marker::Send;
@@ -90,7 +93,8 @@ fn wrong_by_plan(
         return Err(DeviceError);
     };
     let watched = Watched { rt, watch: plan };
-    let mut shelf = FsShelf::new(watched, rt.alloc(), path);
+    let silent = Logged::new(watched, LevelFilter::Off, Discard);
+    let mut shelf = FsShelf::new(silent, rt.alloc(), path);
     first_wrong(rt, plan, &mut shelf, steps)
 }
 

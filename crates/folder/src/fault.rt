@@ -5,11 +5,16 @@ ghost use Rattle.folder.specs.declared.fault.FolderFault.TheVariants.{Refused};
 ghost use Rattle.folder.specs.Faults.{IsFaultOf, IsFaultOfLock};
 
 use gated_log::Refusal;
+use log::{Log, warn};
 use std::alloc::AllocError;
+use std::fmt::Display;
 use std::fs::TryLockError;
 use std::io;
 use std::io::ErrorKind;
 use thiserror::Error;
+
+/// The place of an error in writing lines.
+pub(crate) const PRINTING: &str = "printing";
 
 /// Why a command on a folder ends early.
 #[derive(Clone, Copy, Debug, PartialEq, Eq, Error)]
@@ -56,14 +61,28 @@ impl From<io::Error> for FolderFault {
     }
 }
 
-impl From<TryLockError> for FolderFault {
-    ghost from_gives = { λ error e. IsFaultOfLock error e };
+/// What an error at this place is told as. What the system said stands in the log before.
+pub(crate) fn fault_at<P: Display, R: Log>(rt: &R, place: &P, error: io::Error) -> FolderFault
+    ensures { IsFaultOf error result }
+{
+    let fault = FolderFault::from(error);
+    if fault == FolderFault::Refused(Refusal::Device) {
+        warn!(rt; "{place}: {error}");
+    }
+    fault
+}
 
-    fn from(error: TryLockError) -> FolderFault {
-        match error {
-            TryLockError::WouldBlock => FolderFault::InUse,
-            TryLockError::Error(error) => FolderFault::from(error),
-        }
+/// The same of a lock that isn't to be had.
+pub(crate) fn fault_of_lock<P: Display, R: Log>(
+    rt: &R,
+    place: &P,
+    error: TryLockError,
+) -> FolderFault
+    ensures { IsFaultOfLock error result }
+{
+    match error {
+        TryLockError::WouldBlock => FolderFault::InUse,
+        TryLockError::Error(error) => fault_at(rt, place, error),
     }
 }
 

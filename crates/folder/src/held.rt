@@ -4,10 +4,11 @@ ghost use Rattle.std.specs.IoError.{error_kind};
 ghost use Rattle.gated_log.specs.declared.refusal.Refusal.TheVariants.{NotInitialised};
 ghost use Rattle.folder.specs.Faults.{IsFaultOf, IsFaultOfHolding};
 
-use crate::fault::FolderFault;
+use crate::fault::{FolderFault, fault_at, fault_of_lock};
 use disk::{FileId, Shelf};
 use disk_fs::FsShelf;
 use gated_log::Refusal;
+use log::Log;
 use std::alloc::{AllocError, Global};
 use std::fs::{File, OpenFile, OpenOptions};
 use std::io::ErrorKind;
@@ -29,7 +30,7 @@ impl Folder {
     /// Takes the folder of this path, to be served. It is `NotInitialised` where the folder isn't there, or neither its lock file
     /// nor a list of topics is, and `InUse` where another process holds it. A lock file that is lacking beside a list of topics, as
     /// in a copy that left it out, is made; nothing else is.
-    pub fn open<R: AllocGlobal + Files<File = File>>(
+    pub fn open<R: AllocGlobal + Log + Files<File = File>>(
         rt: &R,
         path: &str,
     ) -> Result<Folder, FolderFault>
@@ -37,13 +38,13 @@ impl Folder {
         ensures unnamed { length path.now ≡ 0 → IsErrOf result (FolderFault.Refused NotInitialised) }
     {
         match open_lock(rt, path) {
-            Ok(lock) => Folder::locked(rt.alloc(), path, lock),
-            Err(error) => Err(fault_of_opening(error)),
+            Ok(lock) => Folder::locked(rt, path, lock),
+            Err(error) => Err(fault_of_opening(rt, path, error)),
         }
     }
 
     /// Takes the folder of this path, to be looked at alone: as `open` does or, where it may not be written, as it is.
-    pub fn look<R: AllocGlobal + Files<File = File>>(
+    pub fn look<R: AllocGlobal + Log + Files<File = File>>(
         rt: &R,
         path: &str,
     ) -> Result<Folder, FolderFault>
@@ -51,14 +52,14 @@ impl Folder {
         ensures unnamed { length path.now ≡ 0 → IsErrOf result (FolderFault.Refused NotInitialised) }
     {
         match open_lock(rt, path) {
-            Ok(lock) => Folder::locked(rt.alloc(), path, lock),
+            Ok(lock) => Folder::locked(rt, path, lock),
             Err(error) if is_of_leave(error.kind()) => Folder::as_it_is(rt, path),
-            Err(error) => Err(fault_of_opening(error)),
+            Err(error) => Err(fault_of_opening(rt, path, error)),
         }
     }
 
     /// Takes the folder of this path and makes nothing: by its lock file, which is only read, or, where it has none, by no lock.
-    pub fn as_it_is<R: AllocGlobal + Files<File = File>>(
+    pub fn as_it_is<R: AllocGlobal + Log + Files<File = File>>(
         rt: &R,
         path: &str,
     ) -> Result<Folder, FolderFault>
@@ -66,38 +67,47 @@ impl Folder {
     {
         let lock = lock_path(rt.alloc(), path)?;
         match OpenOptions::new().read(true).open(rt, lock.as_str()) {
-            Ok(lock) => Folder::locked(rt.alloc(), path, lock),
+            Ok(lock) => Folder::locked(rt, path, lock),
             Err(error) if error.kind() == ErrorKind::NotFound => Ok(Folder {
                 path: String::from_str(rt.alloc(), path)?,
                 lock: None,
             }),
-            Err(error) => Err(FolderFault::from(error)),
+            Err(error) => Err(fault_at(rt, &lock, error)),
         }
     }
 
     /// Takes the folder of this path, which is made where it isn't there, as is its lock file; of a folder that stands nothing
     /// else changes. The folder that it is in is synced, so that it keeps the name: also where the folder was there, since an
     /// earlier process may have ended before its sync.
-    pub fn make<R: AllocGlobal + Files<File = File>>(
+    pub fn make<R: AllocGlobal + Log + Files<File = File>>(
         rt: &R,
         path: &str,
     ) -> Result<Folder, FolderFault>
         ensures faults { IfErr result IsFaultOfHolding }
     {
-        make_folder(rt, path)?;
-        sync_above(rt, rt.alloc(), path)?;
+        if let Err(error) = make_folder(rt, path) {
+            return Err(fault_at(rt, &path, error));
+        }
+        if let Err(error) = sync_above(rt, rt.alloc(), path) {
+            return Err(fault_at(rt, &format_args!("{path}/.."), error));
+        }
         let lock = lock_path(rt.alloc(), path)?;
-        let lock = lock_options().create(true).open(rt, lock.as_str())?;
-        Folder::locked(rt.alloc(), path, lock)
+        match lock_options().create(true).open(rt, lock.as_str()) {
+            Ok(lock) => Folder::locked(rt, path, lock),
+            Err(error) => Err(fault_at(rt, &lock, error)),
+        }
     }
 
     // The folder, where the lock of this file is to be had.
-    fn locked(alloc: Global, path: &str, lock: File) -> Result<Folder, FolderFault>
+    fn locked<R: AllocGlobal + Log>(rt: &R, path: &str, lock: File) -> Result<Folder, FolderFault>
         ensures { IfErr result IsFaultOfHolding }
     {
-        lock.try_lock()?;
+        if let Err(error) = lock.try_lock() {
+            let place = format_args!("{path}/{LOCK}");
+            return Err(fault_of_lock(rt, &place, error));
+        }
         Ok(Folder {
-            path: String::from_str(alloc, path)?,
+            path: String::from_str(rt.alloc(), path)?,
             lock: Some(lock),
         })
     }
@@ -108,7 +118,7 @@ impl Folder {
     }
 
     /// The files of the folder, as a device that never failed. Nothing is asked of the system yet.
-    pub fn shelf<R: AllocGlobal + Files<File = File> + Drop>(
+    pub fn shelf<R: AllocGlobal + Log + Files<File = File> + Drop>(
         &self,
         rt: R,
     ) -> Result<FsShelf<R>, AllocError>
@@ -120,7 +130,7 @@ impl Folder {
     }
 
     /// The same to be read alone.
-    pub fn reading_shelf<R: AllocGlobal + Files<File = File> + Drop>(
+    pub fn reading_shelf<R: AllocGlobal + Log + Files<File = File> + Drop>(
         &self,
         rt: R,
     ) -> Result<FsShelf<R>, AllocError>
@@ -173,14 +183,14 @@ fn is_of_leave(kind: ErrorKind) -> bool
 }
 
 // Nothing is there exactly where the system found no such name.
-fn fault_of_opening(error: io::Error) -> FolderFault
+fn fault_of_opening<R: Log>(rt: &R, path: &str, error: io::Error) -> FolderFault
     ensures missing { error_kind error ≡ ErrorKind.NotFound → result ≡ FolderFault.Refused NotInitialised }
     ensures failed { error_kind error ≢ ErrorKind.NotFound → IsFaultOf error result }
 {
     if error.kind() == ErrorKind::NotFound {
         return FolderFault::Refused(Refusal::NotInitialised);
     }
-    FolderFault::from(error)
+    fault_at(rt, &format_args!("{path}/{LOCK}"), error)
 }
 
 // Makes the folder, where nothing has its name.

@@ -8,7 +8,7 @@ ghost use Rattle.node.specs.Standing.{state_of, Stands};
 ghost use Rattle.folder.specs.Faults.{IsOutage};
 ghost use Rattle.folder.specs.Looking.{AreTold, AreFound, IsFaultOfLooking};
 
-use crate::fault::FolderFault;
+use crate::fault::{FolderFault, PRINTING, fault_at};
 use crate::held::Folder;
 use admin::print_status;
 use disk::Shelf;
@@ -39,13 +39,13 @@ pub fn inspect<R: AllocGlobal + Log + Files<File = File>, W: Write>(
         warn!(rt; "the folder has no lock file and may not be written, so it isn't held");
     }
     let shelf = folder.reading_shelf(rt)?;
-    inspect_on(rt.alloc(), shelf, writer)
+    inspect_on(rt, shelf, writer)
 }
 
 /// Writes the status lines of the node on this device: all of them or, after any fault but one of the writer, none. The node
 /// is opened for it, which syncs its files and changes nothing.
-pub fn inspect_on<S: Shelf + Drop, W: Write>(
-    alloc: Global,
+pub fn inspect_on<R: AllocGlobal + Log, S: Shelf + Drop, W: Write>(
+    rt: &R,
     shelf: S,
     writer: &mut W,
 ) -> Result<(), FolderFault>
@@ -57,23 +57,25 @@ pub fn inspect_on<S: Shelf + Drop, W: Write>(
     ensures lines { OnOk result ((statuses : List TopicStatus) × Appends (W.contents writer.old) (W.contents writer.new) (lines_of_all statuses)) }
     ensures silent { IfErr result (λ fault. fault ≢ FolderFault.Refused Device → fault ≢ FolderFault.Refused NoMemory → writer.new ≡ writer.old) }
 {
-    let statuses = statuses_on(alloc, shelf)?;
-    write_lines(alloc, statuses.as_slice(), writer)
+    let statuses = statuses_on(rt.alloc(), shelf)?;
+    write_lines(rt, statuses.as_slice(), writer)
 }
 
 // Writes the status lines of topics, of which nothing is written where memory for them is refused.
-fn write_lines<W: Write>(
-    alloc: Global,
+fn write_lines<R: AllocGlobal + Log, W: Write>(
+    rt: &R,
     statuses: &[TopicStatus],
     writer: &mut W,
 ) -> Result<(), FolderFault>
     ensures lines { OnOk result (Appends (W.contents writer.old) (W.contents writer.new) (lines_of_all statuses.now)) }
     ensures faults { IfErr result IsOutage }
 {
-    let mut lines = Vec::new(alloc);
+    let mut lines = Vec::new(rt.alloc());
     print_status(statuses, &mut lines)?;
-    writer.write_all(lines.as_slice())?;
-    Ok(())
+    match writer.write_all(lines.as_slice()) {
+        Ok(()) => Ok(()),
+        Err(error) => Err(fault_at(rt, &PRINTING, error)),
+    }
 }
 
 // What all topics of the node on this device have, in the order of their numbers.

@@ -7,10 +7,11 @@ ghost use Rattle.node.specs.State.{State, fresh_broker};
 ghost use Rattle.node.specs.Standing.{AtRest};
 ghost use Rattle.folder.specs.Making.{initialised_line, fault_of_making, HasList, IsFaultOfMaking, MakesNothing};
 
-use crate::fault::FolderFault;
+use crate::fault::{FolderFault, PRINTING, fault_at};
 use crate::held::Folder;
 use catalog::{Catalog, EntriesPerLedger};
 use disk::Shelf;
+use log::Log;
 use node::{Node, Refusal};
 use std::alloc::Global;
 use std::fs::File;
@@ -22,7 +23,7 @@ use topic_core::{FileStores, TopicStore};
 /// Makes a node without topics in the folder of this path, and writes a line that says how many entries its ledgers have. The
 /// folder is made where it isn't there. One that has a list of topics, sound or not, stays as it is, and so does one that has files of
 /// topics without such a list; one in which an earlier `init` was cut off is made anew. Nothing is written where the node isn't made.
-pub fn init<R: AllocGlobal + Files<File = File>, W: Write>(
+pub fn init<R: AllocGlobal + Log + Files<File = File>, W: Write>(
     rt: &R,
     path: &str,
     per_ledger: EntriesPerLedger,
@@ -31,14 +32,18 @@ pub fn init<R: AllocGlobal + Files<File = File>, W: Write>(
     ensures line { OnOk result (Appends (W.contents writer.old) (W.contents writer.new) (initialised_line per_ledger.count)) }
     ensures silent { IfErr result (λ fault. fault ≢ FolderFault.Refused Device → fault ≢ FolderFault.Refused NoMemory → writer.new ≡ writer.old) }
 {
-    if holds_topics(rt, path)? {
-        return Err(fault_over_topics(rt, path));
+    match holds_topics(rt, path) {
+        Ok(false) => {}
+        Ok(true) => return Err(fault_over_topics(rt, path)),
+        Err(error) => return Err(fault_at(rt, &path, error)),
     }
     let folder = Folder::make(rt, path)?;
     let mut shelf = folder.shelf(rt)?;
     init_on(rt.alloc(), per_ledger, &mut shelf)?;
-    write_line(per_ledger, writer)?;
-    Ok(())
+    match write_line(per_ledger, writer) {
+        Ok(()) => Ok(()),
+        Err(error) => Err(fault_at(rt, &PRINTING, error)),
+    }
 }
 
 // Our own rule.
@@ -73,7 +78,7 @@ fn is_of_a_topic(name: &str) -> bool {
 }
 
 // Why no node is made where files of topics stand. Nothing changes.
-fn fault_over_topics<R: AllocGlobal + Files<File = File>>(rt: &R, path: &str) -> FolderFault {
+fn fault_over_topics<R: AllocGlobal + Log + Files<File = File>>(rt: &R, path: &str) -> FolderFault {
     match look_for_list(rt, path) {
         Ok(()) => FolderFault::AlreadyInitialised,
         Err(FolderFault::Refused(Refusal::NotInitialised)) => FolderFault::HoldsTopics,
@@ -82,7 +87,7 @@ fn fault_over_topics<R: AllocGlobal + Files<File = File>>(rt: &R, path: &str) ->
 }
 
 // Looks whether a list of topics stands in the folder, which stays as it is.
-fn look_for_list<R: AllocGlobal + Files<File = File>>(
+fn look_for_list<R: AllocGlobal + Log + Files<File = File>>(
     rt: &R,
     path: &str,
 ) -> Result<(), FolderFault> {

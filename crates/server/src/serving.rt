@@ -46,7 +46,7 @@ struct FolderShelves<'r, R> {
     folder: &'r Folder,
 }
 
-impl<'r, R: AllocGlobal + Files<File = File> + Sync> Shelves for FolderShelves<'r, R> {
+impl<'r, R: AllocGlobal + Log + Files<File = File> + Sync> Shelves for FolderShelves<'r, R> {
     type Device = FsShelf<&'r R>;
 
     fn shelf(&self) -> Result<FsShelf<&'r R>, AllocError> {

@@ -2,7 +2,11 @@
 //! move few bytes. Nothing is promised here.
 #![tactic(auto)]
 
+use log::kv::Source;
+use log::span::Spans;
+use log::{Log, Record};
 use std::alloc::Allocator;
+use std::fmt::Display;
 use std::fs::{Metadata, OpenFile, OpenOptions};
 use std::io;
 use std::io::{Read, Seek, SeekFrom, Write};
@@ -43,6 +47,25 @@ pub struct Watched<'a, R, W> {
 pub struct WatchedFile<'a, F, W> {
     file: F,
     watch: &'a W,
+}
+
+// It logs where the runtime does.
+impl<'a, R: Log, W> Log for Watched<'a, R, W> {
+    fn enabled(&self, metadata: &log::Metadata<'_>) -> bool {
+        self.rt.enabled(metadata)
+    }
+
+    fn log<D: Display, K: Source, S: Spans>(&self, record: &Record<'_, D, K, S>) {
+        self.rt.log(record);
+    }
+
+    fn flush(&self) {
+        self.rt.flush();
+    }
+
+    fn target(&self) -> &str {
+        self.rt.target()
+    }
 }
 
 impl<'a, R: Files, W: Watch> Files for Watched<'a, R, W> {

@@ -3,6 +3,8 @@ use crate::tests::empty_folder;
 use crate::tests::plan::Plan;
 use disk::{DeviceError, FileId, Shelf};
 use disk_fs::FsShelf;
+use log::sink::Discard;
+use log::{LevelFilter, Logged};
 use std::io::ErrorKind;
 use std::test::Fail;
 use watched_files::Watched;
@@ -34,7 +36,8 @@ fn answer_at(rt: &HostRuntime, k: u64) -> Result<(bool, Result<usize, DeviceErro
     let plan = Plan::new();
     plan.fail(None, k, ErrorKind::Other);
     let watched = Watched { rt, watch: &plan };
-    let mut shelf = FsShelf::new(watched, rt.alloc(), path);
+    let silent = Logged::new(watched, LevelFilter::Off, Discard);
+    let mut shelf = FsShelf::new(silent, rt.alloc(), path);
     let answer = work(&mut shelf);
     Ok((plan.is_armed(), answer))
 }
