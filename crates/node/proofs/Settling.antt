@@ -14,13 +14,12 @@ use Rattle.topic_core.specs.State.{Topic, opened}
 use Rattle.topic_core.specs.Crashes.{IsLeft}
 use Rattle.catalog.specs.declared.catalog.Catalog.{Catalog}
 use Rattle.catalog.specs.Names.{Names}
-use Rattle.catalog.specs.Catalogs.{StandsFor as NamesStand, Holds as NamesHeld, remembered, per_ledger, failed}
+use Rattle.catalog.specs.Catalogs.{StandsFor as NamesStand, Holds as NamesHeld, Follows, remembered, per_ledger, failed}
 use Rattle.catalog.specs.Folded.{IsFault as CatalogFault}
 use Rattle.catalog.specs.Laws.{holds_stands}
 use Rattle.session.specs.Broker.{Broker, fresh, sure, made, Settles}
 use Rattle.node.specs.declared.held.Held.{Held}
 use Rattle.node.specs.declared.topics.Topics.{Topics}
-use Rattle.node.specs.Naming.{Follows}
 use Rattle.node.specs.Standing.{broker_of, TopicsStand}
 use Rattle.node.specs.Passing.{stands_so, count_is}
 use Rattle.std.proofs.lemmas.List.{get_or_past}

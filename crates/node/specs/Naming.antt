@@ -1,9 +1,7 @@
 -- Names that a broker has, and gains.
-use Rattle.std.specs.Prelude.{◌≡◌, ◌⊎◌, ℕ, Option, List, ◌++◌, ◌+◌, length, map}
+use Rattle.std.specs.Prelude.{◌≡◌, ℕ, Option, List, ◌++◌, length, map}
 use Rattle.managed_ledger.specs.Entries.{Entries}
 use Rattle.records.specs.Maps.{Kept}
-use Rattle.catalog.specs.declared.catalog.Catalog.{Catalog}
-use Rattle.catalog.specs.Catalogs.{remembered, per_ledger}
 use Rattle.topic_core.specs.Crashes.{IsLeft}
 use Rattle.session.specs.Broker.{Broker, fresh, topic_at}
 
@@ -30,7 +28,3 @@ pub record Grows (old new : Broker) : Type 0 where
   pub more : List (List ℕ)
   pub names : new.names ≡ old.names ++ more
   pub left : (number : ℕ) (ledger : Entries) (kept : Kept) → IsLeft (topic_at new number) ledger kept → IsLeft (topic_at old number) ledger kept
-
--- a catalog that was opened again has as many names as before, or one more, and as many entries a ledger
-abbrev pub Follows : Catalog → Catalog → Type 0
-Follows old new = (per_ledger new ≡ per_ledger old) × ((length (remembered new) ≡ length (remembered old)) ⊎ (length (remembered new) ≡ length (remembered old) + 1))

@@ -1,13 +1,12 @@
 // Topics are found by their names, and made.
-ghost use Rattle.std.specs.Prelude.{◌≡◌, ◌⊎◌, ◌↔◌, ◌+◌, ◌<◌, false, length, IfOk, IfErr, OnOk, IsErr, IsErrOf, IsTrue};
+ghost use Rattle.std.specs.Prelude.{◌≡◌, ◌⊎◌, ◌<◌, false, length, IfOk, IfErr, OnOk, IsErr, IsErrOf};
 ghost use Rattle.disk.specs.Disk.{Failed};
 ghost use Rattle.gated_log.specs.declared.refusal.Refusal.TheVariants as refusal;
-ghost use Rattle.catalog.specs.Catalogs.{remembered, per_ledger, failed};
+ghost use Rattle.catalog.specs.Catalogs.{remembered, failed};
 ghost use Rattle.catalog.specs.Names.{has_name};
 ghost use Rattle.session.specs.Broker.{made, doubting, Settles, FindStep, IfFound, IfFailed};
 ghost use Rattle.session.specs.declared.port.Found.TheVariants as found;
 ghost use Rattle.node.specs.Standing.{broker_of, TopicsStand, Works, Fails};
-ghost use Rattle.node.specs.Naming.{Follows};
 
 use crate::held::Held;
 use crate::topics::Topics;
@@ -73,7 +72,7 @@ impl<T: TopicStore, S: Shelf> Topics<T, S> {
             return Ok(());
         }
         let again = Catalog::open(self.alloc, &mut self.shelf)?;
-        if !self.is_followed_by(&again) {
+        if !self.catalog.is_followed_by(&again) {
             drop(again);
             return Err(Refusal::Damaged {
                 file: FileId::Catalog,
@@ -102,15 +101,6 @@ impl<T: TopicStore, S: Shelf> Topics<T, S> {
         self.catalog = again;
         self.doubtful = None;
         Ok(())
-    }
-
-    // Whether a catalog has as many names as there are topics, or one more, and as many entries a ledger.
-    fn is_followed_by(&self, again: &Catalog) -> bool
-        ensures { IsTrue result ↔ Follows self.now.catalog again.now }
-    {
-        let count = self.held.len();
-        again.entries_per_ledger() == self.catalog.entries_per_ledger()
-            && (again.len() == count || again.len() == count + 1)
     }
 
     /// Makes the topic of a name that isn't there, where no name is in doubt and there is room for one more. All memory is taken

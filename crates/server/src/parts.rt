@@ -1,24 +1,23 @@
-// A broker's devices as threads share them.
+// A broker's devices.
 ghost use Rattle.std.specs.Prelude.{◌≡◌, IfOk, length};
 
 use crate::serving::Shelves;
 use std::alloc::{AllocError, Global};
-use topic_lock::{Spare, Tallies, TopicParts};
+use topic_lock::Devices;
 
-/// What is kept for topics that aren't there yet, each with a device of its own.
-pub(crate) fn spares<F: Shelves, K: Tallies>(
+/// The catalog's device, and one for each of so many topics.
+pub(crate) fn devices<F: Shelves>(
     alloc: Global,
     shelves: &F,
-    parts: Vec<TopicParts<K>>,
-) -> Result<Vec<Spare<F::Device, K>>, AllocError>
-    requires { length parts.items ≡ 64 }
-    ensures { IfOk result (λ spares. length spares.items ≡ 64) }
+    count: usize,
+) -> Result<Devices<F::Device>, AllocError>
+    ensures { IfOk result (λ devices. length devices.topics.items ≡ count) }
 {
-    let mut left = parts;
-    let mut spares = Vec::new(alloc);
-    while let Some(parts) = left.pop() {
+    let catalog = shelves.shelf()?;
+    let mut topics = Vec::new(alloc);
+    for _ in 0..count {
         let shelf = shelves.shelf()?;
-        spares.push(Spare { shelf, parts })?;
+        topics.push(shelf)?;
     }
-    Ok(spares)
+    Ok(Devices { catalog, topics })
 }

@@ -3,7 +3,7 @@ ghost use Rattle.std.specs.Prelude.{◌≡◌, length};
 ghost use Rattle.topic_lock.specs.Ledgers.{IsOf};
 
 use crate::fault::ServeFault;
-use crate::parts::spares;
+use crate::parts::devices;
 use crate::pool::Pool;
 use crate::threads::{Hall, serve_connections};
 use commands::ReplyText;
@@ -22,7 +22,8 @@ use std::thread::Threads;
 use std::time::Duration;
 use topic_core::FileStores;
 use topic_lock::{
-    Blanks, Flusher, Ledgers, PortShares, SharedBroker, Spare, Tallies, Totals, empty_places,
+    Blanks, Devices, Flusher, Ledgers, PortShares, SharedBroker, Tallies, TopicParts, Totals,
+    empty_places,
 };
 
 /// The ports of 256 connections, two for each.
@@ -116,11 +117,10 @@ where
         flushers,
         ports,
     } = Ledgers::<K>::open(alloc, blanks, PORTS)?;
-    let spares = spares(alloc, shelves, topics)?;
-    let shelf = shelves.shelf()?;
+    let devices = devices(alloc, shelves, topics.len())?;
     let address = address.as_str();
     serve_devices(
-        rt, alloc, address, shelf, spares, totals, flushers, ports, idle,
+        rt, alloc, address, devices, topics, totals, flushers, ports, idle,
     )
 }
 
@@ -129,8 +129,8 @@ fn serve_devices<S, K, R>(
     rt: &R,
     alloc: Global,
     address: &str,
-    shelf: S,
-    spares: Vec<Spare<S, K>>,
+    devices: Devices<S>,
+    topics: Vec<TopicParts<K>>,
     totals: Totals<K>,
     flushers: Vec<Flusher<K>>,
     ports: Vec<PortShares<K>>,
@@ -141,13 +141,16 @@ where
     K: Tallies + Send + Sync,
     R: Print + Log + Threads + Wait + Sync,
     R: Net<Stream = TcpStream, Listener = TcpListener>,
-    requires { length spares.items ≡ 64 }
+    requires { (length devices.topics.items ≡ 64) × (length topics.items ≡ 64) }
 {
     let url = service_url(alloc, address)?;
     let pool = Mutex::new(Pool::new(alloc, ports)?);
     let places = empty_places::<FileStores, S, K>(alloc)?;
     let places = places.as_slice();
-    let broker = SharedBroker::open(rt, alloc, url, shelf, places, spares, totals)?;
+    let broker = match SharedBroker::open(rt, alloc, url, devices, topics, places, totals) {
+        Ok(broker) => broker,
+        Err((why, _devices)) => return Err(why.into()),
+    };
     let hall = Hall {
         broker,
         pool,

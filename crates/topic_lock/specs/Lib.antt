@@ -6,4 +6,5 @@ pub mod Flushing
 pub mod Locked
 pub mod Granting
 pub mod Finding
+pub mod Opening
 pub mod Portions

@@ -1,8 +1,13 @@
 // What all ports of a server share.
-ghost use Rattle.std.specs.Prelude.{◌≡◌, ◌≤◌, ◌<◌, IfSome, length};
+ghost use Rattle.std.specs.Prelude.{◌≡◌, ◌⊎◌, ◌≤◌, ◌<◌, IfSome, IfOk, IfErr, length};
+ghost use Rattle.gated_log.specs.declared.refusal.Refusal.TheVariants.{Device, NoMemory};
+ghost use Rattle.topic_lock.specs.Opening.{AreHonest, AllOnlyRead, AnyFailed, FilesStand, IsFirstFault};
 
-use crate::directory::{LockedCatalog, SharedCatalog, Spare};
+use crate::devices::Devices;
+use crate::directory::{LockedCatalog, Room, SharedCatalog};
 use crate::ledgers::Totals;
+use crate::opening::open_parts;
+use crate::parts::TopicParts;
 use crate::places::Place;
 use crate::tally::Tallies;
 use bells::Bells;
@@ -10,7 +15,7 @@ use commands::ReplyText;
 use disk::Shelf;
 use gated_log::Refusal;
 use session::Found;
-use std::alloc::Global;
+use std::alloc::{AllocError, Global};
 use std::sync::atomic::{AtomicU64, Ordering};
 use std::sync::{Mutex, Wait};
 use topic_core::TopicStore;
@@ -27,20 +32,40 @@ pub struct SharedBroker<'a, T: TopicStore, S: Shelf + Drop, K: Tallies> {
 }
 
 impl<'a, T: TopicStore, S: Shelf + Drop, K: Tallies> SharedBroker<'a, T, S, K> {
-    /// Opens the catalog on its device and each of its topics on the device of its number, as `SharedCatalog::open` does.
+    /// Opens the catalog on its device and each of its topics on the device of its number, whatever their files hold, before any goes
+    /// behind its locks. Each file is synced once and read once, and nothing is written. The first fault that stands in them is told,
+    /// and a refusal hands the devices back.
     pub fn open<R: Wait>(
         rt: &R,
         alloc: Global,
         url: ReplyText,
-        shelf: S,
+        devices: Devices<S>,
+        shares: Vec<TopicParts<K>>,
         places: &'a [Place<T, S, K>],
-        spare: Vec<Spare<S, K>>,
         totals: Totals<K>,
-    ) -> Result<SharedBroker<'a, T, S, K>, Refusal>
-        requires all { (length places.now ≡ 64) × (length spare.items ≡ 64) }
+    ) -> Result<SharedBroker<'a, T, S, K>, (Refusal, Devices<S>)>
+        requires all { (length places.now ≡ 64) × (length devices.topics.items ≡ 64) × (length shares.items ≡ 64) }
+        ensures found { (S.disk devices.catalog).honest → AreHonest S.disk devices.topics.items → IfOk result (λ _. FilesStand S.disk T.stands devices) }
+        ensures faulty { (S.disk devices.catalog).honest → AreHonest S.disk devices.topics.items →
+            IfErr result (λ e. (e.0 ≡ NoMemory) ⊎ ((e.0 ≡ Device) ⊎ IsFirstFault S.disk T.stands T.faulty devices e.0)) }
+        ensures cause { IfErr result (λ e. e.0 ≡ Device → AnyFailed S.disk devices e.1) }
+        ensures read { IfErr result (λ e. AllOnlyRead S.disk (e.0 ≡ Device) devices e.1) }
     {
-        let bells = Bells::new(alloc)?;
-        let catalog = SharedCatalog::open(rt, alloc, &totals.durable, shelf, places, spare)?;
+        let mut devices = devices;
+        let (bells, room) = match take_memory(alloc) {
+            Ok(taken) => taken,
+            Err(AllocError) => return Err((Refusal::NoMemory, devices)),
+        };
+        let opened = match open_parts(alloc, &mut devices) {
+            Ok(opened) => opened,
+            Err(why) => {
+                drop(bells);
+                drop(room);
+                return Err((why, devices));
+            }
+        };
+        let tally = &totals.durable;
+        let catalog = SharedCatalog::share(rt, alloc, tally, opened, devices, shares, places, room);
         Ok(SharedBroker {
             url,
             catalog: Mutex::new(catalog),
@@ -49,6 +74,15 @@ impl<'a, T: TopicStore, S: Shelf + Drop, K: Tallies> SharedBroker<'a, T, S, K> {
             bells,
         })
     }
+}
+
+/// The memory that an opened broker takes beside its topics.
+fn take_memory<'a, T: TopicStore, S: Shelf + Drop, K: Tallies>(
+    alloc: Global,
+) -> Result<(Bells, Room<'a, T, S, K>), AllocError> {
+    let bells = Bells::new(alloc)?;
+    let room = Room::new(alloc)?;
+    Ok((bells, room))
 }
 
 /// Where a connection sits: its place, and which topics its session found, a bit for each.

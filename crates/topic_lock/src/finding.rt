@@ -1,5 +1,5 @@
 // Topics are found by their names, and made, under the catalog's lock.
-ghost use Rattle.std.specs.Prelude.{◌≡◌, ◌≢◌, ◌⊎◌, ◌+◌, ◌<◌, ◌≤◌, ◌++◌, [], ◌∷◌, false, true, length, IfOk, IfSome, OnOk, IsErr, IfErr};
+ghost use Rattle.std.specs.Prelude.{◌≡◌, ◌≢◌, ◌⊎◌, ◌+◌, ◌<◌, ◌≤◌, ◌++◌, [], ◌∷◌, Some, false, true, length, slice_get, vec_capacity, IfOk, IfSome, OnOk, IsErr, IfErr};
 ghost use Rattle.gated_log.specs.declared.refusal.Refusal.TheVariants.{NoMemory};
 ghost use Rattle.catalog.specs.Catalogs.{remembered, failed, Follows};
 ghost use Rattle.catalog.specs.Names.{has_name, number_of};
@@ -7,16 +7,18 @@ ghost use Rattle.session.specs.declared.port.Found.TheVariants.{Topic};
 ghost use Rattle.session.specs.Broker.{IfFound};
 ghost use Rattle.topic_lock.specs.Finding.{IsNumberOf};
 
-use crate::directory::{SharedCatalog, outage, share};
+use crate::directory::{SharedCatalog, Spare, outage, place_next};
 use crate::durable::DurableTally;
-use crate::opening::open_next;
-use crate::places::{Known, Place};
+use crate::opening::{name_of, open_part};
+use crate::part::OpenPart;
+use crate::places::Known;
 use crate::tally::Tallies;
 use catalog::Catalog;
 use disk::{FileId, Shelf};
 use gated_log::Refusal;
 use names::TopicName;
 use session::Found;
+use std::alloc::Global;
 use std::sync::Wait;
 use topic_core::{TopicCore, TopicStore};
 
@@ -108,7 +110,8 @@ impl<'a, T: TopicStore, S: Shelf + Drop, K: Tallies> SharedCatalog<'a, T, S, K> 
             spare,
             ..
         } = self;
-        open_next(rt, *alloc, tally, &again, *places, known, spare)?;
+        let part = open_next(*alloc, &again, known, spare)?;
+        place_next(rt, tally, *places, part, known, spare);
         *catalog = again;
         Ok(())
     }
@@ -128,7 +131,6 @@ impl<'a, T: TopicStore, S: Shelf + Drop, K: Tallies> SharedCatalog<'a, T, S, K> 
         ensures grows { length self.old.known.items ≤ length self.new.known.items }
     {
         let number = self.known.len();
-        let place = place_at(self.places, number);
         let per_ledger = self.catalog.entries_per_ledger();
         self.known.reserve(1)?;
         let added = name.clone()?;
@@ -143,22 +145,43 @@ impl<'a, T: TopicStore, S: Shelf + Drop, K: Tallies> SharedCatalog<'a, T, S, K> 
             per_ledger,
         )?;
         self.catalog.add(&mut self.shelf, added)?;
-        let Some(next) = self.spare.pop() else {
-            unreachable!();
+        let part = OpenPart {
+            number: number as u16,
+            name: own,
+            core,
+            stores,
         };
-        let topic = share(rt, tally, core, stores, own, number as u64, next);
-        let token = place.init(rt, move || topic);
-        self.known.push(Known::new(place, token)).unwrap();
+        let SharedCatalog {
+            places,
+            known,
+            spare,
+            ..
+        } = self;
+        place_next(rt, tally, *places, part, known, spare);
         Ok(number as u64)
     }
 }
 
-/// The place of a number.
-fn place_at<'a, T: TopicStore, S: Shelf + Drop, K: Tallies>(
-    places: &'a [Place<T, S, K>],
-    number: usize,
-) -> &'a Place<T, S, K>
-    requires { number < length places.now }
+/// Opens the topic of the next number of a catalog, for which there is room among those that are known then. A refusal leaves what is
+/// known.
+fn open_next<'a, T: TopicStore, S: Shelf + Drop, K: Tallies>(
+    alloc: Global,
+    catalog: &Catalog,
+    known: &mut Vec<Known<'a, T, S, K>>,
+    spare: &mut Vec<Spare<S, K>>,
+) -> Result<OpenPart<T>, Refusal>
+    requires all { length known.old.items + length spare.old.items ≡ 64 }
+    requires named { length known.old.items < length (remembered catalog.now) }
+    ensures room { OnOk result (length known.new.items < vec_capacity known.new) }
+    ensures number { IfOk result (λ part. (part.number ≡ length known.old.items) × (slice_get (remembered catalog.now) part.number ≡ Some part.name)) }
+    ensures same { (length known.new.items ≡ length known.old.items) × (length spare.new.items ≡ length spare.old.items) }
 {
-    &places[number]
+    known.reserve(1)?;
+    let number = known.len() as u16;
+    let name = name_of(catalog, number)?;
+    let Some(next) = spare.last_mut() else {
+        unreachable!();
+    };
+    let per_ledger = catalog.entries_per_ledger();
+    open_part(alloc, &mut next.shelf, number, name, per_ledger)
 }

@@ -7,6 +7,7 @@
 mod asking;
 mod broker;
 mod counted;
+mod devices;
 mod directory;
 mod durable;
 mod fault;
@@ -16,6 +17,7 @@ mod holding;
 mod ledgers;
 mod locked;
 mod opening;
+mod part;
 mod parts;
 mod places;
 mod portion;
@@ -30,6 +32,7 @@ mod waiting;
 
 pub use broker::{Seat, SharedBroker};
 pub use counted::{AcceptedTally, CountedTopic, HandedTally, LockedCore, TopicShares};
+pub use devices::Devices;
 pub use directory::{LockedCatalog, SharedCatalog, Spare};
 pub use durable::{Durable, DurableByStores, DurableByTopics, DurableTally};
 pub use fault::FlushFault;

@@ -19,7 +19,7 @@ use std::thread::Threads;
 use std::{io, thread};
 use topic_core::FileStores;
 use topic_lock::{
-    Blanks, Ledgers, Place, SharedBroker, Spare, Tallies, TopicParts, Totals, empty_places,
+    Blanks, Devices, Ledgers, Place, SharedBroker, Tallies, TopicParts, Totals, empty_places,
 };
 
 // So many connections the client makes in all.
@@ -67,21 +67,15 @@ fn catalog_shelf(alloc: Global) -> Result<MemShelf, Refusal> {
     Ok(shelf)
 }
 
-// What is kept for topics that aren't there yet.
-fn spares<K: Tallies>(
-    alloc: Global,
-    parts: Vec<TopicParts<K>>,
-) -> Result<Vec<Spare<MemShelf, K>>, AllocError>
-    requires { length parts.items ≡ 64 }
-    ensures { IfOk result (λ spares. length spares.items ≡ 64) }
+// A device for each of so many topics.
+fn shelves(alloc: Global, count: usize) -> Result<Vec<MemShelf>, AllocError>
+    ensures { IfOk result (λ shelves. length shelves.items ≡ count) }
 {
-    let mut left = parts;
-    let mut spares = Vec::new(alloc);
-    while let Some(parts) = left.pop() {
-        let shelf = MemShelf::new(alloc);
-        spares.push(Spare { shelf, parts })?;
+    let mut shelves = Vec::new(alloc);
+    for _ in 0..count {
+        shelves.push(MemShelf::new(alloc))?;
     }
-    Ok(spares)
+    Ok(shelves)
 }
 
 // Sends a frame, and tells whether these bytes come next.
@@ -160,9 +154,13 @@ fn new_broker<'a, K: Tallies, R: Wait>(
     requires { (length places.now ≡ 64) × (length parts.items ≡ 64) }
 {
     let url = ReplyText::new(String::from_str(alloc, "pulsar://test")?);
-    let shelf = catalog_shelf(alloc)?;
-    let spares = spares(alloc, parts)?;
-    SharedBroker::open(rt, alloc, url, shelf, places, spares, totals)
+    let catalog = catalog_shelf(alloc)?;
+    let topics = shelves(alloc, parts.len())?;
+    let devices = Devices { catalog, topics };
+    match SharedBroker::open(rt, alloc, url, devices, parts, places, totals) {
+        Ok(broker) => Ok(broker),
+        Err((why, _devices)) => Err(why),
+    }
 }
 
 // A client in another thread than the server, where the system has a socket for it.
