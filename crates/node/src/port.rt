@@ -5,7 +5,8 @@ use commands::Reply;
 use disk::Shelf;
 use names::TopicName;
 use permits::{Granter, TooManyPermits};
-use session::{Found, Port};
+use session::{Found, Member, Plain, Port};
+use std::snapshot::Snapshot;
 use topic_core::{Answer, Outgoing, ReadError, TopicCommand, TopicStore};
 
 impl<T: TopicStore, S: Shelf> Port for Topics<T, S> {
@@ -25,6 +26,20 @@ impl<T: TopicStore, S: Shelf> Port for Topics<T, S> {
 
     ghost refuses = { Refuses S.disk };
 
+    type Answered = Plain<TopicCommand, Answer>;
+
+    type Sent = Plain<u64, Result<Option<Outgoing>, ReadError>>;
+
+    type Had = Plain<Member, bool>;
+
+    type Looked = Plain<u64, ()>;
+
+    type Quiet = Plain<(), bool>;
+
+    type Collected = Plain<(), Option<Reply>>;
+
+    type Left = Plain<(), ()>;
+
     fn service_url(&self) -> &str {
         self.url.as_str()
     }
@@ -33,16 +48,18 @@ impl<T: TopicStore, S: Shelf> Port for Topics<T, S> {
         self.held.len() as u64
     }
 
-    fn has_producer(&self, topic: u64, who: u64, producer_id: u64) -> bool {
-        self.held[topic as usize]
+    fn has_producer(&self, topic: u64, who: u64, producer_id: u64) -> Plain<Member, bool> {
+        let has = self.held[topic as usize]
             .core
-            .has_producer(who, producer_id)
+            .has_producer(who, producer_id);
+        Plain::new(topic, who, &Member::Producer(producer_id), has)
     }
 
-    fn has_consumer(&self, topic: u64, who: u64, consumer_id: u64) -> bool {
-        self.held[topic as usize]
+    fn has_consumer(&self, topic: u64, who: u64, consumer_id: u64) -> Plain<Member, bool> {
+        let has = self.held[topic as usize]
             .core
-            .has_consumer(who, consumer_id)
+            .has_consumer(who, consumer_id);
+        Plain::new(topic, who, &Member::Consumer(consumer_id), has)
     }
 
     fn find(&mut self, name: &TopicName) -> Found {
@@ -50,9 +67,21 @@ impl<T: TopicStore, S: Shelf> Port for Topics<T, S> {
     }
 
     #[inline(always)]
-    fn command(&mut self, topic: u64, who: u64, command: TopicCommand) -> Answer {
+    fn command(
+        &mut self,
+        topic: u64,
+        who: u64,
+        command: TopicCommand,
+    ) -> Plain<TopicCommand, Answer> {
+        let asked = Snapshot::of(&command);
         self.uses.mark(who, topic);
-        self.held[topic as usize].command(who, command)
+        let said = self.held[topic as usize].command(who, command);
+        Plain {
+            topic,
+            who,
+            asked,
+            said,
+        }
     }
 
     // The topics keep the granters.
@@ -72,32 +101,53 @@ impl<T: TopicStore, S: Shelf> Port for Topics<T, S> {
     }
 
     // A topic knows all that was granted.
-    fn look(&mut self, _topic: u64, _who: u64, _consumer_id: u64) {}
+    fn look(&mut self, topic: u64, who: u64, consumer_id: u64) -> Plain<u64, ()> {
+        Plain::new(topic, who, &consumer_id, ())
+    }
 
     fn dispatch(
         &mut self,
         topic: u64,
         who: u64,
         consumer_id: u64,
-    ) -> Result<Option<Outgoing>, ReadError> {
-        self.held[topic as usize].dispatch(&mut self.shelf, who, consumer_id)
+    ) -> Plain<u64, Result<Option<Outgoing>, ReadError>> {
+        let said = self.held[topic as usize].dispatch(&mut self.shelf, who, consumer_id);
+        Plain {
+            topic,
+            who,
+            asked: Snapshot::of(&consumer_id),
+            said,
+        }
     }
 
-    fn is_quiet(&mut self, topic: u64, who: u64) -> bool {
-        self.held[topic as usize].is_quiet(who)
+    fn is_quiet(&mut self, topic: u64, who: u64) -> Plain<(), bool> {
+        let said = self.held[topic as usize].is_quiet(who);
+        Plain {
+            topic,
+            who,
+            asked: Snapshot::of(&()),
+            said,
+        }
     }
 
     fn next_due(&self, who: u64, from: u64) -> Option<u64> {
         self.uses.next(who, from, self.count())
     }
 
-    fn collect(&mut self, topic: u64, who: u64) -> Option<Reply> {
-        self.held[topic as usize].collect(who)
+    fn collect(&mut self, topic: u64, who: u64) -> Plain<(), Option<Reply>> {
+        let said = self.held[topic as usize].collect(who);
+        Plain {
+            topic,
+            who,
+            asked: Snapshot::of(&()),
+            said,
+        }
     }
 
-    fn leave(&mut self, topic: u64, who: u64) {
+    fn leave(&mut self, topic: u64, who: u64) -> Plain<(), ()> {
         self.held[topic as usize].leave(who);
         self.uses.forget(who, topic);
+        Plain::new(topic, who, &(), ())
     }
 
     ghost use Rattle.std.proofs.Common.{sym};

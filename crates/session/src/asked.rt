@@ -4,6 +4,7 @@ ghost use Rattle.session.specs.Asking.{Knows};
 ghost use Rattle.session.specs.Noting.{AreQuiet};
 
 use crate::port::Port;
+use crate::told::hear;
 
 /// What a topic answered that a pump asked for messages: whether it has none for the session's consumers.
 #[derive(Clone, Copy)]
@@ -29,7 +30,7 @@ pub(crate) fn ask<P: Port>(topic: u64, who: u64, last: Option<Asked>, port: &mut
             is_quiet: false,
         };
     }
-    let is_quiet = port.is_quiet(topic, who);
+    let is_quiet = hear(port.is_quiet(topic, who));
     Asked { topic, is_quiet }
 }
 

@@ -11,6 +11,7 @@ use crate::entry::Entry;
 use crate::listing::Listed;
 use crate::port::Port;
 use crate::roll::{Roll, look_each};
+use crate::told::hear;
 use permits::{Granter, TooManyPermits};
 use std::alloc::{AllocError, Global};
 use std::marker::Model;
@@ -245,7 +246,7 @@ fn is_live<P: Port>(port: &P, who: u64, entry: Entry) -> bool
     if entry.topic >= port.topics() {
         return false;
     }
-    port.has_consumer(entry.topic, who, entry.id)
+    hear(port.has_consumer(entry.topic, who, entry.id))
 }
 
 /// Drops the consumers that the session doesn't have any more.

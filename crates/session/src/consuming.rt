@@ -17,6 +17,7 @@ use crate::hash_ranges::ranges_of;
 use crate::port::{Found, Port};
 use crate::session::Session;
 use crate::table::if_there;
+use crate::told::hear;
 use crate::topic_name::read_name;
 use commands::{Ack, Flow, Reply, ServerError, Subscribe, SubscriptionType, Unsubscribe};
 use holds::SlotRanges;
@@ -147,7 +148,7 @@ impl Session {
                 return Err(error);
             }
         };
-        let answer = port.command(topic, self.number, subscribe_command(asked, ranges));
+        let answer = hear(port.command(topic, self.number, subscribe_command(asked, ranges)));
         keep_if(&mut self.consumers, is_later(&answer), place, port);
         self.answer(&answer, out);
         drop(answer);
@@ -203,7 +204,7 @@ impl Session {
             return self.refuse_ack(asked.request_id, asked.consumer_id, out);
         };
         let command = TopicCommand::Ack(asked);
-        let answer = port.command(topic, self.number, command);
+        let answer = hear(port.command(topic, self.number, command));
         self.answer(&answer, out);
         drop(answer);
     }
@@ -241,7 +242,7 @@ impl Session {
             return self.refuse_consumer(asked.request_id, ServerError::ConsumerNotFound, out);
         };
         let command = TopicCommand::Unsubscribe(asked);
-        let answer = port.command(topic, self.number, command);
+        let answer = hear(port.command(topic, self.number, command));
         self.answer(&answer, out);
         drop(answer);
     }

@@ -3,6 +3,7 @@ ghost use Rattle.session.specs.GivingBack.{CloseConsumerStep, RedeliverStep};
 
 use crate::port::Port;
 use crate::session::Session;
+use crate::told::hear;
 use commands::{CloseConsumer, Redeliver, ServerError};
 use topic_core::TopicCommand;
 
@@ -24,7 +25,7 @@ impl Session {
             return self.refuse_consumer(asked.request_id, ServerError::ConsumerNotFound, out);
         };
         let command = TopicCommand::CloseConsumer(asked);
-        let answer = port.command(topic, self.number, command);
+        let answer = hear(port.command(topic, self.number, command));
         self.answer(&answer, out);
         drop(answer);
     }
@@ -40,7 +41,7 @@ impl Session {
             return;
         };
         let command = TopicCommand::Redeliver(asked);
-        let answer = port.command(topic, self.number, command);
+        let answer = hear(port.command(topic, self.number, command));
         self.answer(&answer, out);
         drop(answer);
     }

@@ -25,6 +25,7 @@ mod roll;
 mod session;
 mod speaker;
 mod table;
+mod told;
 mod topic_name;
 mod working;
 
@@ -38,3 +39,4 @@ pub use listing::List;
 pub use port::{Found, Port};
 pub use pumping::{More, PumpFault};
 pub use session::Session;
+pub use told::{Ear, Member, Plain, Told};

@@ -1,8 +1,10 @@
 ghost use Rattle.std.specs.Prelude.{◌≡◌, ◌<◌, ◌≤◌, ℕ, true, length, IfSome, IfErr};
 ghost use Rattle.gated_log.specs.declared.read_error.ReadError.{ReadError};
 ghost use Rattle.topic_core.specs.Steps.{has_producer, has_consumer, Fits};
+ghost use Rattle.session.specs.declared.told.Member.TheVariants.{Producer as IsProducer, Consumer as IsConsumer};
 ghost use Rattle.session.specs.Broker.{Broker, topic_at, FindStep, IfFound, IfFailed, CommandStep, GrantAt, DispatchAt, SendsTo, IsQuiet, PassesOver, CollectedAt, left_at};
 
+use crate::told::{Member, Told};
 use commands::Reply;
 use names::TopicName;
 use permits::{Granter, TooManyPermits};
@@ -24,6 +26,27 @@ pub enum Found {
 
 /// What a session asks of a broker.
 pub trait Port {
+    /// What a topic answers a command.
+    type Answered: Told<Question = TopicCommand, Said = Answer>;
+
+    /// What a topic gives a consumer, of this id.
+    type Sent: Told<Question = u64, Said = Result<Option<Outgoing>, ReadError>>;
+
+    /// Whether a session has a producer or a consumer there.
+    type Had: Told<Question = Member, Said = bool>;
+
+    /// That a topic looked what was granted to a consumer, of this id.
+    type Looked: Told<Question = u64, Said = ()>;
+
+    /// Whether a topic has nothing for the consumers of a session.
+    type Quiet: Told<Question = (), Said = bool>;
+
+    /// The first reply that a topic had due.
+    type Collected: Told<Question = (), Said = Option<Reply>>;
+
+    /// That a session left a topic.
+    type Left: Told<Question = (), Said = ()>;
+
     /// The abstract broker.
     ghost broker: { Self → Broker };
 
@@ -55,14 +78,16 @@ pub trait Port {
         ensures { result ≡ count self.now };
 
     /// Whether the session has this producer on the topic, open or closing.
-    fn has_producer(&self, topic: u64, who: u64, producer_id: u64) -> bool
+    fn has_producer(&self, topic: u64, who: u64, producer_id: u64) -> Self::Had
         requires { topic < count self.now }
-        ensures { sole self.now → result ≡ has_producer (topic_at (broker self.now) topic) who producer_id };
+        ensures about { (Self.Had.topic result ≡ topic) × (Self.Had.who result ≡ who) × (Self.Had.asked result ≡ IsProducer producer_id) }
+        ensures told { sole self.now → Self.Had.said result ≡ has_producer (topic_at (broker self.now) topic) who producer_id };
 
     /// Whether the session has this consumer on the topic.
-    fn has_consumer(&self, topic: u64, who: u64, consumer_id: u64) -> bool
+    fn has_consumer(&self, topic: u64, who: u64, consumer_id: u64) -> Self::Had
         requires { topic < count self.now }
-        ensures { sole self.now → result ≡ has_consumer (topic_at (broker self.now) topic) who consumer_id };
+        ensures about { (Self.Had.topic result ≡ topic) × (Self.Had.who result ≡ who) × (Self.Had.asked result ≡ IsConsumer consumer_id) }
+        ensures told { sole self.now → Self.Had.said result ≡ has_consumer (topic_at (broker self.now) topic) who consumer_id };
 
     /// The number of the topic of this name, which is made where it isn't there.
     fn find(&mut self, name: &TopicName) -> Found
@@ -72,10 +97,11 @@ pub trait Port {
         ensures works { works self.old self.new };
 
     /// Has a topic work a session's command.
-    fn command(&mut self, topic: u64, who: u64, command: TopicCommand) -> Answer
+    fn command(&mut self, topic: u64, who: u64, command: TopicCommand) -> Self::Answered
         requires { topic < count self.old }
-        ensures step { sole self.old → CommandStep (broker self.old) topic who command result (broker self.new) }
-        ensures fits { Fits command result }
+        ensures about { (Self.Answered.topic result ≡ topic) × (Self.Answered.who result ≡ who) × (Self.Answered.asked result ≡ command) }
+        ensures step { sole self.old → CommandStep (broker self.old) topic who command (Self.Answered.said result) (broker self.new) }
+        ensures fits { Fits command (Self.Answered.said result) }
         ensures passes { passes self.old self.new };
 
     /// The granter of the consumer that the session subscribed last, where the session is to keep it. It is given once.
@@ -97,29 +123,27 @@ pub trait Port {
         ensures passes { passes self.old self.new };
 
     /// Looks what the session granted to a consumer, where it may have granted permits since it was looked last. Changes nothing.
-    fn look(&mut self, topic: u64, who: u64, consumer_id: u64)
+    fn look(&mut self, topic: u64, who: u64, consumer_id: u64) -> Self::Looked
         requires { topic < count self.old }
+        ensures about { (Self.Looked.topic result ≡ topic) × (Self.Looked.who result ≡ who) × (Self.Looked.asked result ≡ consumer_id) }
         ensures same { sole self.old → broker self.new ≡ broker self.old }
         ensures passes { passes self.old self.new };
 
     /// A message for a consumer of the session, which holds it from then on.
-    fn dispatch(
-        &mut self,
-        topic: u64,
-        who: u64,
-        consumer_id: u64,
-    ) -> Result<Option<Outgoing>, ReadError>
+    fn dispatch(&mut self, topic: u64, who: u64, consumer_id: u64) -> Self::Sent
         requires { topic < count self.old }
-        ensures step { sole self.old → DispatchAt (broker self.old) topic who consumer_id result (broker self.new) }
-        ensures sends { SendsTo consumer_id result }
-        ensures refused { IfErr result (λ why. refuses self.old why self.new) }
+        ensures about { (Self.Sent.topic result ≡ topic) × (Self.Sent.who result ≡ who) × (Self.Sent.asked result ≡ consumer_id) }
+        ensures step { sole self.old → DispatchAt (broker self.old) topic who consumer_id (Self.Sent.said result) (broker self.new) }
+        ensures sends { SendsTo consumer_id (Self.Sent.said result) }
+        ensures refused { IfErr (Self.Sent.said result) (λ why. refuses self.old why self.new) }
         ensures passes { passes self.old self.new };
 
     /// Whether a topic has nothing for the consumers of a session. Changes nothing.
-    fn is_quiet(&mut self, topic: u64, who: u64) -> bool
+    fn is_quiet(&mut self, topic: u64, who: u64) -> Self::Quiet
         requires { topic < count self.old }
+        ensures about { (Self.Quiet.topic result ≡ topic) × (Self.Quiet.who result ≡ who) }
         ensures same { sole self.old → broker self.new ≡ broker self.old }
-        ensures none { sole self.old → result ≡ true → IsQuiet (broker self.old) topic who }
+        ensures none { sole self.old → Self.Quiet.said result ≡ true → IsQuiet (broker self.old) topic who }
         ensures passes { passes self.old self.new };
 
     /// The first topic from this number on that may have something due to the session. Those that are passed over have nothing.
@@ -128,14 +152,16 @@ pub trait Port {
         ensures passed_over { sole self.now → PassesOver (broker self.now) who from result };
 
     /// Takes the first reply that a topic has due to the session.
-    fn collect(&mut self, topic: u64, who: u64) -> Option<Reply>
+    fn collect(&mut self, topic: u64, who: u64) -> Self::Collected
         requires { topic < count self.old }
-        ensures step { sole self.old → CollectedAt (broker self.old) topic who result (broker self.new) }
+        ensures about { (Self.Collected.topic result ≡ topic) × (Self.Collected.who result ≡ who) }
+        ensures step { sole self.old → CollectedAt (broker self.old) topic who (Self.Collected.said result) (broker self.new) }
         ensures passes { passes self.old self.new };
 
     /// The session leaves a topic.
-    fn leave(&mut self, topic: u64, who: u64)
+    fn leave(&mut self, topic: u64, who: u64) -> Self::Left
         requires { topic < count self.old }
+        ensures about { (Self.Left.topic result ≡ topic) × (Self.Left.who result ≡ who) }
         ensures step { sole self.old → broker self.new ≡ left_at (broker self.old) topic who }
         ensures passes { passes self.old self.new };
 

@@ -12,6 +12,7 @@ use crate::fault::Fault;
 use crate::port::{Found, Port};
 use crate::session::Session;
 use crate::table::{has_entry, known_topic};
+use crate::told::hear;
 use crate::topic_name::read_name;
 use commands::{CloseProducer, Producer, Reply, ReplyText, Send, ServerError, Text};
 use frames::FrameEntry;
@@ -132,7 +133,7 @@ impl Session {
             request_id,
             producer_name,
         };
-        let answer = port.command(topic, self.number, command);
+        let answer = hear(port.command(topic, self.number, command));
         keep(&mut self.producers, is_success(&answer), producer_id, topic);
         self.answer(&answer, out);
         drop(answer);
@@ -187,7 +188,7 @@ impl Session {
             num_messages: asked.num_messages,
             entry,
         });
-        let answer = port.command(topic, self.number, command);
+        let answer = hear(port.command(topic, self.number, command));
         self.answer(&answer, out);
         drop(answer);
     }
@@ -204,7 +205,7 @@ impl Session {
             return self.refuse_producer(asked.request_id, ServerError::NotAllowedError, out);
         };
         let command = TopicCommand::CloseProducer(asked);
-        let answer = port.command(topic, self.number, command);
+        let answer = hear(port.command(topic, self.number, command));
         self.answer(&answer, out);
         drop(answer);
     }
@@ -217,7 +218,7 @@ fn is_live<P: Port>(port: &P, who: u64, entry: &Entry) -> bool
     if entry.topic >= port.topics() {
         return false;
     }
-    port.has_producer(entry.topic, who, entry.id)
+    hear(port.has_producer(entry.topic, who, entry.id))
 }
 
 /// Drops the producers that the session doesn't have any more.

@@ -12,6 +12,7 @@ use crate::port::Port;
 use crate::roll::Roll;
 use crate::session::Session;
 use crate::speaker::Speaker;
+use crate::told::hear;
 use disk::FileId;
 use thiserror::Error;
 use topic_core::ReadError;
@@ -176,7 +177,7 @@ impl Speaker {
         ensures speaks { Speaks self.old out.old.items self.new out.new.items }
         ensures passes { P.passes port.old port.new }
     {
-        let Some(reply) = port.collect(topic, self.number()) else {
+        let Some(reply) = hear(port.collect(topic, self.number())) else {
             return false;
         };
         self.say(&reply, out);
@@ -332,7 +333,7 @@ impl Speaker {
         ensures speaks { Speaks self.old out.old.items self.new out.new.items }
         ensures passes { P.passes port.old port.new }
     {
-        match port.dispatch(consumer.topic, self.number(), consumer.id) {
+        match hear(port.dispatch(consumer.topic, self.number(), consumer.id)) {
             Ok(Some(message)) => {
                 self.hand_out(&message, out);
                 drop(message);

@@ -4,6 +4,7 @@ ghost use Rattle.session.specs.Noting.{AreNoted};
 
 use crate::entry::Entry;
 use crate::port::Port;
+use crate::told::hear;
 
 /// The consumers that a pump serves, in rising id.
 pub(crate) trait Roll {
@@ -48,6 +49,6 @@ fn look_at<R: Roll, P: Port>(roll: &R, place: usize, who: u64, port: &mut P)
     }
     let Entry { id, topic } = roll.at(place);
     if topic < port.topics() {
-        port.look(topic, who, id);
+        hear(port.look(topic, who, id));
     }
 }

@@ -6,6 +6,7 @@ use crate::consumers::Consumers;
 use crate::entry::Entry;
 use crate::fault::Fault;
 use crate::port::Port;
+use crate::told::hear;
 use commands::Reply;
 use frames::{Parser, write_frame};
 use std::alloc::Global;
@@ -117,6 +118,6 @@ pub(crate) fn leave_all<P: Port>(who: u64, port: &mut P)
     ensures passes { P.passes port.old port.new }
 {
     for topic in 0..port.topics() {
-        port.leave(topic, who);
+        hear(port.leave(topic, who));
     }
 }

@@ -7,9 +7,9 @@ use Rattle.topic_stores.specs.Views.{StoreView}
 use Rattle.topic_stores.specs.Writing.{Fits, Remembers}
 use Rattle.topic_core.specs.State.{Topic, entries_of}
 use Rattle.topic_core.specs.Flush.{finished, taken_back, failed}
-use Rattle.topic_lock.specs.declared.flushing.Taken.{Taken}
-use Rattle.topic_lock.specs.declared.flushing.Taken.TheVariants as taken
-use Rattle.topic_lock.specs.declared.flushing.Flushed.{Flushed}
+use Rattle.topic_lock.specs.declared.counted.flushing.Taken.{Taken}
+use Rattle.topic_lock.specs.declared.counted.flushing.Taken.TheVariants as taken
+use Rattle.topic_lock.specs.declared.counted.flushing.Flushed.{Flushed}
 use Rattle.topic_lock.specs.declared.fault.FlushFault.{FlushFault}
 use Rattle.topic_lock.specs.declared.fault.FlushFault.TheVariants.{Device, NoMemory, Apart}
 

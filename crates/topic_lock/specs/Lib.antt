@@ -5,6 +5,8 @@ pub mod Ends
 pub mod Flushing
 pub mod Locked
 pub mod Granting
+pub mod Handing
+pub mod Hearing
 pub mod Finding
 pub mod Opening
 pub mod Portions

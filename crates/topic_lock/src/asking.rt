@@ -1,20 +1,57 @@
 // What a connection asks of a topic, and who is woken for it.
-ghost use Rattle.std.specs.Prelude.{◌≡◌, IfOk, IfSome};
-ghost use Rattle.topic_core.specs.Dispatch.{IsMessageTo};
+ghost use Rattle.std.specs.Prelude.{◌≡◌};
+ghost use Rattle.std.specs.Sync.Mutex.{mutex_guard_value};
+ghost use Rattle.session.specs.Broker.{SendsTo};
 
-use crate::counted::CountedTopic;
-use crate::holding::Hold;
+use crate::counted::{CountedTopic, Heard, Sent};
+use crate::holding::{Hold, is_message};
 use crate::places::SharedTopic;
 use crate::tally::Tallies;
-use bells::Bells;
+use bells::{Bells, Marks};
 use disk::Shelf;
-use std::sync::Wait;
-use topic_core::{AtHand, Outgoing, ReadError, Send, SentEntry, TopicCommand, TopicStore};
+use std::sync::{MutexGuard, Wait};
+use topic_core::{Send, SentEntry, TopicCommand, TopicStore};
 
 /// So long an entry is at most, in bytes; a topic refuses a longer one whatever room it has. Our own rule.
 const LONGEST_ENTRY: usize = 1_048_576;
 
 impl<T: TopicStore, S: Shelf + Drop, K: Tallies> SharedTopic<T, S, K> {
+    /// The topic's lock: what is behind it has this number.
+    pub(crate) fn lock<'t, R: Wait>(
+        &'t self,
+        rt: &R,
+        number: u64,
+    ) -> MutexGuard<'t, CountedTopic<K>>
+        ensures { (mutex_guard_value result).number ≡ number }
+    {
+        for _ in rt.forever() {
+            let topic = self.topic.lock(rt);
+            if topic.number() == number {
+                return topic;
+            }
+            drop(topic);
+        }
+        unreachable!()
+    }
+
+    /// The lock that is held already, where it is of the topic of this number, or one that is taken.
+    fn hold<'t, R: Wait>(
+        &'t self,
+        rt: &R,
+        bells: &Bells,
+        number: u64,
+        held: Option<Hold<'t, T, S, K>>,
+    ) -> Hold<'t, T, S, K>
+        ensures { (mutex_guard_value result.topic).number ≡ number }
+    {
+        match held {
+            Some(hold) if hold.topic.number() == number => return hold,
+            Some(hold) => hold.release(bells),
+            None => {}
+        }
+        Hold::new(None, self.lock(rt, number))
+    }
+
     /// The topic's lock, for the connection at this place, with room for an entry of this length, or where none has to be waited
     /// for: the topic has failed, or the entry is too long for any. One that is held already is kept, but not in a wait. Who had to
     /// wait and is let in calls the next who waits; who isn't let in calls nobody, as it would be called itself.
@@ -26,20 +63,19 @@ impl<T: TopicStore, S: Shelf + Drop, K: Tallies> SharedTopic<T, S, K> {
         place: u8,
         length: Option<usize>,
         held: Option<Hold<'t, T, S, K>>,
-    ) -> Hold<'t, T, S, K> {
-        let mut hold = match held {
-            Some(hold) => hold,
-            None => Hold::new(None, self.topic.lock(rt), number),
-        };
+    ) -> Hold<'t, T, S, K>
+        ensures { (mutex_guard_value result.topic).number ≡ number }
+    {
+        let mut held = held;
         let mut waited = false;
         for _ in rt.forever() {
+            let mut hold = self.hold(rt, bells, number, held.take());
             if hold.topic.lets_in(place, length) {
                 hold.calls_reader = waited || hold.calls_reader;
                 return hold;
             }
             hold.release(bells);
             bells.wait_reader(rt, place);
-            hold = Hold::new(None, self.topic.lock(rt), number);
             waited = true;
         }
         unreachable!()
@@ -51,48 +87,64 @@ impl<T: TopicStore, S: Shelf + Drop, K: Tallies> SharedTopic<T, S, K> {
         &'t self,
         rt: &R,
         bells: &Bells,
+        number: u64,
         held: Hold<'t, T, S, K>,
         place: u8,
         who: u64,
         consumer_id: u64,
-    ) -> (Hold<'t, T, S, K>, Result<Option<Outgoing>, ReadError>)
-        ensures message { IfOk result.1 (λ sent. IfSome sent (λ outgoing. IsMessageTo consumer_id outgoing)) }
+    ) -> (Hold<'t, T, S, K>, Heard<u64, Sent>)
+        requires { (mutex_guard_value held.topic).number ≡ number }
+        ensures about { (result.1.topic ≡ number) × (result.1.who ≡ who) × (result.1.asked.value ≡ consumer_id) }
+        ensures message { SendsTo consumer_id result.1.said }
     {
         let mut hold = held;
-        let mut next = hold.dispatch(place, who, consumer_id);
-        if matches!(&next, Ok(AtHand::Unread)) {
-            let number = hold.number;
-            hold.release(bells);
-            let stores = self.stores.lock(rt);
-            hold = Hold::new(Some(stores), self.topic.lock(rt), number);
-            next = hold.dispatch(place, who, consumer_id);
+        if let Some(heard) = hold.next_at_hand(place, who, consumer_id) {
+            return (hold, heard);
         }
-        let sent = match next {
-            Ok(AtHand::Message(outgoing)) => Ok(Some(outgoing)),
-            Ok(AtHand::Nothing | AtHand::Unread) => Ok(None),
-            Err(why) => Err(why),
-        };
-        (hold, sent)
+        hold.release(bells);
+        let mut stores = self.stores.lock(rt);
+        let mut topic = self.lock(rt, number);
+        let heard = topic.read_next(&mut *stores, who, consumer_id);
+        if !is_message(heard.said()) {
+            topic.waiting.starve(place);
+        }
+        (Hold::new(Some(stores), topic), heard)
     }
 
     /// The session of the connection at this place leaves. What it sent stays; what its consumers held is given back.
-    pub(crate) fn leave<R: Wait>(&self, rt: &R, bells: &Bells, place: u8, who: u64) {
-        let mut topic = self.topic.lock(rt);
-        topic.leave(who);
+    pub(crate) fn leave<R: Wait>(
+        &self,
+        rt: &R,
+        bells: &Bells,
+        number: u64,
+        place: u8,
+        who: u64,
+    ) -> Heard<(), ()>
+        ensures { (result.topic ≡ number) × (result.who ≡ who) }
+    {
+        let mut topic = self.lock(rt, number);
+        let heard = topic.leave(who);
+        let hungry = if topic.waiting.members.has(place) {
+            topic.waiting.take_hungry()
+        } else {
+            Marks::new()
+        };
         topic.waiting.members.leave(place);
-        let hungry = topic.waiting.take_hungry();
         drop(topic);
         bells.ring_all(&hungry);
+        heard
     }
 }
 
 impl<K: Tallies> CountedTopic<K> {
     /// Whether a reader at this place needn't wait with an entry of this length. One that has to is called when there may be room.
-    fn lets_in(&mut self, place: u8, length: Option<usize>) -> bool {
+    fn lets_in(&mut self, place: u8, length: Option<usize>) -> bool
+        ensures { self.new.number ≡ self.old.number }
+    {
         let Some(length) = length else {
             return true;
         };
-        if length > LONGEST_ENTRY || self.core.is_failed() || self.core.has_room(length) {
+        if length > LONGEST_ENTRY || self.is_failed() || self.has_room(length) {
             self.waiting.crowd.leave(place);
             return true;
         }
@@ -102,7 +154,7 @@ impl<K: Tallies> CountedTopic<K> {
 
     /// The next reader that waits for room, where it may find some, or needn't wait.
     pub(crate) fn next_reader(&mut self) -> Option<u8> {
-        if !self.core.is_failed() && !self.core.has_room(0) {
+        if !self.is_failed() && !self.has_room(0) {
             return None;
         }
         self.waiting.crowd.call()

@@ -110,12 +110,6 @@ impl Seat {
         }
         found
     }
-
-    /// Whether the session found this topic.
-    pub(crate) fn uses(&self, topic: u64) -> bool {
-        self.used.load(Ordering::SeqCst) & bit(topic) != 0
-    }
-
     /// The first topic from this number on that the session found.
     pub(crate) fn first_used(&self, from: u64) -> Option<u64>
         ensures { IfSome result (λ topic. from ≤ topic) }

@@ -1,14 +1,20 @@
-// A topic with its shares.
-ghost use Rattle.std.specs.Prelude.{◌≡◌, ◌+◌, ◌<◌, ◌≤◌, ℕ, false, true, length, Ok, IfOk, IfErr, IfSome, IsErr, IsErrOf};
+// A topic with its shares, and what it tells sessions. Its calls alone reach the topic itself.
+pub(crate) mod flushing;
+mod reopening;
+
+ghost use Rattle.std.specs.Prelude.{◌≡◌, ◌+◌, ◌<◌, ◌≤◌, ℕ, false, true, length, Ok, IfOk, IfErr, IfSome, IfNone, IsErr, IsErrOf};
 ghost use Rattle.disk.specs.Disk.{Same, Leaves, Kept, Failed};
 ghost use Rattle.gated_log.specs.declared.read_error.ReadError.TheVariants.{Device};
 ghost use Rattle.subscriptions.specs.Steps.{IsLearnt};
 ghost use Rattle.topic_core.specs.State.{Topic, CountsStay};
-ghost use Rattle.topic_core.specs.Steps.{TopicStep, Collects, Fits, key_of, left, learnt, HasLearnt, has_producer, has_consumer};
+ghost use Rattle.topic_core.specs.Steps.{TopicStep, Collects, has_room, Fits, key_of, left, learnt, HasLearnt, has_producer, has_consumer};
 ghost use Rattle.topic_core.specs.declared.dispatch.AtHand.TheVariants.{Nothing};
 ghost use Rattle.topic_core.specs.Dispatch.{Admits, DispatchStep, AtHandStep, IsAtHandFor, IsMessageTo};
 ghost use Rattle.topic_core.specs.Soundness.{IsSound};
 ghost use Rattle.topic_core.specs.Standing.{GoesOn, Phase, Standing};
+ghost use Rattle.session.specs.declared.told.Member.TheVariants.{Producer as IsProducer, Consumer as IsConsumer};
+ghost use Rattle.session.specs.Broker.{SendsTo};
+ghost use Rattle.topic_lock.specs.Hearing.{put_off, sent_of};
 ghost use Rattle.topic_lock.specs.Counting.{sends_of, receipts_collected, is_send, is_later};
 ghost use Rattle.reply_queues.specs.Replies.{is_receipt};
 
@@ -21,8 +27,9 @@ use crate::waiting::Waiting;
 use commands::Reply;
 use disk::Shelf;
 use permits::{Granter, Taker};
+use session::{Ear, Member, Told};
 use std::alloc::AllocError;
-use std::marker::Model;
+use std::snapshot::Snapshot;
 use std::sync::ledger::Share;
 use std::sync::{Mutex, Wait};
 use topic_core::{
@@ -38,6 +45,82 @@ pub type AcceptedTally<K> = Mutex<Tally<AcceptedByTopics<K>, AcceptedByPorts<K>>
 
 /// The receipts that were collected, behind a lock that is taken last.
 pub type HandedTally<K> = Mutex<Tally<HandedByTopics<K>, HandedByPorts<K>>>;
+
+/// What a topic told a session that asked it. The topic's calls alone make one, a session alone opens it, and nobody may let it go; who
+/// passes it on may look at it.
+pub struct Heard<Q, X> {
+    topic: u64,
+    who: u64,
+    asked: Snapshot<Q>,
+    said: X,
+}
+
+/// What a topic gives a consumer.
+pub type Sent = Result<Option<Outgoing>, ReadError>;
+
+impl<Q, X> Heard<Q, X> {
+    fn new(topic: u64, who: u64, asked: Snapshot<Q>, said: X) -> Heard<Q, X>
+        ensures { result ≡ record { topic = topic; who = who; asked = asked; said = said } }
+    {
+        Heard {
+            topic,
+            who,
+            asked,
+            said,
+        }
+    }
+
+    /// What was told.
+    pub fn said(&self) -> &X
+        ensures { result.now ≡ self.now.said }
+    {
+        &self.said
+    }
+}
+
+impl Heard<u64, Sent> {
+    /// A message that can't be read is told as none for now.
+    pub fn put_off(self) -> Heard<u64, Sent>
+        ensures { result ≡ record self { said = put_off self.said } }
+    {
+        let Heard {
+            topic,
+            who,
+            asked,
+            said,
+        } = self;
+        let said = match said {
+            Err(ReadError::Device | ReadError::Damaged { .. }) => Ok(None),
+            said => said,
+        };
+        Heard::new(topic, who, asked, said)
+    }
+}
+
+impl<Q, X> Told for Heard<Q, X> {
+    type Question = Q;
+
+    type Said = X;
+
+    ghost topic = { λ heard. heard.topic };
+
+    ghost who = { λ heard. heard.who };
+
+    ghost asked = { λ heard. heard.asked.value };
+
+    ghost said = { λ heard. heard.said };
+
+    fn open(self, _ear: Ear) -> X {
+        let Heard {
+            topic: _,
+            who: _,
+            asked,
+            said,
+        } = self;
+        drop(asked);
+        said
+    }
+}
 
 /// A topic's shares: of what was accepted and handed out, of what it counts as committed, and of what a flush that failed left
 /// behind.
@@ -55,14 +138,14 @@ pub struct TopicShares<K: Tallies> {
 /// again. Who waits for it stands beside.
 #[derive(Drop)]
 pub struct CountedTopic<K: Tallies> {
-    pub(crate) core: LockedCore,
+    core: LockedCore,
     /// Its number, as its files have it.
     number: u64,
-    pub(crate) accepted: Share<AcceptedByTopics<K>>,
-    pub(crate) handed: Share<HandedByTopics<K>>,
-    pub(crate) committed: Share<DurableByTopics<K>>,
-    pub(crate) behind: Share<DurableByTopics<K>>,
-    pub(crate) left: u64,
+    accepted: Share<AcceptedByTopics<K>>,
+    handed: Share<HandedByTopics<K>>,
+    committed: Share<DurableByTopics<K>>,
+    behind: Share<DurableByTopics<K>>,
+    left: u64,
     pub(crate) waiting: Waiting,
     ghost accepted_counted: { (accepted.amount ≡ core.accepted) × (accepted.parts ≡ 1) },
     ghost handed_counted: { (handed.amount ≡ core.handed) × (handed.parts ≡ 1) },
@@ -120,16 +203,29 @@ impl<K: Tallies> CountedTopic<K> {
         self.core.is_failed()
     }
 
-    pub fn has_producer(&self, who: u64, id: u64) -> bool
-        ensures { result ≡ has_producer self.now.core who id }
+    /// Whether beside what waits there is room for an entry of this length, in bytes. Where there is none, a flush makes it.
+    pub(crate) fn has_room(&self, length: usize) -> bool
+        ensures { result ≡ has_room self.now.core length }
     {
-        self.core.has_producer(who, id)
+        self.core.has_room(length)
     }
 
-    pub fn has_consumer(&self, who: u64, id: u64) -> bool
-        ensures { result ≡ has_consumer self.now.core who id }
+    /// Whether a session has this producer, open or closing.
+    pub fn has_producer(&self, who: u64, id: u64) -> Heard<Member, bool>
+        ensures about { (result.topic ≡ self.now.number) × (result.who ≡ who) × (result.asked.value ≡ IsProducer id) }
+        ensures told { result.said ≡ has_producer self.now.core who id }
     {
-        self.core.has_consumer(who, id)
+        let asked = Snapshot::of(&Member::Producer(id));
+        Heard::new(self.number, who, asked, self.core.has_producer(who, id))
+    }
+
+    /// Whether a session has this consumer.
+    pub fn has_consumer(&self, who: u64, id: u64) -> Heard<Member, bool>
+        ensures about { (result.topic ≡ self.now.number) × (result.who ≡ who) × (result.asked.value ≡ IsConsumer id) }
+        ensures told { result.said ≡ has_consumer self.now.core who id }
+    {
+        let asked = Snapshot::of(&Member::Consumer(id));
+        Heard::new(self.number, who, asked, self.core.has_consumer(who, id))
     }
 
     /// The topic's step. A SEND that is accepted is counted for the port. The granter of a consumer that is attached goes into
@@ -143,28 +239,55 @@ impl<K: Tallies> CountedTopic<K> {
         who: u64,
         command: TopicCommand,
         granter: &mut Option<Granter>,
-    ) -> Answer
+    ) -> Heard<TopicCommand, Answer>
         requires { 0 < port.old.parts }
-        ensures step { TopicStep self.old.core who command result self.new.core }
-        ensures fits { Fits command result }
+        ensures about { (result.topic ≡ self.old.number) × (result.who ≡ who) × (result.asked.value ≡ command) }
+        ensures step { TopicStep self.old.core who command result.said self.new.core }
+        ensures fits { Fits command result.said }
         ensures goes_on { GoesOn self.old.core self.new.core }
         ensures number { self.new.number ≡ self.old.number }
-        ensures counted { port.new.amount ≡ port.old.amount + sends_of command result }
+        ensures counted { port.new.amount ≡ port.old.amount + sends_of command result.said }
         ensures parts { port.new.parts ≡ port.old.parts }
     {
         entries_are_published();
         commands_hand_out_nothing();
-        let CountedTopic { core, accepted, .. } = self;
+        let asked = Snapshot::of(&command);
+        let CountedTopic {
+            core,
+            number,
+            accepted,
+            ..
+        } = self;
         let is_send = is_send(&command);
         let answer = core.command(who, command, granter);
         if is_send && is_later(&answer) {
             tally.lock(rt).count(accepted, port);
         }
-        answer
+        Heard::new(*number, who, asked, answer)
     }
 
     /// The session's first due reply. A receipt is counted for the port.
     pub fn collect<R: Wait>(
+        &mut self,
+        rt: &R,
+        tally: &HandedTally<K>,
+        port: &mut Share<HandedByPorts<K>>,
+        who: u64,
+    ) -> Heard<(), Option<Reply>>
+        requires { 0 < port.old.parts }
+        ensures about { (result.topic ≡ self.old.number) × (result.who ≡ who) }
+        ensures step { Collects self.old.core who result.said self.new.core }
+        ensures goes_on { GoesOn self.old.core self.new.core }
+        ensures number { self.new.number ≡ self.old.number }
+        ensures counted { port.new.amount ≡ port.old.amount + receipts_collected result.said }
+        ensures parts { port.new.parts ≡ port.old.parts }
+    {
+        let number = self.number;
+        let said = self.take_reply(rt, tally, port, who);
+        Heard::new(number, who, Snapshot::of(&()), said)
+    }
+
+    fn take_reply<R: Wait>(
         &mut self,
         rt: &R,
         tally: &HandedTally<K>,
@@ -187,31 +310,35 @@ impl<K: Tallies> CountedTopic<K> {
     }
 
     /// Looks what was granted to a consumer. An unknown consumer changes nothing.
-    pub fn look(&mut self, who: u64, consumer_id: u64)
+    pub fn look(&mut self, who: u64, consumer_id: u64) -> Heard<u64, ()>
+        ensures about { (result.topic ≡ self.old.number) × (result.who ≡ who) × (result.asked.value ≡ consumer_id) }
         ensures learnt { IsLearnt (learnt self.old.core who consumer_id) self.new.core }
         ensures goes_on { GoesOn self.old.core self.new.core }
         ensures number { self.new.number ≡ self.old.number }
         ensures counts { CountsStay self.old.core self.new.core }
     {
-        let CountedTopic { core, .. } = self;
-        core.look(who, consumer_id)
+        let CountedTopic { core, number, .. } = self;
+        core.look(who, consumer_id);
+        Heard::new(*number, who, Snapshot::of(&consumer_id), ())
     }
 
     /// Whether there is no message for any consumer of a session, as far as is known of their permits. Changes nothing but that.
-    pub fn is_quiet(&mut self, who: u64) -> bool
+    pub fn is_quiet(&mut self, who: u64) -> Heard<(), bool>
+        ensures about { (result.topic ≡ self.old.number) × (result.who ≡ who) }
         ensures learnt { HasLearnt who self.old.core self.new.core }
-        ensures none { result ≡ true → (id i : ℕ) → Admits self.new.core (key_of who id) i → ⊥ }
+        ensures none { result.said ≡ true → (id i : ℕ) → Admits self.new.core (key_of who id) i → ⊥ }
         ensures goes_on { GoesOn self.old.core self.new.core }
         ensures number { self.new.number ≡ self.old.number }
         ensures counts { CountsStay self.old.core self.new.core }
     {
-        let CountedTopic { core, .. } = self;
-        core.is_quiet(who)
+        let CountedTopic { core, number, .. } = self;
+        let said = core.is_quiet(who);
+        Heard::new(*number, who, Snapshot::of(&()), said)
     }
 
     /// A message for a consumer, which holds it from then on, where its entry stands in memory. A refusal changes nothing but what
     /// is known of the consumer's permits.
-    pub fn dispatch_at_hand(&mut self, who: u64, consumer_id: u64) -> Result<AtHand, AllocError>
+    fn dispatch_at_hand(&mut self, who: u64, consumer_id: u64) -> Result<AtHand, AllocError>
         ensures step { length self.old.core.ledger ≡ self.old.core.committed →
             (t : Topic) × IsLearnt (learnt self.old.core who consumer_id) t × AtHandStep t (key_of who consumer_id) result self.new.core }
         ensures message { IfOk result (λ at_hand. IsAtHandFor consumer_id at_hand) }
@@ -228,7 +355,7 @@ impl<K: Tallies> CountedTopic<K> {
 
     /// A message for a consumer, which holds it from then on, with one read of the topic's stores where there is one. A refusal
     /// changes nothing but what is known of the consumer's permits.
-    pub fn dispatch<T: TopicStore, S: Shelf + Drop>(
+    fn dispatch<T: TopicStore, S: Shelf + Drop>(
         &mut self,
         stores: &mut CountedStores<T, S, K>,
         who: u64,
@@ -257,36 +384,69 @@ impl<K: Tallies> CountedTopic<K> {
         core.dispatch(files, shelf, who, consumer_id)
     }
 
-    /// The next message of a consumer, where its entry is at hand.
-    pub(crate) fn next_at_hand(&mut self, who: u64, consumer_id: u64) -> Result<AtHand, ReadError>
-        ensures message { IfOk result (λ at_hand. IsAtHandFor consumer_id at_hand) }
+    /// A message for a consumer, which holds it from then on, or that there is none for it. None where its entry has to be read, and
+    /// nothing is handed out.
+    pub fn next_at_hand(&mut self, who: u64, consumer_id: u64) -> Option<Heard<u64, Sent>>
+        ensures about { IfSome result (λ heard. (heard.topic ≡ self.old.number) × (heard.who ≡ who) × (heard.asked.value ≡ consumer_id)) }
+        ensures step { length self.old.core.ledger ≡ self.old.core.committed → IfSome result (λ heard.
+            (t : Topic) × IsLearnt (learnt self.old.core who consumer_id) t × DispatchStep t who consumer_id heard.said self.new.core) }
+        ensures message { IfSome result (λ heard. SendsTo consumer_id heard.said) }
+        ensures goes_on { GoesOn self.old.core self.new.core }
+        ensures number { self.new.number ≡ self.old.number }
+        ensures counts { CountsStay self.old.core self.new.core }
     {
-        Ok(self.dispatch_at_hand(who, consumer_id)?)
+        let topic = self.number;
+        let said = sent_of(self.dispatch_at_hand(who, consumer_id))?;
+        Some(Heard {
+            topic,
+            who,
+            asked: Snapshot::of(&consumer_id),
+            said,
+        })
     }
 
-    /// The next message of a consumer, whose entry is read.
-    pub(crate) fn read_next<T: TopicStore, S: Shelf + Drop>(
+    /// A message for a consumer, which holds it from then on, with one read of the topic's stores where there is one. A refusal
+    /// changes nothing but what is known of the consumer's permits.
+    pub fn read_next<T: TopicStore, S: Shelf + Drop>(
         &mut self,
         stores: &mut CountedStores<T, S, K>,
         who: u64,
         consumer_id: u64,
-    ) -> Result<AtHand, ReadError>
-        ensures message { IfOk result (λ at_hand. IsAtHandFor consumer_id at_hand) }
+    ) -> Heard<u64, Sent>
+        ensures about { (result.topic ≡ self.old.number) × (result.who ≡ who) × (result.asked.value ≡ consumer_id) }
+        ensures step { (phase : Phase) → Standing T.stands phase self.old.core (T.view stores.old.stores) (S.disk stores.old.shelf) →
+            (t : Topic) × IsLearnt (learnt self.old.core who consumer_id) t × DispatchStep t who consumer_id result.said self.new.core }
+        ensures message { SendsTo consumer_id result.said }
+        ensures goes_on { GoesOn self.old.core self.new.core }
+        ensures number { self.new.number ≡ self.old.number }
+        ensures counts { CountsStay self.old.core self.new.core }
+        ensures refused { IsErr result.said → IsLearnt (learnt self.old.core who consumer_id) self.new.core }
+        ensures works { IsErr result.said → self.old.core.failed ≡ false }
+        ensures stores { stores.new.stores ≡ stores.old.stores }
+        ensures cause { (T.view stores.old.stores).failed ≡ false → IsErrOf result.said Device → Failed (S.disk stores.old.shelf) (S.disk stores.new.shelf) }
+        ensures any_moment { (S.disk stores.old.shelf).honest → Leaves (S.disk stores.old.shelf).may_leave (S.disk stores.old.shelf) (S.disk stores.new.shelf) }
+        ensures kept { Kept (S.disk stores.old.shelf) (S.disk stores.new.shelf) }
     {
-        match self.dispatch(stores, who, consumer_id)? {
-            Some(outgoing) => Ok(AtHand::Message(outgoing)),
-            None => Ok(AtHand::Nothing),
+        let topic = self.number;
+        let said = self.dispatch(stores, who, consumer_id);
+        Heard {
+            topic,
+            who,
+            asked: Snapshot::of(&consumer_id),
+            said,
         }
     }
 
     /// The session leaves. What it sent stays.
-    pub fn leave(&mut self, who: u64)
+    pub fn leave(&mut self, who: u64) -> Heard<(), ()>
+        ensures about { (result.topic ≡ self.old.number) × (result.who ≡ who) }
         ensures step { self.new.core ≡ left self.old.core who }
         ensures goes_on { GoesOn self.old.core self.new.core }
         ensures number { self.new.number ≡ self.old.number }
     {
-        let CountedTopic { core, .. } = self;
-        core.leave(who)
+        let CountedTopic { core, number, .. } = self;
+        core.leave(who);
+        Heard::new(*number, who, Snapshot::of(&()), ())
     }
 
     /// The topic's shares, once it is out of its lock, and how much is left behind.
@@ -309,6 +469,18 @@ impl<K: Tallies> CountedTopic<K> {
             committed,
             behind,
         }
+    }
+}
+
+/// What a topic gives a consumer, where that isn't to be read.
+fn sent_of(at_hand: Result<AtHand, AllocError>) -> Option<Sent>
+    ensures { result ≡ sent_of at_hand }
+{
+    match at_hand {
+        Ok(AtHand::Message(outgoing)) => Some(Ok(Some(outgoing))),
+        Ok(AtHand::Nothing) => Some(Ok(None)),
+        Ok(AtHand::Unread) => None,
+        Err(AllocError) => Some(Err(ReadError::NoMemory)),
     }
 }
 

@@ -1,10 +1,11 @@
 // A topic's lock, as a port holds it.
-ghost use Rattle.std.specs.Prelude.{◌≡◌, ◌+◌, ◌<◌, IfOk};
-ghost use Rattle.topic_core.specs.Dispatch.{IsAtHandFor};
+ghost use Rattle.std.specs.Prelude.{◌≡◌, ◌+◌, ◌<◌, IfSome};
+ghost use Rattle.std.specs.Sync.Mutex.{mutex_guard_value};
+ghost use Rattle.session.specs.Broker.{SendsTo};
 ghost use Rattle.topic_core.specs.Steps.{Fits};
 ghost use Rattle.topic_lock.specs.Counting.{sends_of};
 
-use crate::counted::{AcceptedTally, CountedTopic};
+use crate::counted::{AcceptedTally, CountedTopic, Heard, Sent};
 use crate::stores::CountedStores;
 use crate::tally::{AcceptedByPorts, Tallies};
 use bells::{Bells, Marks};
@@ -13,7 +14,7 @@ use disk::Shelf;
 use permits::Granter;
 use std::sync::ledger::Share;
 use std::sync::{MutexGuard, Wait};
-use topic_core::{Answer, AtHand, ReadError, TopicCommand, TopicStore};
+use topic_core::{Answer, TopicCommand, TopicStore};
 
 /// A topic's lock that a port has, and who is to be woken once it lets it go.
 #[derive(Drop)]
@@ -21,7 +22,6 @@ pub(crate) struct Hold<'t, T: TopicStore, S: Shelf + Drop, K: Tallies> {
     pub(crate) topic: MutexGuard<'t, CountedTopic<K>>,
     /// The lock of its stores, where entries are read. It was taken before the topic's.
     stores: Option<MutexGuard<'t, CountedStores<T, S, K>>>,
-    pub(crate) number: u64,
     /// Others may wait for room, since the port did until it was let in.
     pub(crate) calls_reader: bool,
     /// The topic's flusher has something to do of which it wasn't told: a reply is owed, or the topic has failed.
@@ -31,16 +31,16 @@ pub(crate) struct Hold<'t, T: TopicStore, S: Shelf + Drop, K: Tallies> {
 }
 
 impl<'t, T: TopicStore, S: Shelf + Drop, K: Tallies> Hold<'t, T, S, K> {
-    /// The lock of the topic of a number, which was just taken, and that of its stores, where entries are to be read.
+    /// The lock of a topic, which was just taken, and that of its stores, where an entry was read.
     pub(crate) fn new(
         stores: Option<MutexGuard<'t, CountedStores<T, S, K>>>,
         topic: MutexGuard<'t, CountedTopic<K>>,
-        number: u64,
-    ) -> Hold<'t, T, S, K> {
+    ) -> Hold<'t, T, S, K>
+        ensures { (mutex_guard_value result.topic).number ≡ (mutex_guard_value topic.entry).number }
+    {
         Hold {
             topic,
             stores,
-            number,
             calls_reader: false,
             rings_flusher: false,
             gives_back: false,
@@ -62,10 +62,11 @@ impl<'t, T: TopicStore, S: Shelf + Drop, K: Tallies> Hold<'t, T, S, K> {
         who: u64,
         command: TopicCommand,
         granter: &mut Option<Granter>,
-    ) -> Answer
+    ) -> Heard<TopicCommand, Answer>
         requires { 0 < port.old.parts }
-        ensures fits { Fits command result }
-        ensures counted { port.new.amount ≡ port.old.amount + sends_of command result }
+        ensures about { (result.topic ≡ (mutex_guard_value self.old.topic).number) × (result.who ≡ who) × (result.asked.value ≡ command) }
+        ensures fits { Fits command result.said }
+        ensures counted { port.new.amount ≡ port.old.amount + sends_of command result.said }
         ensures parts { port.new.parts ≡ port.old.parts }
     {
         let Hold {
@@ -78,52 +79,54 @@ impl<'t, T: TopicStore, S: Shelf + Drop, K: Tallies> Hold<'t, T, S, K> {
             *gives_back = true;
         }
         let makes_a_member = makes_a_member(&command);
-        let answer = topic.command(rt, tally, port, who, command, granter);
-        if makes_a_member && is_granted(&answer) {
+        let heard = topic.command(rt, tally, port, who, command, granter);
+        if makes_a_member && is_granted(heard.said()) {
             topic.waiting.members.enter(place);
         }
-        let is_owed = matches!(&answer, Answer::Later | Answer::Nothing);
+        let is_owed = matches!(heard.said(), Answer::Later | Answer::Nothing);
         if (is_owed && topic.waiting.owe(place)) || topic.is_failed() {
             *rings_flusher = true;
         }
-        answer
+        heard
     }
 
     /// Looks what was granted to a consumer of the session.
-    pub(crate) fn look(&mut self, who: u64, consumer_id: u64) {
+    pub(crate) fn look(&mut self, who: u64, consumer_id: u64) -> Heard<u64, ()>
+        ensures about { (result.topic ≡ (mutex_guard_value self.old.topic).number) × (result.who ≡ who) × (result.asked.value ≡ consumer_id) }
+    {
         let Hold { topic, .. } = self;
-        topic.look(who, consumer_id);
+        topic.look(who, consumer_id)
     }
 
     /// Whether the topic has no message for any consumer of the session at this place, whose writer is woken when there may be one.
-    pub(crate) fn is_quiet(&mut self, place: u8, who: u64) -> bool {
+    pub(crate) fn is_quiet(&mut self, place: u8, who: u64) -> Heard<(), bool>
+        ensures about { (result.topic ≡ (mutex_guard_value self.old.topic).number) × (result.who ≡ who) }
+    {
         let Hold { topic, .. } = self;
-        let is_quiet = topic.is_quiet(who);
-        if is_quiet {
+        let heard = topic.is_quiet(who);
+        if *heard.said() {
             topic.waiting.starve(place);
         }
-        is_quiet
+        heard
     }
 
-    /// What the topic has for a consumer of the connection at this place, whose writer is woken when there may be a message where there
-    /// is none. An entry that isn't at hand is read only with the stores' lock.
-    pub(crate) fn dispatch(
+    /// What the topic has at hand for a consumer of the connection at this place, whose writer is woken when there may be a message where
+    /// there is none. None where an entry has to be read.
+    pub(crate) fn next_at_hand(
         &mut self,
         place: u8,
         who: u64,
         consumer_id: u64,
-    ) -> Result<AtHand, ReadError>
-        ensures message { IfOk result (λ at_hand. IsAtHandFor consumer_id at_hand) }
+    ) -> Option<Heard<u64, Sent>>
+        ensures about { IfSome result (λ heard. (heard.topic ≡ (mutex_guard_value self.old.topic).number) × (heard.who ≡ who) × (heard.asked.value ≡ consumer_id)) }
+        ensures message { IfSome result (λ heard. SendsTo consumer_id heard.said) }
     {
-        let Hold { topic, stores, .. } = self;
-        let next = match stores {
-            Some(stores) => topic.read_next(&mut *stores, who, consumer_id),
-            None => topic.next_at_hand(who, consumer_id),
-        };
-        if matches!(&next, Ok(AtHand::Nothing) | Err(_)) {
+        let Hold { topic, .. } = self;
+        let heard = topic.next_at_hand(who, consumer_id)?;
+        if !is_message(heard.said()) {
             topic.waiting.starve(place);
         }
-        next
+        Some(heard)
     }
 
     /// Lets the lock go, and wakes the topic's flusher where it has something to do, the next reader that waits for room where
@@ -132,12 +135,12 @@ impl<'t, T: TopicStore, S: Shelf + Drop, K: Tallies> Hold<'t, T, S, K> {
         let Hold {
             topic,
             stores,
-            number,
             calls_reader,
             rings_flusher,
             gives_back,
         } = self;
         let mut topic = topic;
+        let number = topic.number();
         let reader = if calls_reader {
             topic.next_reader()
         } else {
@@ -163,6 +166,11 @@ pub(crate) fn ring_reader(bells: &Bells, reader: Option<u8>) {
     if let Some(place) = reader {
         bells.ring_reader(place);
     }
+}
+
+/// Whether a consumer was given a message.
+pub(crate) fn is_message(sent: &Sent) -> bool {
+    matches!(sent, Ok(Some(_)))
 }
 
 /// Whether a command asks for a producer or a consumer.

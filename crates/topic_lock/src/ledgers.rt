@@ -2,9 +2,9 @@
 ghost use Rattle.std.specs.Prelude.{◌≡◌, ◌+◌, ◌*◌, ◌<◌, ◌≤◌, ◌^◌, IfOk, length};
 ghost use Rattle.topic_lock.specs.Ledgers.{IsOf};
 
+use crate::counted::flushing::Flusher;
 use crate::counted::{AcceptedTally, HandedTally, TopicShares};
 use crate::durable::{Durable, DurableByStores, DurableByTopics, DurableTally};
-use crate::flushing::Flusher;
 use crate::parts::{PortShares, TopicParts};
 use crate::tally::{
     AcceptedByPorts, AcceptedByTopics, HandedByPorts, HandedByTopics, Tallies, Tally,

@@ -1,7 +1,8 @@
 //! Topics and their stores behind locks of their own, with shares of what all of them count. Each SEND that is answered as
 //! accepted and each receipt that is collected is counted once for its topic and once for its port, and all stores durably hold
 //! at least as many entries as all topics count as committed. Whenever a topic's lock is got the topic is sound, and each call
-//! says in full what it does to the state that it is lent.
+//! says in full what it does to the state that it is lent. What a topic tells a session goes through a port sealed: no port can make it
+//! up, open, alter or drop it.
 #![tactic(auto)]
 
 mod asking;
@@ -12,7 +13,7 @@ mod directory;
 mod durable;
 mod fault;
 mod finding;
-mod flushing;
+mod handing;
 mod holding;
 mod ledgers;
 mod locked;
@@ -21,7 +22,6 @@ mod part;
 mod parts;
 mod places;
 mod portion;
-mod reopening;
 mod resting;
 mod stores;
 mod tally;
@@ -31,12 +31,13 @@ mod turns;
 mod waiting;
 
 pub use broker::{Seat, SharedBroker};
-pub use counted::{AcceptedTally, CountedTopic, HandedTally, LockedCore, TopicShares};
+pub use counted::flushing::{Flushed, Flusher, Taken, TakenBatch, Unawaited, Written};
+pub use counted::{AcceptedTally, CountedTopic, HandedTally, Heard, LockedCore, Sent, TopicShares};
 pub use devices::Devices;
 pub use directory::{LockedCatalog, SharedCatalog, Spare};
 pub use durable::{Durable, DurableByStores, DurableByTopics, DurableTally};
 pub use fault::FlushFault;
-pub use flushing::{Flushed, Flusher, Taken, TakenBatch, Unawaited, Written};
+pub use handing::Handed;
 pub use ledgers::{Blanks, Ledgers, Totals};
 pub use locked::LockedPort;
 pub use parts::{PortShares, TopicParts};

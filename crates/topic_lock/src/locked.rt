@@ -7,11 +7,15 @@ ghost use Rattle.session.specs.Broker.{CommandStep, GrantAt, CollectedAt, Dispat
 ghost use Rattle.topic_lock.specs.Counting.{sends_of, receipts_collected, is_later};
 ghost use Rattle.topic_lock.specs.Granting.{GrantsBy};
 ghost use Rattle.topic_lock.specs.Locked.{unknown_broker};
+ghost use Rattle.topic_lock.specs.Handing.{topic_of, who_of, asked_of, said_of, IsHeard};
+ghost use Rattle.topic_lock.specs.Hearing.{put_off};
 ghost use Rattle.topic_lock.specs.Portions.{is_full, left_behind};
 ghost use Rattle.std.specs.Sync.Mutex.{mutex_guard_value};
 
 use crate::asking::length_of;
 use crate::broker::{Seat, SharedBroker};
+use crate::counted::{Heard, Sent};
+use crate::handing::Handed;
 use crate::holding::Hold;
 use crate::parts::PortShares;
 use crate::places::{Known, SharedTopic, place_named};
@@ -26,13 +30,13 @@ use gated_log::Refusal;
 use log::{Log, error, info};
 use names::TopicName;
 use permits::{Granter, TooManyPermits};
-use session::{Found, Port};
+use session::{Found, Member, Port};
 use std::alloc::{AllocError, Global};
 use std::cell::Cell;
 use std::sync::Wait;
 use std::sync::atomic::Ordering;
 use std::sync::ledger::Share;
-use topic_core::{Answer, Outgoing, ReadError, TopicCommand, TopicStore};
+use topic_core::{Answer, ReadError, TopicCommand, TopicStore};
 
 /// A port over the topics' locks, with shares of what all ports were told. It knows the topics that were there when it last looked.
 /// In a turn it keeps the lock of the topic that it was asked for last, until it is asked for another one or for something else.
@@ -140,34 +144,13 @@ impl<'p, 'a, T: TopicStore, S: Shelf + Drop, K: Tallies, R: Wait> LockedPort<'p,
         self.known[topic as usize].get()
     }
 
-    /// The lock of the topic of a number, once there is room for an entry of this length: what is behind it has that number.
+    /// The lock of the topic of a number, once there is room for an entry of this length: what is behind it has that number. One that
+    /// is kept is kept on where it is of this topic.
     fn hold(&self, topic: u64, entry_length: Option<usize>) -> Hold<'a, T, S, K>
         requires { topic < length self.now.known.items }
         ensures { (mutex_guard_value result.topic).number ≡ topic }
     {
-        for _ in self.rt.forever() {
-            let hold = self.take(topic, entry_length);
-            if hold.topic.number() == topic {
-                return hold;
-            }
-            hold.release(&self.broker.bells);
-        }
-        unreachable!()
-    }
-
-    /// The lock that is kept, where it is of this topic, or one that is taken.
-    fn take(&self, topic: u64, entry_length: Option<usize>) -> Hold<'a, T, S, K>
-        requires { topic < length self.now.known.items }
-    {
-        let held = self.held.take();
-        let kept = match held {
-            Some(hold) if hold.number == topic => Some(hold),
-            Some(hold) => {
-                hold.release(&self.broker.bells);
-                None
-            }
-            None => None,
-        };
+        let kept = self.held.take();
         let place = self.seat.place;
         self.topic(topic).enter(
             self.rt,
@@ -282,38 +265,30 @@ impl<'p, 'a, T: TopicStore, S: Shelf + Drop, K: Tallies, R: Wait + Log> LockedPo
 
     /// Hands on what a topic gave a consumer. A message that can't be read is none for now: the log tells that once, and once that it
     /// can be read again, and the writer tries again behind a pause.
-    fn pass_on(
-        &mut self,
-        reading: Reading,
-        sent: Result<Option<Outgoing>, ReadError>,
-    ) -> Result<Option<Outgoing>, ReadError>
+    fn pass_on(&mut self, reading: Reading, sent: Heard<u64, Sent>) -> Heard<u64, Sent>
         requires known { reading.topic < length self.old.known.items }
-        requires sends { SendsTo reading.consumer_id sent }
-        ensures sends { SendsTo reading.consumer_id result }
-        ensures passed { IfOk sent (λ _. result ≡ sent) }
-        ensures counted { IfOk result (λ given. IfSome given (λ message. self.new.portion.left ≡ left_behind self.old.portion.left (length message.entry))) }
+        ensures passed { result ≡ record sent { said = put_off sent.said } }
+        ensures counted { IfOk sent.said (λ given. IfSome given (λ message. self.new.portion.left ≡ left_behind self.old.portion.left (length message.entry))) }
         ensures passes { self.new.known ≡ self.old.known }
     {
         let rt = self.rt;
         let name = &self.topic(reading.topic).name;
         let id = reading.consumer_id;
-        match sent {
-            Err(ReadError::NoMemory) => Err(ReadError::NoMemory),
+        match sent.said() {
+            Err(ReadError::NoMemory) | Ok(None) => {}
             Err(why) => {
                 if self.troubles.meet(reading) {
                     error!(rt; "topic {name}: a message for consumer {id} can't be read: {why}");
                 }
-                Ok(None)
             }
-            Ok(None) => Ok(None),
             Ok(Some(message)) => {
-                self.portion.add(&message);
+                self.portion.add(message);
                 if self.troubles.end(reading) {
                     info!(rt; "topic {name}: messages for consumer {id} can be read again");
                 }
-                Ok(Some(message))
             }
         }
+        sent.put_off()
     }
 }
 
@@ -355,6 +330,20 @@ impl<'p, 'a, T: TopicStore, S: Shelf + Drop, K: Tallies, R: Wait + Log> Port
 
     ghost refuses = { λ _ _ _. Unit {0} };
 
+    type Answered = Heard<TopicCommand, Answer>;
+
+    type Sent = Handed;
+
+    type Had = Heard<Member, bool>;
+
+    type Looked = Heard<u64, ()>;
+
+    type Quiet = Heard<(), bool>;
+
+    type Collected = Heard<(), Option<Reply>>;
+
+    type Left = Heard<(), ()>;
+
     fn service_url(&self) -> &str {
         self.broker.url.as_str()
     }
@@ -363,20 +352,16 @@ impl<'p, 'a, T: TopicStore, S: Shelf + Drop, K: Tallies, R: Wait + Log> Port
         self.known.len() as u64
     }
 
-    fn has_producer(&self, topic: u64, who: u64, producer_id: u64) -> bool {
+    fn has_producer(&self, topic: u64, who: u64, producer_id: u64) -> Heard<Member, bool> {
         self.let_go();
-        self.topic(topic)
-            .topic
-            .lock(self.rt)
-            .has_producer(who, producer_id)
+        let locked = self.topic(topic).lock(self.rt, topic);
+        locked.has_producer(who, producer_id)
     }
 
-    fn has_consumer(&self, topic: u64, who: u64, consumer_id: u64) -> bool {
+    fn has_consumer(&self, topic: u64, who: u64, consumer_id: u64) -> Heard<Member, bool> {
         self.let_go();
-        self.topic(topic)
-            .topic
-            .lock(self.rt)
-            .has_consumer(who, consumer_id)
+        let locked = self.topic(topic).lock(self.rt, topic);
+        locked.has_consumer(who, consumer_id)
     }
 
     // A topic that is there is found without the catalog's lock, which somebody may have who makes one.
@@ -397,14 +382,20 @@ impl<'p, 'a, T: TopicStore, S: Shelf + Drop, K: Tallies, R: Wait + Log> Port
         self.seat.use_topic(found)
     }
 
-    fn command(&mut self, topic: u64, who: u64, command: TopicCommand) -> Answer
+    fn command(
+        &mut self,
+        topic: u64,
+        who: u64,
+        command: TopicCommand,
+    ) -> Heard<TopicCommand, Answer>
         requires { topic < length self.old.known.items }
-        ensures step { ⊥ → CommandStep unknown_broker topic who command result unknown_broker }
-        ensures fits { Fits command result }
+        ensures about { (result.topic ≡ topic) × (result.who ≡ who) × (result.asked.value ≡ command) }
+        ensures step { ⊥ → CommandStep unknown_broker topic who command result.said unknown_broker }
+        ensures fits { Fits command result.said }
         ensures passes { length self.new.known.items ≡ length self.old.known.items }
-        ensures accepted { self.new.accepted.amount ≡ self.old.accepted.amount + sends_of command result }
+        ensures accepted { self.new.accepted.amount ≡ self.old.accepted.amount + sends_of command result.said }
         ensures handed { self.new.handed.amount ≡ self.old.handed.amount }
-        ensures lent { is_later result ≡ false → self.new.lent ≡ None }
+        ensures lent { is_later result.said ≡ false → self.new.lent ≡ None }
     {
         let mut hold = self.hold(topic, length_of(&command));
         let LockedPort {
@@ -417,10 +408,10 @@ impl<'p, 'a, T: TopicStore, S: Shelf + Drop, K: Tallies, R: Wait + Log> Port
         } = self;
         let tally = &broker.totals.accepted;
         let mut granter = None;
-        let answer = hold.command(*rt, seat.place, tally, accepted, who, command, &mut granter);
-        *lent = if_later(&answer, granter);
+        let heard = hold.command(*rt, seat.place, tally, accepted, who, command, &mut granter);
+        *lent = if_later(heard.said(), granter);
         self.keep(hold);
-        answer
+        heard
     }
 
     fn take_granter(&mut self) -> Option<Granter>
@@ -451,49 +442,45 @@ impl<'p, 'a, T: TopicStore, S: Shelf + Drop, K: Tallies, R: Wait + Log> Port
         granted
     }
 
-    fn look(&mut self, topic: u64, who: u64, consumer_id: u64) {
+    fn look(&mut self, topic: u64, who: u64, consumer_id: u64) -> Heard<u64, ()> {
         let mut hold = self.hold(topic, None);
-        hold.look(who, consumer_id);
+        let heard = hold.look(who, consumer_id);
         self.keep(hold);
+        heard
     }
 
-    fn dispatch(
-        &mut self,
-        topic: u64,
-        who: u64,
-        consumer_id: u64,
-    ) -> Result<Option<Outgoing>, ReadError>
+    fn dispatch(&mut self, topic: u64, who: u64, consumer_id: u64) -> Handed
         requires { topic < length self.old.known.items }
-        ensures step { ⊥ → DispatchAt unknown_broker topic who consumer_id result unknown_broker }
-        ensures sends { SendsTo consumer_id result }
-        ensures refused { IfErr result (λ why. Unit {0}) }
+        ensures about { (topic_of result ≡ topic) × (who_of result ≡ who) × (asked_of result ≡ consumer_id) }
+        ensures step { ⊥ → DispatchAt unknown_broker topic who consumer_id (said_of result) unknown_broker }
+        ensures sends { SendsTo consumer_id (said_of result) }
+        ensures refused { IfErr (said_of result) (λ why. Unit {0}) }
         ensures passes { length self.new.known.items ≡ length self.old.known.items }
-        ensures full { is_full self.old.portion ≡ true → result ≡ Ok None }
-        ensures counted { IfOk result (λ sent. IfSome sent (λ message. self.new.portion.left ≡ left_behind self.old.portion.left (length message.entry))) }
+        ensures full { is_full self.old.portion ≡ true → said_of result ≡ Ok None }
+        ensures asks { is_full self.old.portion ≡ false → IsHeard result }
+        ensures counted { IfOk (said_of result) (λ sent. IfSome sent (λ message. self.new.portion.left ≡ left_behind self.old.portion.left (length message.entry))) }
     {
         if self.portion.ends() {
-            return Ok(None);
+            return Handed::Full {
+                topic,
+                who,
+                consumer_id,
+            };
         }
         let held = self.hold(topic, None);
         let shared = self.topic(topic);
         let place = self.seat.place;
-        let (hold, sent) = shared.dispatch(
-            self.rt,
-            &self.broker.bells,
-            held,
-            place,
-            who,
-            consumer_id,
-        );
+        let bells = &self.broker.bells;
+        let (hold, sent) = shared.dispatch(self.rt, bells, topic, held, place, who, consumer_id);
         self.keep(hold);
-        self.pass_on(Reading { topic, consumer_id }, sent)
+        Handed::Heard(self.pass_on(Reading { topic, consumer_id }, sent))
     }
 
-    fn is_quiet(&mut self, topic: u64, who: u64) -> bool {
+    fn is_quiet(&mut self, topic: u64, who: u64) -> Heard<(), bool> {
         let mut hold = self.hold(topic, None);
-        let is_quiet = hold.is_quiet(self.seat.place, who);
+        let heard = hold.is_quiet(self.seat.place, who);
         self.keep(hold);
-        is_quiet
+        heard
     }
 
     fn next_due(&self, _who: u64, from: u64) -> Option<u64> {
@@ -505,12 +492,13 @@ impl<'p, 'a, T: TopicStore, S: Shelf + Drop, K: Tallies, R: Wait + Log> Port
         }
     }
 
-    fn collect(&mut self, topic: u64, who: u64) -> Option<Reply>
+    fn collect(&mut self, topic: u64, who: u64) -> Heard<(), Option<Reply>>
         requires { topic < length self.old.known.items }
-        ensures step { ⊥ → CollectedAt unknown_broker topic who result unknown_broker }
+        ensures about { (result.topic ≡ topic) × (result.who ≡ who) }
+        ensures step { ⊥ → CollectedAt unknown_broker topic who result.said unknown_broker }
         ensures passes { length self.new.known.items ≡ length self.old.known.items }
         ensures accepted { self.new.accepted.amount ≡ self.old.accepted.amount }
-        ensures handed { self.new.handed.amount ≡ self.old.handed.amount + receipts_collected result }
+        ensures handed { self.new.handed.amount ≡ self.old.handed.amount + receipts_collected result.said }
     {
         let mut hold = self.hold(topic, None);
         let LockedPort {
@@ -519,17 +507,16 @@ impl<'p, 'a, T: TopicStore, S: Shelf + Drop, K: Tallies, R: Wait + Log> Port
             handed,
             ..
         } = self;
-        let reply = hold.topic.collect(*rt, &broker.totals.handed, handed, who);
+        let heard = hold.topic.collect(*rt, &broker.totals.handed, handed, who);
         self.keep(hold);
-        reply
+        heard
     }
 
-    fn leave(&mut self, topic: u64, who: u64) {
+    fn leave(&mut self, topic: u64, who: u64) -> Heard<(), ()> {
         self.let_go();
-        if self.seat.uses(topic) {
-            self.topic(topic)
-                .leave(self.rt, &self.broker.bells, self.seat.place, who)
-        }
+        let place = self.seat.place;
+        self.topic(topic)
+            .leave(self.rt, &self.broker.bells, topic, place, who)
     }
 
     ghost use Rattle.std.proofs.Common.{refl, sym, ap, ◌∙◌, arith};

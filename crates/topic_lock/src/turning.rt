@@ -1,9 +1,9 @@
 // A flush of a topic by its flusher, and who is woken behind it.
 ghost use Rattle.std.specs.Prelude.{◌≡◌};
 
+use crate::counted::flushing::{Flushed, Flusher, Taken, Unawaited};
 use crate::durable::DurableTally;
 use crate::fault::FlushFault;
-use crate::flushing::{Flushed, Flusher, Taken, Unawaited};
 use crate::holding::ring_reader;
 use crate::places::SharedTopic;
 use crate::tally::Tallies;

@@ -1,13 +1,15 @@
 ghost use Rattle.std.specs.Prelude.{◌≡◌, ◌<◌, ◌≤◌, None, [], length};
 ghost use Rattle.session.specs.Broker.{IfFound, IsMessageFor};
+ghost use Rattle.topic_core.specs.Steps.{Fits};
 
 use bytes::Bytes;
 use commands::Reply;
 use ids::MessageId;
 use names::TopicName;
 use permits::{Granter, TooManyPermits};
-use session::{Found, Port, PumpFault};
+use session::{Found, Member, Plain, Port, PumpFault};
 use std::alloc::{AllocError, Global};
+use std::snapshot::Snapshot;
 use topic_core::{Answer, Outgoing, ReadError, TopicCommand};
 
 /// The size of the metadata, the metadata (producer `p`, sequence id 0, time 8000) and the payload 5.
@@ -141,6 +143,20 @@ impl Port for Board {
 
     ghost refuses = { λ _ _ _. Unit {0} };
 
+    type Answered = Plain<TopicCommand, Answer>;
+
+    type Sent = Plain<u64, Result<Option<Outgoing>, ReadError>>;
+
+    type Had = Plain<Member, bool>;
+
+    type Looked = Plain<u64, ()>;
+
+    type Quiet = Plain<(), bool>;
+
+    type Collected = Plain<(), Option<Reply>>;
+
+    type Left = Plain<(), ()>;
+
     fn service_url(&self) -> &str {
         "pulsar://board"
     }
@@ -149,12 +165,12 @@ impl Port for Board {
         self.topics.len() as u64
     }
 
-    fn has_producer(&self, _topic: u64, _who: u64, _producer_id: u64) -> bool {
-        true
+    fn has_producer(&self, topic: u64, who: u64, producer_id: u64) -> Plain<Member, bool> {
+        Plain::new(topic, who, &Member::Producer(producer_id), true)
     }
 
-    fn has_consumer(&self, _topic: u64, _who: u64, _consumer_id: u64) -> bool {
-        true
+    fn has_consumer(&self, topic: u64, who: u64, consumer_id: u64) -> Plain<Member, bool> {
+        Plain::new(topic, who, &Member::Consumer(consumer_id), true)
     }
 
     fn find(&mut self, name: &TopicName) -> Found {
@@ -178,25 +194,18 @@ impl Port for Board {
         }
     }
 
-    fn command(&mut self, _topic: u64, _who: u64, command: TopicCommand) -> Answer {
-        match command {
-            TopicCommand::Producer {
-                producer_id: _,
-                request_id,
-                producer_name,
-            } => Answer::Now(Reply::ProducerSuccess {
-                request_id,
-                producer_name,
-            }),
-            TopicCommand::Subscribe(_) => Answer::Later,
-            TopicCommand::CloseConsumer(asked) => Answer::Now(Reply::Success {
-                request_id: asked.request_id,
-            }),
-            TopicCommand::Redeliver(_) => Answer::Nothing,
-            TopicCommand::Send(_)
-            | TopicCommand::Ack(_)
-            | TopicCommand::CloseProducer(_)
-            | TopicCommand::Unsubscribe(_) => Answer::NoMemory,
+    fn command(
+        &mut self,
+        topic: u64,
+        who: u64,
+        command: TopicCommand,
+    ) -> Plain<TopicCommand, Answer> {
+        let asked = Snapshot::of(&command);
+        Plain {
+            topic,
+            who,
+            asked,
+            said: answer_to(command),
         }
     }
 
@@ -220,18 +229,19 @@ impl Port for Board {
         Ok(())
     }
 
-    fn look(&mut self, _topic: u64, _who: u64, consumer_id: u64) {
+    fn look(&mut self, topic: u64, who: u64, consumer_id: u64) -> Plain<u64, ()> {
         self.looks = self.looks.saturating_add(1);
         self.looked = Some((consumer_id, self.dispatches.len()));
+        Plain::new(topic, who, &consumer_id, ())
     }
 
     fn dispatch(
         &mut self,
-        _topic: u64,
-        _who: u64,
+        topic: u64,
+        who: u64,
         consumer_id: u64,
-    ) -> Result<Option<Outgoing>, ReadError> {
-        match self.dispatches.pop() {
+    ) -> Plain<u64, Result<Option<Outgoing>, ReadError>> {
+        let sent = match self.dispatches.pop() {
             None => Ok(None),
             Some(None) => Ok(Some(message(consumer_id))),
             Some(Some(PumpFault::Device)) => Err(ReadError::Device),
@@ -239,12 +249,13 @@ impl Port for Board {
                 Err(ReadError::Damaged { file, offset })
             }
             Some(Some(PumpFault::Ended(_))) => Err(ReadError::NoMemory),
-        }
+        };
+        Plain::new(topic, who, &consumer_id, sent)
     }
 
-    fn is_quiet(&mut self, _topic: u64, _who: u64) -> bool {
+    fn is_quiet(&mut self, topic: u64, who: u64) -> Plain<(), bool> {
         self.questions = self.questions.saturating_add(1);
-        self.dispatches.is_empty()
+        Plain::new(topic, who, &(), self.dispatches.is_empty())
     }
 
     fn next_due(&self, _who: u64, from: u64) -> Option<u64> {
@@ -255,12 +266,13 @@ impl Port for Board {
         }
     }
 
-    fn collect(&mut self, _topic: u64, _who: u64) -> Option<Reply> {
-        self.due.take()
+    fn collect(&mut self, topic: u64, who: u64) -> Plain<(), Option<Reply>> {
+        Plain::new(topic, who, &(), self.due.take())
     }
 
-    fn leave(&mut self, _topic: u64, who: u64) {
+    fn leave(&mut self, topic: u64, who: u64) -> Plain<(), ()> {
         self.left = Some(who);
+        Plain::new(topic, who, &(), ())
     }
 
     ghost use Rattle.std.proofs.Common.{rules};
@@ -286,4 +298,29 @@ impl Port for Board {
     ghost passes_count = { λ a b h. h };
 
     ghost counts_topics = { λ port s. absurd s };
+}
+
+/// PRODUCER and SUBSCRIBE are answered, a consumer is closed, REDELIVER isn't answered, and whatever else is asked finds no memory.
+fn answer_to(command: TopicCommand) -> Answer
+    ensures { Fits command result }
+{
+    match command {
+        TopicCommand::Producer {
+            producer_id: _,
+            request_id,
+            producer_name,
+        } => Answer::Now(Reply::ProducerSuccess {
+            request_id,
+            producer_name,
+        }),
+        TopicCommand::Subscribe(_) => Answer::Later,
+        TopicCommand::CloseConsumer(asked) => Answer::Now(Reply::Success {
+            request_id: asked.request_id,
+        }),
+        TopicCommand::Redeliver(_) => Answer::Nothing,
+        TopicCommand::Send(_)
+        | TopicCommand::Ack(_)
+        | TopicCommand::CloseProducer(_)
+        | TopicCommand::Unsubscribe(_) => Answer::NoMemory,
+    }
 }

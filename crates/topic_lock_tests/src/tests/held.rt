@@ -2,11 +2,12 @@
 ghost use Rattle.std.specs.Prelude.{◌≡◌};
 ghost use Rattle.topic_lock.specs.Ledgers.{IsOf};
 
-use super::{flush_first, new_broker, publishes, send, subscribe, waits_for};
+use super::talk::{FIRST_MESSAGE, FLOW, SEND, SUBSCRIBE, feed, greet};
+use super::{flush_first, new_broker, waits_for};
 use disk_mem::MemShelf;
 use gated_log::Refusal;
 use log::Log;
-use session::Port;
+use session::{Port, Session};
 use std::alloc::Global;
 use std::marker::Brand;
 use std::sync::Wait;
@@ -14,7 +15,7 @@ use std::sync::atomic::{AtomicBool, Ordering};
 use std::test::Fail;
 use std::thread;
 use std::thread::Threads;
-use topic_core::{Answer, FileStores};
+use topic_core::FileStores;
 use topic_lock::{
     Blanks, DurableTally, FlushFault, Flushed, Flusher, Ledgers, RestingPort, Seat, SharedBroker,
     SharedTopic, Taken, Tallies, empty_places,
@@ -64,43 +65,6 @@ fn counted(went_on: bool, flushed: &Flushed) -> Result<(bool, usize), Refusal> {
     }
 }
 
-// Sends as a session's producer, and answers whether that was accepted.
-fn sends<P: Port>(alloc: Global, port: &mut P, who: u64, topic: u64) -> Result<bool, Refusal> {
-    if topic >= port.topics() {
-        return Ok(false);
-    }
-    match port.command(topic, who, send(alloc, 0)?) {
-        Answer::NoMemory => Err(Refusal::NoMemory),
-        answer => Ok(matches!(answer, Answer::Later)),
-    }
-}
-
-// Subscribes from the first entry on, and answers whether a message is there at once.
-fn receives<P: Port>(alloc: Global, port: &mut P, who: u64, topic: u64) -> Result<bool, Refusal> {
-    if topic >= port.topics() {
-        return Ok(false);
-    }
-    let answer = port.command(topic, who, subscribe(alloc)?);
-    if matches!(answer, Answer::NoMemory) {
-        return Err(Refusal::NoMemory);
-    }
-    if topic >= port.topics() {
-        return Ok(false);
-    }
-    let mut granter = port.take_granter();
-    if topic >= port.topics() {
-        return Ok(false);
-    }
-    if port.grant(topic, who, 5, &mut granter, 1).is_err() {
-        return Ok(false);
-    }
-    if topic >= port.topics() {
-        return Ok(false);
-    }
-    let message = port.dispatch(topic, who, 5)?;
-    Ok(message.is_some())
-}
-
 // Sends as the only producer of a session, has that committed, and sends again.
 fn send_twice<'a, K: Tallies, R: Wait, P: Port>(
     rt: &R,
@@ -108,18 +72,14 @@ fn send_twice<'a, K: Tallies, R: Wait, P: Port>(
     port: &mut P,
     broker: &SharedBroker<'a, FileStores, MemShelf, K>,
     flusher: Flusher<K>,
-) -> Result<Option<Flusher<K>>, Refusal> {
-    let Some(topic) = publishes(alloc, port, 0)? else {
-        return Ok(None);
-    };
-    if !sends(alloc, port, 0, topic)? {
-        return Ok(None);
-    }
+) -> Result<Flusher<K>, Refusal> {
+    let mut session = Session::new(alloc, 0);
+    let mut out = Vec::new(alloc);
+    greet(&mut session, port, &mut out)?;
+    feed(&mut session, SEND, port, &mut out)?;
     let flusher = flush_first(rt, broker, flusher)?;
-    if !sends(alloc, port, 0, topic)? {
-        return Ok(None);
-    }
-    Ok(Some(flusher))
+    feed(&mut session, SEND, port, &mut out)?;
+    Ok(flusher)
 }
 
 // Sends twice in a session. The first entry is committed, and the flush of the second one is held.
@@ -134,9 +94,7 @@ fn send_and_flush<'p, 'a, K: Tallies, R: Wait + Log>(
     let mut port = resting.begin();
     let sent = send_twice(rt, alloc, &mut port, broker, flusher);
     drop(port.rest());
-    let Some(flusher) = sent? else {
-        return Ok((false, 0));
-    };
+    let flusher = sent?;
     let Some(place) = broker.places.first() else {
         return Ok((false, 0));
     };
@@ -146,13 +104,21 @@ fn send_and_flush<'p, 'a, K: Tallies, R: Wait + Log>(
     flush_held(rt, &broker.totals.durable, shared, flusher, gate)
 }
 
-// Whether a SEND of the other session is accepted, and whether a consumer of it gets the entry that was committed.
+// Sends in the other session, and subscribes from the first entry on. Answers whether the SEND was refused nothing, and whether the entry
+// that was committed is there at once.
 fn send_and_receive<P: Port>(alloc: Global, port: &mut P) -> Result<(bool, bool), Refusal> {
-    let Some(topic) = publishes(alloc, port, 1)? else {
-        return Ok((false, false));
-    };
-    let sent = sends(alloc, port, 1, topic)?;
-    Ok((sent, receives(alloc, port, 1, topic)?))
+    let mut session = Session::new(alloc, 1);
+    let mut out = Vec::new(alloc);
+    greet(&mut session, port, &mut out)?;
+    let greeted = out.len();
+    feed(&mut session, SEND, port, &mut out)?;
+    let is_sent = out.len() == greeted;
+    feed(&mut session, SUBSCRIBE, port, &mut out)?;
+    feed(&mut session, FLOW, port, &mut out)?;
+    if session.pump(port, &mut out).is_err() {
+        return Err(Refusal::NoMemory);
+    }
+    Ok((is_sent, out.ends_with(FIRST_MESSAGE)))
 }
 
 // Sends and receives in the other session while the write is held.

@@ -1,17 +1,16 @@
 // What the ports of two sending sessions settle, and that nobody waits for a session that is pumped or served. Whoever waits goes on up to a limit of turns, so allocations of these tests are not refused in turn.
 mod flows;
 mod pumped;
-mod talk;
 mod waiting_port;
 
 ghost use Rattle.topic_lock.specs.Ledgers.{IsOf};
 
-use super::{TURNS, flush_first, new_broker, publishes, send};
-use commands::Reply;
+use super::talk::{RECEIPT, SEND, feed, greet};
+use super::{TURNS, flush_first, new_broker};
 use disk_mem::MemShelf;
 use gated_log::Refusal;
 use log::Log;
-use session::Port;
+use session::{Port, Session};
 use std::alloc::Global;
 use std::marker::Brand;
 use std::sync::Wait;
@@ -19,7 +18,7 @@ use std::sync::atomic::{AtomicU64, Ordering};
 use std::test::Fail;
 use std::thread;
 use std::thread::Threads;
-use topic_core::{Answer, FileStores};
+use topic_core::FileStores;
 use topic_lock::{
     Blanks, Flusher, Ledgers, RestingPort, Seat, SharedBroker, Tallies, empty_places,
 };
@@ -27,43 +26,55 @@ use topic_lock::{
 // How many entries each session sends.
 const SENDS: u64 = 50;
 
-// Sends, and answers how many SENDs were accepted and how many receipts came.
-fn publish<P: Port>(alloc: Global, port: &mut P, who: u64) -> Result<(u64, u64), Refusal> {
-    let Some(topic) = publishes(alloc, port, who)? else {
-        return Ok((0, 0));
-    };
-    let mut accepted = 0;
-    for sequence in 0..SENDS {
-        if topic >= port.topics() {
-            break;
-        }
-        match port.command(topic, who, send(alloc, sequence)?) {
-            Answer::Later => accepted += 1,
-            Answer::NoMemory => return Err(Refusal::NoMemory),
-            _ => {}
-        }
+// Sends in a session, and answers how many receipts came.
+fn publish<P: Port>(alloc: Global, port: &mut P, who: u64) -> Result<u64, Refusal> {
+    let mut session = Session::new(alloc, who);
+    let mut out = Vec::new(alloc);
+    greet(&mut session, port, &mut out)?;
+    out.clear();
+    for _ in 0..SENDS {
+        feed(&mut session, SEND, port, &mut out)?;
     }
-    Ok((accepted, receipts(port, topic, who)))
+    pump_receipts(&mut session, port, &mut out)?;
+    Ok(count_receipts(out.as_slice()))
 }
 
-// Collects receipts, for so many turns at most.
-fn receipts<P: Port>(port: &mut P, topic: u64, who: u64) -> u64 {
-    let mut count = 0;
+// Pumps until as many bytes are there as all receipts have, for so many turns at most.
+fn pump_receipts<P: Port>(
+    session: &mut Session,
+    port: &mut P,
+    out: &mut Vec<u8>,
+) -> Result<(), Refusal> {
     for _ in 0..TURNS {
-        if count >= SENDS || topic >= port.topics() {
+        if out.len() as u64 >= SENDS * 22 {
             break;
         }
-        match port.collect(topic, who) {
-            Some(Reply::SendReceipt { .. }) => count += 1,
-            Some(_) => {}
-            None => thread::yield_now(),
+        if session.pump(port, out).is_err() {
+            return Err(Refusal::NoMemory);
         }
+        thread::yield_now();
     }
-    count
+    Ok(())
 }
 
-// How many SENDs a session was told to be accepted, and how many receipts; and how many all ports settle of either.
-type Settled = ((u64, u64), (u64, u64));
+// How many of the frames are receipts, but for their entry ids.
+fn count_receipts(out: &[u8]) -> u64 {
+    (0..SENDS).filter(|place| is_receipt(out, *place)).count() as u64
+}
+
+fn is_receipt(out: &[u8], place: u64) -> bool {
+    if place >= SENDS {
+        return false;
+    }
+    let begin = place as usize * 22;
+    match out.get(begin..begin + 21) {
+        Some(frame) => RECEIPT.starts_with(frame),
+        None => false,
+    }
+}
+
+// How many receipts a session was told, and how many SENDs were accepted and receipts told as all ports settle.
+type Settled = (u64, (u64, u64));
 
 // A port over topics in memory, at rest.
 type MemPort<'p, 'a, K, R> = RestingPort<'p, 'a, FileStores, MemShelf, K, R>;
@@ -162,7 +173,7 @@ fn flush_while<'a, K: Tallies, R: Wait>(
 #[test]
 fn two_sessions_settle(rt: HostRuntime) -> Result<(), Fail> {
     let seen = run::<Brand, _>(&rt, rt.alloc(), Blanks::new(2))?;
-    let settled = ((SENDS, SENDS), (2 * SENDS, 2 * SENDS));
+    let settled = (SENDS, (2 * SENDS, 2 * SENDS));
     assert_eq!(rt; seen, (settled, settled));
     Ok(())
 }

@@ -1,10 +1,13 @@
+ghost use Rattle.topic_core.specs.Steps.{Fits};
+
 use super::waits_for;
 use commands::Reply;
 use names::TopicName;
 use permits::{Granter, TooManyPermits};
 use rtrb::{Finished, Producer};
-use session::{Found, Port};
+use session::{Found, Member, Plain, Port};
 use std::io::{Read, Write};
+use std::snapshot::Snapshot;
 use std::sync::atomic::{AtomicBool, Ordering};
 use std::sync::{Mutex, Wait};
 use topic_core::{Answer, Outgoing as Sent, ReadError, TopicCommand};
@@ -60,6 +63,17 @@ impl<'g> Desk<'g> {
             gate: Some(gate),
             was_let: true,
         }
+    }
+
+    fn next_reply(&mut self) -> Option<Reply> {
+        if self.due == 0 {
+            return None;
+        }
+        if let Some(gate) = self.gate {
+            self.was_let = gate.hold() && self.was_let;
+        }
+        self.due -= 1;
+        Some(Reply::Success { request_id: 7 })
     }
 }
 
@@ -125,6 +139,20 @@ impl<'g> Port for Desk<'g> {
 
     ghost refuses = { λ _ _ _. Unit {0} };
 
+    type Answered = Plain<TopicCommand, Answer>;
+
+    type Sent = Plain<u64, Result<Option<Sent>, ReadError>>;
+
+    type Had = Plain<Member, bool>;
+
+    type Looked = Plain<u64, ()>;
+
+    type Quiet = Plain<(), bool>;
+
+    type Collected = Plain<(), Option<Reply>>;
+
+    type Left = Plain<(), ()>;
+
     fn service_url(&self) -> &str {
         "pulsar://desk"
     }
@@ -133,37 +161,30 @@ impl<'g> Port for Desk<'g> {
         1
     }
 
-    fn has_producer(&self, _topic: u64, _who: u64, _producer_id: u64) -> bool {
-        true
+    fn has_producer(&self, topic: u64, who: u64, producer_id: u64) -> Plain<Member, bool> {
+        Plain::new(topic, who, &Member::Producer(producer_id), true)
     }
 
-    fn has_consumer(&self, _topic: u64, _who: u64, _consumer_id: u64) -> bool {
-        true
+    fn has_consumer(&self, topic: u64, who: u64, consumer_id: u64) -> Plain<Member, bool> {
+        Plain::new(topic, who, &Member::Consumer(consumer_id), true)
     }
 
     fn find(&mut self, _name: &TopicName) -> Found {
         Found::Topic(0)
     }
 
-    fn command(&mut self, _topic: u64, _who: u64, command: TopicCommand) -> Answer {
-        match command {
-            TopicCommand::Producer {
-                producer_id: _,
-                request_id,
-                producer_name,
-            } => Answer::Now(Reply::ProducerSuccess {
-                request_id,
-                producer_name,
-            }),
-            TopicCommand::Subscribe(_) => Answer::Later,
-            TopicCommand::CloseConsumer(asked) => Answer::Now(Reply::Success {
-                request_id: asked.request_id,
-            }),
-            TopicCommand::Redeliver(_) => Answer::Nothing,
-            TopicCommand::Send(_)
-            | TopicCommand::Ack(_)
-            | TopicCommand::CloseProducer(_)
-            | TopicCommand::Unsubscribe(_) => Answer::NoMemory,
+    fn command(
+        &mut self,
+        topic: u64,
+        who: u64,
+        command: TopicCommand,
+    ) -> Plain<TopicCommand, Answer> {
+        let asked = Snapshot::of(&command);
+        Plain {
+            topic,
+            who,
+            asked,
+            said: answer_to(command),
         }
     }
 
@@ -182,19 +203,21 @@ impl<'g> Port for Desk<'g> {
         Ok(())
     }
 
-    fn look(&mut self, _topic: u64, _who: u64, _consumer_id: u64) {}
+    fn look(&mut self, topic: u64, who: u64, consumer_id: u64) -> Plain<u64, ()> {
+        Plain::new(topic, who, &consumer_id, ())
+    }
 
     fn dispatch(
         &mut self,
-        _topic: u64,
-        _who: u64,
-        _consumer_id: u64,
-    ) -> Result<Option<Sent>, ReadError> {
-        Ok(None)
+        topic: u64,
+        who: u64,
+        consumer_id: u64,
+    ) -> Plain<u64, Result<Option<Sent>, ReadError>> {
+        Plain::new(topic, who, &consumer_id, Ok(None))
     }
 
-    fn is_quiet(&mut self, _topic: u64, _who: u64) -> bool {
-        true
+    fn is_quiet(&mut self, topic: u64, who: u64) -> Plain<(), bool> {
+        Plain::new(topic, who, &(), true)
     }
 
     fn next_due(&self, _who: u64, from: u64) -> Option<u64> {
@@ -205,18 +228,13 @@ impl<'g> Port for Desk<'g> {
         }
     }
 
-    fn collect(&mut self, _topic: u64, _who: u64) -> Option<Reply> {
-        if self.due == 0 {
-            return None;
-        }
-        if let Some(gate) = self.gate {
-            self.was_let = gate.hold() && self.was_let;
-        }
-        self.due -= 1;
-        Some(Reply::Success { request_id: 7 })
+    fn collect(&mut self, topic: u64, who: u64) -> Plain<(), Option<Reply>> {
+        Plain::new(topic, who, &(), self.next_reply())
     }
 
-    fn leave(&mut self, _topic: u64, _who: u64) {}
+    fn leave(&mut self, topic: u64, who: u64) -> Plain<(), ()> {
+        Plain::new(topic, who, &(), ())
+    }
 
     ghost use Rattle.std.proofs.Common.{rules};
 
@@ -241,4 +259,29 @@ impl<'g> Port for Desk<'g> {
     ghost passes_count = { λ a b h. Prim.search rules };
 
     ghost counts_topics = { λ port s. absurd s };
+}
+
+/// PRODUCER and SUBSCRIBE are answered, a consumer is closed, REDELIVER isn't answered, and whatever else is asked finds no memory.
+fn answer_to(command: TopicCommand) -> Answer
+    ensures { Fits command result }
+{
+    match command {
+        TopicCommand::Producer {
+            producer_id: _,
+            request_id,
+            producer_name,
+        } => Answer::Now(Reply::ProducerSuccess {
+            request_id,
+            producer_name,
+        }),
+        TopicCommand::Subscribe(_) => Answer::Later,
+        TopicCommand::CloseConsumer(asked) => Answer::Now(Reply::Success {
+            request_id: asked.request_id,
+        }),
+        TopicCommand::Redeliver(_) => Answer::Nothing,
+        TopicCommand::Send(_)
+        | TopicCommand::Ack(_)
+        | TopicCommand::CloseProducer(_)
+        | TopicCommand::Unsubscribe(_) => Answer::NoMemory,
+    }
 }

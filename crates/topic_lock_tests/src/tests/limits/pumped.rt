@@ -2,8 +2,8 @@
 ghost use Rattle.std.specs.Prelude.{◌≡◌};
 ghost use Rattle.topic_lock.specs.Ledgers.{IsOf};
 
+use super::super::talk::{RECEIPT, SEND, feed, greet};
 use super::super::{TURNS, flush_first, new_broker, waits_for};
-use super::talk::{RECEIPT, SEND, feed, greet};
 use super::waiting_port::{Pause, WaitingPort};
 use disk_mem::MemShelf;
 use gated_log::Refusal;

@@ -1,12 +1,11 @@
 ghost use Rattle.std.specs.Prelude.{◌≡◌};
 
 use super::super::waits_for;
-use commands::Reply;
 use names::TopicName;
 use permits::{Granter, TooManyPermits};
 use session::{Found, Port};
 use std::sync::atomic::{AtomicBool, Ordering};
-use topic_core::{Answer, Outgoing, ReadError, TopicCommand};
+use topic_core::TopicCommand;
 
 /// Where a port waits.
 #[derive(Clone, Copy, Debug, PartialEq, Eq)]
@@ -61,6 +60,20 @@ impl<'g, P: Port> Port for WaitingPort<'g, P> {
 
     ghost refuses = { λ old why new. P.refuses old.port why new.port };
 
+    type Answered = P::Answered;
+
+    type Sent = P::Sent;
+
+    type Had = P::Had;
+
+    type Looked = P::Looked;
+
+    type Quiet = P::Quiet;
+
+    type Collected = P::Collected;
+
+    type Left = P::Left;
+
     fn service_url(&self) -> &str {
         self.port.service_url()
     }
@@ -69,11 +82,11 @@ impl<'g, P: Port> Port for WaitingPort<'g, P> {
         self.port.topics()
     }
 
-    fn has_producer(&self, topic: u64, who: u64, producer_id: u64) -> bool {
+    fn has_producer(&self, topic: u64, who: u64, producer_id: u64) -> P::Had {
         self.port.has_producer(topic, who, producer_id)
     }
 
-    fn has_consumer(&self, topic: u64, who: u64, consumer_id: u64) -> bool {
+    fn has_consumer(&self, topic: u64, who: u64, consumer_id: u64) -> P::Had {
         self.port.has_consumer(topic, who, consumer_id)
     }
 
@@ -82,7 +95,7 @@ impl<'g, P: Port> Port for WaitingPort<'g, P> {
         port.find(name)
     }
 
-    fn command(&mut self, topic: u64, who: u64, command: TopicCommand) -> Answer {
+    fn command(&mut self, topic: u64, who: u64, command: TopicCommand) -> P::Answered {
         let WaitingPort { port, .. } = self;
         port.command(topic, who, command)
     }
@@ -104,24 +117,19 @@ impl<'g, P: Port> Port for WaitingPort<'g, P> {
         port.grant(topic, who, consumer_id, granter, permits)
     }
 
-    fn look(&mut self, topic: u64, who: u64, consumer_id: u64) {
+    fn look(&mut self, topic: u64, who: u64, consumer_id: u64) -> P::Looked {
         let WaitingPort { port, .. } = self;
         port.look(topic, who, consumer_id)
     }
 
-    fn dispatch(
-        &mut self,
-        topic: u64,
-        who: u64,
-        consumer_id: u64,
-    ) -> Result<Option<Outgoing>, ReadError> {
+    fn dispatch(&mut self, topic: u64, who: u64, consumer_id: u64) -> P::Sent {
         let WaitingPort { port, .. } = self;
         let sent = port.dispatch(topic, who, consumer_id);
         self.wait(Pause::BehindDispatch);
         sent
     }
 
-    fn is_quiet(&mut self, topic: u64, who: u64) -> bool {
+    fn is_quiet(&mut self, topic: u64, who: u64) -> P::Quiet {
         let WaitingPort { port, .. } = self;
         port.is_quiet(topic, who)
     }
@@ -130,13 +138,13 @@ impl<'g, P: Port> Port for WaitingPort<'g, P> {
         self.port.next_due(who, from)
     }
 
-    fn collect(&mut self, topic: u64, who: u64) -> Option<Reply> {
+    fn collect(&mut self, topic: u64, who: u64) -> P::Collected {
         self.wait(Pause::BeforeCollecting);
         let WaitingPort { port, .. } = self;
         port.collect(topic, who)
     }
 
-    fn leave(&mut self, topic: u64, who: u64) {
+    fn leave(&mut self, topic: u64, who: u64) -> P::Left {
         let WaitingPort { port, .. } = self;
         port.leave(topic, who)
     }

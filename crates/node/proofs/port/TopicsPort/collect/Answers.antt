@@ -15,10 +15,10 @@ invariant_of-self g c =
     let t = c.args.self.now in
     let h = c.index_mut.result.now in
     let was = slice_get_read t.held.items (length t.held.items) c.args.topic h refl c.requires c.index_mut.ensures.value in
-    let e = c.collect.ensures in
+    let e = c.collect-said.ensures in
     record {
-      numbered = keep_numbers (broker_of t) t.held.items c.args.topic h c.collect.new.self was (per_ledger t.catalog) t.numbered (ap (λ s. (g.T.TopicStore.view s).topic) e.rest.0, e.goes_on.per_ledger);
-      named = t.named ∙ sym (length-set t.held.items c.args.topic c.collect.new.self);
+      numbered = keep_numbers (broker_of t) t.held.items c.args.topic h c.collect-said.new.self was (per_ledger t.catalog) t.numbered (ap (λ s. (g.T.TopicStore.view s).topic) e.rest.0, e.goes_on.per_ledger);
+      named = t.named ∙ sym (length-set t.held.items c.args.topic c.collect-said.new.self);
       doubted = t.doubted;
     }
 
@@ -27,15 +27,15 @@ returns-clause-passes g c =
     let t = c.args.self.now in
     let h = c.index_mut.result.now in
     let was = slice_get_read t.held.items (length t.held.items) c.args.topic h refl c.requires c.index_mut.ensures.value in
-    let e = c.collect.ensures in
-    passes_core g.S.Shelf.disk t _ c.args.topic h c.collect.new.self was refl refl refl refl e.rest.0 e.rest.1 e.goes_on refl
-    (λ s. marked_on t.uses t.held.items c.args.topic h c.collect.new.self was (collect_owners h.core c.args.who c.collect.result c.collect.new.self.core e.step) s.marked)
+    let e = c.collect-said.ensures in
+    passes_core g.S.Shelf.disk t _ c.args.topic h c.collect-said.new.self was refl refl refl refl e.rest.0 e.rest.1 e.goes_on refl
+    (λ s. marked_on t.uses t.held.items c.args.topic h c.collect-said.new.self was (collect_owners h.core c.args.who c.collect-said.result c.collect-said.new.self.core e.step) s.marked)
 
 pub returns-clause-step : goal.returns-clause-step
 returns-clause-step g c = λ stands.
     let t = c.args.self.now in
     let k = c.args.topic in
     let h = c.index_mut.result.now in
-    let next = c.collect.new.self in
+    let next = c.collect-said.new.self in
     let was = slice_get_read t.held.items (length t.held.items) k h refl c.requires c.index_mut.ensures.value in
-    collects _ _ k h.core next.core (topic_was (broker_of t) t.held.items k h next was) (topic_now (broker_of t) t.held.items k h next was) (becomes (broker_of t) t.held.items k h next was) c.args.who c.collect.result c.collect.ensures.step
+    collects _ _ k h.core next.core (topic_was (broker_of t) t.held.items k h next was) (topic_now (broker_of t) t.held.items k h next was) (becomes (broker_of t) t.held.items k h next was) c.args.who c.collect-said.result c.collect-said.ensures.step

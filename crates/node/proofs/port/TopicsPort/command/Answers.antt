@@ -15,10 +15,10 @@ invariant_of-self g c =
     let t = c.args.self.now in
     let h = c.index_mut.result.now in
     let was = slice_get_read t.held.items (length t.held.items) c.args.topic h refl c.requires c.index_mut.ensures.value in
-    let e = c.command.ensures in
+    let e = c.command-said.ensures in
     record {
-      numbered = keep_numbers (broker_of t) t.held.items c.args.topic h c.command.new.self was (per_ledger t.catalog) t.numbered (ap (λ s. (g.T.TopicStore.view s).topic) e.rest.0, e.goes_on.per_ledger);
-      named = t.named ∙ sym (length-set t.held.items c.args.topic c.command.new.self);
+      numbered = keep_numbers (broker_of t) t.held.items c.args.topic h c.command-said.new.self was (per_ledger t.catalog) t.numbered (ap (λ s. (g.T.TopicStore.view s).topic) e.rest.0, e.goes_on.per_ledger);
+      named = t.named ∙ sym (length-set t.held.items c.args.topic c.command-said.new.self);
       doubted = t.doubted;
     }
 
@@ -27,15 +27,15 @@ returns-clause-passes g c =
     let t = c.args.self.now in
     let h = c.index_mut.result.now in
     let was = slice_get_read t.held.items (length t.held.items) c.args.topic h refl c.requires c.index_mut.ensures.value in
-    let e = c.command.ensures in
-    passes_core g.S.Shelf.disk t _ c.args.topic h c.command.new.self was refl refl refl refl e.rest.0 e.rest.1 e.goes_on refl
-    (λ s. marked_coming t.uses t.held.items c.args.topic h c.command.new.self was c.mark.new.self c.args.who (command_owners h.core c.args.who c.args.command c.command.result c.command.new.self.core e.step) c.mark.ensures.used c.mark.ensures.others s.marked)
+    let e = c.command-said.ensures in
+    passes_core g.S.Shelf.disk t _ c.args.topic h c.command-said.new.self was refl refl refl refl e.rest.0 e.rest.1 e.goes_on refl
+    (λ s. marked_coming t.uses t.held.items c.args.topic h c.command-said.new.self was c.mark.new.self c.args.who (command_owners h.core c.args.who c.args.command c.command-said.result c.command-said.new.self.core e.step) c.mark.ensures.used c.mark.ensures.others s.marked)
 
 pub returns-clause-step : goal.returns-clause-step
 returns-clause-step g c = λ stands.
     let t = c.args.self.now in
     let k = c.args.topic in
     let h = c.index_mut.result.now in
-    let next = c.command.new.self in
+    let next = c.command-said.new.self in
     let was = slice_get_read t.held.items (length t.held.items) k h refl c.requires c.index_mut.ensures.value in
-    commands _ _ k h.core next.core (topic_was (broker_of t) t.held.items k h next was) (topic_now (broker_of t) t.held.items k h next was) (becomes (broker_of t) t.held.items k h next was) c.args.who c.args.command c.command.result c.command.ensures.step
+    commands _ _ k h.core next.core (topic_was (broker_of t) t.held.items k h next was) (topic_now (broker_of t) t.held.items k h next was) (becomes (broker_of t) t.held.items k h next was) c.args.who c.args.command c.command-said.result c.command-said.ensures.step

@@ -16,10 +16,10 @@ invariant_of-self g c =
     let t = c.args.self.now in
     let h = c.index_mut.result.now in
     let was = slice_get_read t.held.items (length t.held.items) c.args.topic h refl c.requires c.index_mut.ensures.value in
-    let e = c.dispatch.ensures in
+    let e = c.dispatch-said.ensures in
     record {
-      numbered = keep_numbers (broker_of t) t.held.items c.args.topic h c.dispatch.new.self was (per_ledger t.catalog) t.numbered (ap (λ s. (g.T.TopicStore.view s).topic) e.rest.0, e.goes_on.per_ledger);
-      named = t.named ∙ sym (length-set t.held.items c.args.topic c.dispatch.new.self);
+      numbered = keep_numbers (broker_of t) t.held.items c.args.topic h c.dispatch-said.new.self was (per_ledger t.catalog) t.numbered (ap (λ s. (g.T.TopicStore.view s).topic) e.rest.0, e.goes_on.per_ledger);
+      named = t.named ∙ sym (length-set t.held.items c.args.topic c.dispatch-said.new.self);
       doubted = t.doubted;
     }
 
@@ -28,19 +28,19 @@ returns-clause-passes g c =
     let t = c.args.self.now in
     let h = c.index_mut.result.now in
     let was = slice_get_read t.held.items (length t.held.items) c.args.topic h refl c.requires c.index_mut.ensures.value in
-    let e = c.dispatch.ensures in
-    passes_read g.S.Shelf.disk t _ c.args.topic h c.dispatch.new.self was refl refl refl refl e.rest.0 e.rest.1 e.goes_on (record { seen = e.seen; any_moment = e.any_moment; kept = e.kept })
-    (λ s. marked_on t.uses t.held.items c.args.topic h c.dispatch.new.self was (dispatch_owners h.core c.args.who c.args.consumer_id c.dispatch.result c.dispatch.new.self.core (e.step (s.each c.args.topic h was))) s.marked)
+    let e = c.dispatch-said.ensures in
+    passes_read g.S.Shelf.disk t _ c.args.topic h c.dispatch-said.new.self was refl refl refl refl e.rest.0 e.rest.1 e.goes_on (record { seen = e.seen; any_moment = e.any_moment; kept = e.kept })
+    (λ s. marked_on t.uses t.held.items c.args.topic h c.dispatch-said.new.self was (dispatch_owners h.core c.args.who c.args.consumer_id c.dispatch-said.result c.dispatch-said.new.self.core (e.step (s.each c.args.topic h was))) s.marked)
 
 pub returns-clause-step : goal.returns-clause-step
 returns-clause-step g c = λ stands.
     let t = c.args.self.now in
     let k = c.args.topic in
     let h = c.index_mut.result.now in
-    let next = c.dispatch.new.self in
+    let next = c.dispatch-said.new.self in
     let was = slice_get_read t.held.items (length t.held.items) k h refl c.requires c.index_mut.ensures.value in
-    dispatches _ _ k h.core next.core (topic_was (broker_of t) t.held.items k h next was) (topic_now (broker_of t) t.held.items k h next was) (becomes (broker_of t) t.held.items k h next was) c.args.who c.args.consumer_id c.dispatch.result
-    (c.dispatch.ensures.step (stands.each k h was))
+    dispatches _ _ k h.core next.core (topic_was (broker_of t) t.held.items k h next was) (topic_now (broker_of t) t.held.items k h next was) (becomes (broker_of t) t.held.items k h next was) c.args.who c.args.consumer_id c.dispatch-said.result
+    (c.dispatch-said.ensures.step (stands.each k h was))
 
 pub returns-clause-refused : goal.returns-clause-refused
 returns-clause-refused g c =
@@ -49,4 +49,4 @@ returns-clause-refused g c =
     let h = c.index_mut.result.now in
     let was = slice_get_read t.held.items (length t.held.items) k h refl c.requires c.index_mut.ensures.value in
     let disk = g.S.Shelf.disk in
-    refuses_at (HeldStands h (disk t.shelf)) (TopicsStand disk t) (stages_of t) k (stage_of h.flight) _ _ c.dispatch.result (stage_was (broker_of t) t.held.items k h c.dispatch.new.self was) (λ stands. stands.each k h was) c.dispatch.ensures.refused
+    refuses_at (HeldStands h (disk t.shelf)) (TopicsStand disk t) (stages_of t) k (stage_of h.flight) _ _ c.dispatch-said.result (stage_was (broker_of t) t.held.items k h c.dispatch-said.new.self was) (λ stands. stands.each k h was) c.dispatch-said.ensures.refused

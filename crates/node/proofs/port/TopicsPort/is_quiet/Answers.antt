@@ -16,10 +16,10 @@ invariant_of-self g c =
     let t = c.args.self.now in
     let h = c.index_mut.result.now in
     let was = slice_get_read t.held.items (length t.held.items) c.args.topic h refl c.requires c.index_mut.ensures.value in
-    let e = c.is_quiet.ensures in
+    let e = c.is_quiet-said.ensures in
     record {
-      numbered = keep_numbers (broker_of t) t.held.items c.args.topic h c.is_quiet.new.self was (per_ledger t.catalog) t.numbered (ap (λ s. (g.T.TopicStore.view s).topic) e.rest.0, e.goes_on.per_ledger);
-      named = t.named ∙ sym (length-set t.held.items c.args.topic c.is_quiet.new.self);
+      numbered = keep_numbers (broker_of t) t.held.items c.args.topic h c.is_quiet-said.new.self was (per_ledger t.catalog) t.numbered (ap (λ s. (g.T.TopicStore.view s).topic) e.rest.0, e.goes_on.per_ledger);
+      named = t.named ∙ sym (length-set t.held.items c.args.topic c.is_quiet-said.new.self);
       doubted = t.doubted;
     }
 
@@ -28,24 +28,24 @@ returns-clause-passes g c =
     let t = c.args.self.now in
     let h = c.index_mut.result.now in
     let was = slice_get_read t.held.items (length t.held.items) c.args.topic h refl c.requires c.index_mut.ensures.value in
-    let e = c.is_quiet.ensures in
-    passes_core g.S.Shelf.disk t _ c.args.topic h c.is_quiet.new.self was refl refl refl refl e.rest.0 e.rest.1 e.goes_on refl
-    (λ s. marked_on t.uses t.held.items c.args.topic h c.is_quiet.new.self was (same_owners h.core.queues c.is_quiet.new.self.core.queues (ap (λ (x : Topic). x.queues) e.same)) s.marked)
+    let e = c.is_quiet-said.ensures in
+    passes_core g.S.Shelf.disk t _ c.args.topic h c.is_quiet-said.new.self was refl refl refl refl e.rest.0 e.rest.1 e.goes_on refl
+    (λ s. marked_on t.uses t.held.items c.args.topic h c.is_quiet-said.new.self was (same_owners h.core.queues c.is_quiet-said.new.self.core.queues (ap (λ (x : Topic). x.queues) e.same)) s.marked)
 
 pub returns-clause-same : goal.returns-clause-same
 returns-clause-same g c = λ stands.
     let t = c.args.self.now in
     let k = c.args.topic in
     let h = c.index_mut.result.now in
-    let next = c.is_quiet.new.self in
+    let next = c.is_quiet-said.new.self in
     let was = slice_get_read t.held.items (length t.held.items) k h refl c.requires c.index_mut.ensures.value in
-    stays _ _ k h.core next.core (topic_was (broker_of t) t.held.items k h next was) (topic_now (broker_of t) t.held.items k h next was) (becomes (broker_of t) t.held.items k h next was) c.is_quiet.ensures.same
+    stays _ _ k h.core next.core (topic_was (broker_of t) t.held.items k h next was) (topic_now (broker_of t) t.held.items k h next was) (becomes (broker_of t) t.held.items k h next was) c.is_quiet-said.ensures.same
 
 pub returns-clause-none : goal.returns-clause-none
 returns-clause-none g c = λ stands is.
     let t = c.args.self.now in
     let k = c.args.topic in
     let h = c.index_mut.result.now in
-    let next = c.is_quiet.new.self in
+    let next = c.is_quiet-said.new.self in
     let was = slice_get_read t.held.items (length t.held.items) k h refl c.requires c.index_mut.ensures.value in
-    quiet _ _ k h.core next.core (topic_was (broker_of t) t.held.items k h next was) (topic_now (broker_of t) t.held.items k h next was) (becomes (broker_of t) t.held.items k h next was) c.args.who (c.is_quiet.ensures.none is)
+    quiet _ _ k h.core next.core (topic_was (broker_of t) t.held.items k h next was) (topic_now (broker_of t) t.held.items k h next was) (becomes (broker_of t) t.held.items k h next was) c.args.who (c.is_quiet-said.ensures.none is)

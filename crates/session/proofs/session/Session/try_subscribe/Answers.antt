@@ -4,7 +4,7 @@ use Rattle.session.proofs.session.Session.try_subscribe.Goals as goal
 pub returns-clause-ok : goal.returns-clause-ok
 returns-clause-ok g c = λ s. record {
   named = c.requires.named;
-  answer = c.command-answer.result;
-  step = rw (sym (c.subscribe_command.ensures c.requires.named), c.keep_if.ensures.same (g.met.P.Port.passes_sole _ _ c.command-answer.ensures.passes s)) (search rules);
+  answer = c.hear-answer.result;
+  step = rw (sym (c.subscribe_command.ensures c.requires.named), c.keep_if.ensures.same (g.met.P.Port.passes_sole _ _ c.command.ensures.passes s)) (search rules);
   answered = search rules;
 }
