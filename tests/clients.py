@@ -27,12 +27,20 @@ def fields_of(content):
 class Loop:
     """All connections of a round, and the actors over them."""
 
-    def __init__(self, port, per_ledger, rng):
+    def __init__(self, port, per_ledger, rng, forgives=False):
+        """One that forgives takes refusals, and connections that the broker ends, as what failing files bring: who meets one asks for nothing more."""
         self.port, self.per_ledger, self.rng, self.selector, self.is_ending = port, per_ledger, rng, selectors.DefaultSelector(), False
+        self.forgives, self.forgiven = forgives, 0
         self.actors, self.others = [], []
 
     def connect(self):
         return Connection(self)
+
+    def forgive(self, why):
+        """A refusal, or a connection that the broker ends, where such may come."""
+        if not self.forgives:
+            raise Wrong(why)
+        self.forgiven += 1
 
     def run(self, seconds, is_done=lambda: False):
         """Works until something is done or so many seconds are over; answers whether it is done."""
@@ -84,7 +92,7 @@ class Connection:
         self.loop, self.out, self.inside, self.awaited, self.producers, self.consumers = loop, bytearray(CONNECT), bytearray(), {}, {}, {}
         self.socket = socket.create_connection(("127.0.0.1", loop.port))
         self.socket.setblocking(False)
-        self.is_connected, self.last_id, self.events = False, 0, selectors.EVENT_READ | selectors.EVENT_WRITE
+        self.is_connected, self.is_over, self.last_id, self.events = False, False, 0, selectors.EVENT_READ | selectors.EVENT_WRITE
         loop.selector.register(self.socket, self.events, self)
 
     def new_id(self):
@@ -92,8 +100,9 @@ class Connection:
         return self.last_id
 
     def put(self, content):
-        self.out += content
-        self.listen()
+        if not self.is_over:
+            self.out += content
+            self.listen()
 
     def ask(self, make, answer):
         """Sends what `make` makes of a new request id; its reply is handed to `answer`."""
@@ -125,10 +134,11 @@ class Connection:
 
     def end(self, why):
         if not self.loop.is_ending:
-            raise Wrong(why)
+            self.loop.forgive(why)
         self.close()
 
     def close(self):
+        self.is_over = True
         self.loop.selector.unregister(self.socket)
         self.socket.close()
 
@@ -158,7 +168,8 @@ class Connection:
         elif kind == SEND_RECEIPT and fields[1] in self.producers:
             self.producers[fields[1]].take_receipt(fields[2], self.position(fields[3]))
         elif kind == SEND_ERROR:
-            raise Wrong(f"message {fields[2]} of a producer was refused: {fields[4]}")
+            self.loop.forgive(f"message {fields[2]} of a producer was refused: {fields[4]}")
+            self.producers[fields[1]].is_idle = True
         elif kind == MESSAGE and fields[1] in self.consumers:
             self.consumers[fields[1]].take_message(self.position(fields[2]), entry)
         else:
@@ -167,9 +178,11 @@ class Connection:
     def answered(self, request_id, kind, fields):
         if request_id not in self.awaited:
             raise Wrong(f"request {request_id} was answered, and isn't awaited")
-        if kind == ERROR or (kind == ACK_RESPONSE and 4 in fields):
-            raise Wrong(f"request {request_id} was refused: {fields.get(3, fields.get(5))}")
-        self.awaited.pop(request_id)()
+        answer = self.awaited.pop(request_id)
+        if kind != ERROR and (kind != ACK_RESPONSE or 4 not in fields):
+            answer()
+        else:
+            self.loop.forgive(f"request {request_id} was refused: {fields.get(3, fields.get(5))}")
 
     def position(self, message_id):
         fields = fields_of(message_id)

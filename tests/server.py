@@ -1,4 +1,5 @@
 """A broker's program over a folder: how it is begun, ended, asked, and refused."""
+import os
 import re
 import selectors
 import signal
@@ -6,6 +7,7 @@ import socket
 import subprocess
 
 SECONDS = 60  # until the program must have answered or ended; a machine that does other things too needs some
+THREADS = 66  # of a broker at rest: a flusher for each of 64 topics, the ringer, and the one that takes connections
 TOPIC_LINE = re.compile(r"T +(\d+) +(\d+) +(\d+) (\S+)")
 SUBSCRIPTION_LINE = re.compile(r"S +(\d+) +(\d+) +(\d+) (\S+)")
 
@@ -66,6 +68,18 @@ class Server:
         with open(self.log, encoding="utf-8", errors="replace") as log:
             return log.read().splitlines()
 
+    def status(self, name):
+        """A number of the process, as the system tells it: memory in bytes, threads as they are."""
+        with open(f"/proc/{self.process.pid}/status", encoding="ascii") as file:
+            words = next(line.split() for line in file if line.startswith(f"{name}:"))
+        return int(words[1]) * (1024 if words[2:] == ["kB"] else 1)
+
+    def processor_seconds(self):
+        """What the process took of processors so far, to a hundredth or so."""
+        with open(f"/proc/{self.process.pid}/stat", encoding="ascii") as file:
+            words = file.read().rpartition(")")[2].split()
+        return sum(map(int, words[11:13])) / os.sysconf("SC_CLK_TCK")
+
     def end(self, how=signal.SIGKILL):
         """Ends the program by a signal; it must live until then."""
         if self.process.poll() is not None:
@@ -108,3 +122,24 @@ class Server:
             else:
                 raise Wrong(f"inspect printed the line {line!r}")
         return {name: (entries, marks) for name, entries, marks in found}
+
+
+class Troubled(Server):
+    """A folder that `troubled` serves, a built program of tests: the same broker, whose files take orders."""
+
+    def __init__(self, program, folder, troubled, entries=1000):
+        super().__init__(program, folder, entries)
+        self.troubled = troubled
+
+    def begin(self):
+        self.port = free_port()
+        with open(self.log, "a", encoding="utf-8") as log:
+            self.process = subprocess.Popen([self.troubled, f"127.0.0.1:{self.port}", self.folder], stdin=subprocess.PIPE, stdout=subprocess.PIPE, stderr=log,
+                                            text=True)
+
+    def order(self, line):
+        self.process.stdin.write(f"{line}\n")
+        self.process.stdin.flush()
+        said = self.first_line()
+        if said != "obeyed\n":
+            raise Wrong(f"the order {line!r} was answered {said!r}")

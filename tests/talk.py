@@ -1,10 +1,12 @@
-"""A client that talks to a served broker frame by frame: for tests/connections and tests/full."""
+"""A client that talks to a served broker frame by frame: for tests/connections, tests/full, tests/stress and tests/troubles."""
 import socket
+import struct
 
 from encoding import CONNECT, CONNECTED
 from server import SECONDS, Wrong
 
 SILENCE = 0.2  # seconds
+AT_ONCE = struct.pack("ii", 1, 0)  # for SO_LINGER: what was sent and not taken is lost, and the other end's next call fails
 
 
 def connect(server):
@@ -22,6 +24,12 @@ def read(client, count):
             break
         got += piece
     return got
+
+
+def read_frame(client):
+    """A whole frame, whatever it says, or what came of it before the end."""
+    head = read(client, 4)
+    return head + read(client, int.from_bytes(head, "big"))
 
 
 def must_get(client, wanted, what):
@@ -47,3 +55,8 @@ def must_be_silent(client):
     if more:
         raise Wrong("a message came that mustn't")
     client.settimeout(SECONDS)
+
+
+def break_off(client):
+    client.setsockopt(socket.SOL_SOCKET, socket.SO_LINGER, AT_ONCE)
+    client.close()
