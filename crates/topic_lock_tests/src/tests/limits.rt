@@ -1,7 +1,4 @@
-// What the ports of two sending sessions settle, and that nobody waits for a session that is pumped or served. Whoever waits goes on up to a limit of turns, so allocations of these tests are not refused in turn.
-mod flows;
-mod pumped;
-mod waiting_port;
+// What the ports of two sending sessions settle. Whoever waits goes on up to a limit of turns, so allocations of these tests are not refused in turn.
 
 ghost use Rattle.topic_lock.specs.Ledgers.{IsOf};
 

@@ -27,10 +27,6 @@ pub const FLOW: &[u8] = b"\0\0\0\x0c\0\0\0\x08\x08\x0b\x5a\x04\x08\x02\x10\x01";
 pub const FIRST_MESSAGE: &[u8] =
     b"\0\0\0\x1e\0\0\0\x0c\x08\x09\x4a\x08\x08\x02\x12\x04\x08\0\x10\0\0\0\0\x0a\x0a\x01p\x10\0\x18\x01\xc0>\x05";
 
-/// The second entry, for consumer 2.
-pub const SECOND_MESSAGE: &[u8] =
-    b"\0\0\0\x1e\0\0\0\x0c\x08\x09\x4a\x08\x08\x02\x12\x04\x08\0\x10\x01\0\0\0\x0a\x0a\x01p\x10\0\x18\x01\xc0>\x05";
-
 // What ended a session, where memory was refused.
 fn refusal(fault: Fault) -> Refusal {
     match fault {

@@ -2,4 +2,4 @@ use Rattle.std.proofs.Common.{◌≡◌, length}
 use Rattle.topic_lock_tests.proofs.tests.shelves.Given as goal
 
 abbrev pub invariant-loop : goal.invariant-loop
-invariant-loop g l = length l.shelves.items ≡ l.counter
+invariant-loop l = length l.shelves.items ≡ l.counter
