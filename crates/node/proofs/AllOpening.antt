@@ -22,7 +22,7 @@ use Rattle.session.specs.Client.{Client}
 use Rattle.node.specs.Flights.{stage_of}
 use Rattle.node.proofs.Making.{parts}
 use Rattle.node.specs.State.{Stage, Resting}
-use Rattle.node.specs.Standing.{HeldStands, AreMarked, NamesLeft, TopicsStand, broker_of, view_in, phase_in}
+use Rattle.node.specs.Standing.{HeldStands, NamesLeft, TopicsStand, broker_of, view_in, phase_in}
 use Rattle.node.specs.Opening.{IsOpened, AllStand, AreJustOpened, IsJustOpened, IsTopicFault, IsFirstFault}
 use Rattle.node.specs.Passing.{standing_read}
 use Rattle.node.specs.Lists.{get_push, get_map, get_at, at_each}
@@ -93,13 +93,12 @@ opens_at files_stand n m a b held is same opens = subst (λ k. AreJustOpened fil
 
 module _ {T S : Type 0} {store : StoreMembers T} (disk : S → Disk) where
   -- it stands where its names and each topic do
-  pub node_stands : (t : Topics T S store) → t.doubtful ≡ None → SettledIn (NamesHeld t.catalog) (disk t.shelf) (remembered t.catalog) → AllStand t.held.items (disk t.shelf) → AreMarked t.uses t.held.items → TopicsStand disk t
-  node_stands t none settled all marked = record {
+  pub node_stands : (t : Topics T S store) → t.doubtful ≡ None → SettledIn (NamesHeld t.catalog) (disk t.shelf) (remembered t.catalog) → AllStand t.held.items (disk t.shelf) → TopicsStand disk t
+  node_stands t none settled all = record {
     honest = settled.honest;
     each = all;
     names = λ files may. subst (λ d. NamesLeft store.stands d (broker_of t) files) (sym none) (holds_stands t.catalog files (remembered t.catalog) (settled.left files may));
     settled = λ _. settled;
-    marked = marked;
   }
 
 -- and was just opened

@@ -1,9 +1,6 @@
 pub mod UnderWay
 pub mod Frames
 pub mod Commands
-pub mod Owners
-pub mod Usage
-pub mod Marks
 pub mod Making
 pub mod AllOpening
 pub mod OneFault

@@ -22,18 +22,16 @@ use Rattle.catalog.specs.Laws.{own_file, holds_stands}
 use Rattle.session.specs.Broker.{Broker, fresh, topic_at, sure, doubting, made}
 use Rattle.node.specs.declared.held.Held.{Held}
 use Rattle.node.specs.declared.topics.Topics.{Topics}
-use Rattle.node.specs.Uses.{Uses}
 use Rattle.node.specs.State.{Stage, Resting, stage_in}
 use Rattle.node.specs.Flights.{stage_of}
 use Rattle.node.specs.Numbers.{AreNumbered, IsNumbered}
 use Rattle.node.specs.Naming.{with_names, Gains, Grows}
-use Rattle.node.specs.Standing.{StandsForBroker, StandsForSome, NamesLeft, view_in, phase_in, HeldStands, AreMarked, broker_of, stages_of, TopicsStand, Worked, Works}
+use Rattle.node.specs.Standing.{StandsForBroker, StandsForSome, NamesLeft, view_in, phase_in, HeldStands, broker_of, stages_of, TopicsStand, Worked, Works}
 use Rattle.node.specs.Passing.{stands_so, count_is, untouched}
 use Rattle.node.specs.Growing.{gains_none, gained_at}
 use Rattle.node.specs.Brokers.{one_more_at}
 use Rattle.node.specs.Lists.{get_push}
 use Rattle.std.proofs.lemmas.Option.{slice_get_within}
-use Rattle.node.proofs.Marks.{marked_push}
 use Rattle.node.proofs.Frames.{standing_still, same_files, names_alone, settled_still}
 
 -- ---- what brokers become
@@ -170,18 +168,9 @@ module _ {T S : Type 0} {store : StoreMembers T} (disk : S → Disk) where
       → ((number : ℕ) → stage_in (stages_of new) number ≡ stage_in (stages_of t) number) → (disk t.shelf).faults ≤ (disk new.shelf).faults → Worked disk t new
   worked_so t new standing gains moments stages faults = record { standing = standing; grows = gains_grows (broker_of t) (broker_of new) gains; any_moment = moments; stages = stages; faults = faults }
 
-  -- who has a queue is marked as before
-  still_marked : (t new : Topics T S store) → new.held.items ≡ t.held.items → new.uses ≡ t.uses → AreMarked t.uses t.held.items → AreMarked new.uses new.held.items
-  still_marked t new items uses marked =
-      subst (λ (u : Uses). AreMarked u new.held.items) (sym uses) (subst (λ (l : List (Held T store)). AreMarked t.uses l) (sym items) marked)
-
-  more_marked : (t new : Topics T S store) (h : Held T store) → new.held.items ≡ t.held.items ++ h ∷ [] → h.core.queues ≡ [] → new.uses ≡ t.uses → AreMarked t.uses t.held.items → AreMarked new.uses new.held.items
-  more_marked t new h items none uses marked =
-      subst (λ (u : Uses). AreMarked u new.held.items) (sym uses) (subst (λ (l : List (Held T store)). AreMarked t.uses l) (sym items) (marked_push t.uses t.held.items h none marked))
-
   -- nothing changed but the room of a list
-  pub works_same : (t new : Topics T S store) → new.held.items ≡ t.held.items → new.uses ≡ t.uses → new.catalog ≡ t.catalog → new.url ≡ t.url → new.doubtful ≡ t.doubtful → new.shelf ≡ t.shelf → Works disk t new
-  works_same t new items uses catalog url doubtful shelf =
+  pub works_same : (t new : Topics T S store) → new.held.items ≡ t.held.items → new.catalog ≡ t.catalog → new.url ≡ t.url → new.doubtful ≡ t.doubtful → new.shelf ≡ t.shelf → Works disk t new
+  works_same t new items catalog url doubtful shelf =
       let broker : broker_of new ≡ broker_of t = same_parts
       (ap (λ (c : Catalog). per_ledger c) catalog) url (ap (λ (c : Catalog). remembered c) catalog) doubtful (ap (λ (l : List (Held T store)). map (λ (h : Held T store). h.core) l) items) in (
         omega (arith, ap (λ (l : List (Held T store)). length l) items),
@@ -194,7 +183,6 @@ module _ {T S : Type 0} {store : StoreMembers T} (disk : S → Disk) where
                   (λ files may. subst (λ (b : Broker). NamesLeft store.stands b.doubtful b files) (sym broker) (s.names files may));
               settled = subst (λ (x : S). failed new.catalog ≡ false → SettledIn (NamesHeld new.catalog) (disk x) (remembered new.catalog)) (sym shelf)
                   (subst (λ (c : Catalog). failed c ≡ false → SettledIn (NamesHeld c) (disk t.shelf) (remembered c)) (sym catalog) s.settled);
-              marked = still_marked t new items uses s.marked;
             })
             (subst (λ (b : Broker). Gains (broker_of t) b) (sym broker) (gains_none (broker_of t)))
             (weaken _ _ (disk t.shelf) (disk new.shelf) (untouched disk t new.shelf s shelf) (λ files is. (broker_of t, gains_none (broker_of t), is)))
@@ -229,41 +217,38 @@ module _ {T S : Type 0} {store : StoreMembers T} (disk : S → Disk) where
         read_moments = weaken _ _ (disk t.shelf) (disk new.shelf) leaves (λ files may. (broker_of t, gains_none (broker_of t), stands_so disk t s files may))
 
         -- nothing changed but what a failed sync leaves of the catalog's file, or of one of a topic that isn't held
-        pub worked_reading : new.held.items ≡ t.held.items → new.uses ≡ t.uses → broker_of new ≡ broker_of t → new.doubtful ≡ t.doubtful → failed new.catalog ≡ true → Worked disk t new
-        worked_reading items uses broker doubtful fails = worked_so t new
+        pub worked_reading : new.held.items ≡ t.held.items → broker_of new ≡ broker_of t → new.doubtful ≡ t.doubtful → failed new.catalog ≡ true → Worked disk t new
+        worked_reading items broker doubtful fails = worked_so t new
             (record {
               honest = kept.honest s.honest;
               each = subst (λ (l : List (Held T store)). (j : ℕ) (x : Held T store) → slice_get l j ≡ Some x → HeldStands x (disk new.shelf)) (sym items) read_each;
               names = λ files may. subst (λ (b : Broker). NamesLeft store.stands b.doubtful b files) (sym broker) (s.names files (leaves.now files may));
               settled = λ works. absurd (true≢false (sym fails ∙ works));
-              marked = still_marked t new items uses s.marked;
             })
             (subst (λ (b : Broker). Gains (broker_of t) b) (sym broker) (gains_none (broker_of t))) read_moments
             (λ number. ap (λ (l : List (Held T store)). stage_in (map (λ (x : Held T store). stage_of x.flight) l) number) items) kept.faults
 
         -- the catalog was opened again, and the name in doubt isn't there
-        pub worked_without : new.held.items ≡ t.held.items → new.uses ≡ t.uses → broker_of new ≡ sure (broker_of t) → SettledIn (NamesHeld new.catalog) (disk new.shelf) (remembered new.catalog) → new.doubtful ≡ None → Worked disk t new
-        worked_without items uses broker settled none = worked_so t new
+        pub worked_without : new.held.items ≡ t.held.items → broker_of new ≡ sure (broker_of t) → SettledIn (NamesHeld new.catalog) (disk new.shelf) (remembered new.catalog) → new.doubtful ≡ None → Worked disk t new
+        worked_without items broker settled none = worked_so t new
             (record {
               honest = kept.honest s.honest;
               each = subst (λ (l : List (Held T store)). (j : ℕ) (x : Held T store) → slice_get l j ≡ Some x → HeldStands x (disk new.shelf)) (sym items) read_each;
               names = λ files may. subst (λ d. NamesLeft store.stands d (broker_of new) files) (sym none) (holds_stands new.catalog files (remembered new.catalog) (settled.left files may));
               settled = λ works. settled;
-              marked = still_marked t new items uses s.marked;
             })
             (record { more = []; doubt = None; gained = broker ∙ sure_is (broker_of t) }) read_moments
             (λ number. ap (λ (l : List (Held T store)). stage_in (map (λ (x : Held T store). stage_of x.flight) l) number) items) kept.faults
 
         -- it is there, and its topic was opened
-        pub worked_with : (h : Held T store) (name : List ℕ) → new.held.items ≡ t.held.items ++ h ∷ [] → h.core.queues ≡ [] → new.uses ≡ t.uses → h.flight ≡ None → HeldStands h (disk new.shelf) → broker_of new ≡ made (sure (broker_of t)) name
+        pub worked_with : (h : Held T store) (name : List ℕ) → new.held.items ≡ t.held.items ++ h ∷ [] → h.flight ≡ None → HeldStands h (disk new.shelf) → broker_of new ≡ made (sure (broker_of t)) name
             → SettledIn (NamesHeld new.catalog) (disk new.shelf) (remembered new.catalog) → new.doubtful ≡ None → Worked disk t new
-        worked_with h name items queues uses rests here broker settled none = worked_so t new
+        worked_with h name items rests here broker settled none = worked_so t new
             (record {
               honest = kept.honest s.honest;
               each = subst (λ (l : List (Held T store)). (j : ℕ) (x : Held T store) → slice_get l j ≡ Some x → HeldStands x (disk new.shelf)) (sym items) (each_push (disk new.shelf) h here read_each);
               names = λ files may. subst (λ d. NamesLeft store.stands d (broker_of new) files) (sym none) (holds_stands new.catalog files (remembered new.catalog) (settled.left files may));
               settled = λ works. settled;
-              marked = more_marked t new h items queues uses s.marked;
             })
             (record { more = name ∷ []; doubt = None; gained = broker }) read_moments
             (λ number. ap (λ (l : List (Held T store)). stage_in (map (λ (x : Held T store). stage_of x.flight) l) number) items ∙ stage_more t.held.items h number rests) kept.faults
@@ -301,9 +286,9 @@ module _ {T S : Type 0} {store : StoreMembers T} (disk : S → Disk) where
         some_moments = weaken _ _ (disk t.shelf) d1 made_moments (λ files is. (broker_of t, gains_none (broker_of t), is))
 
         -- its files weren't made, or no memory was left for its name
-        pub worked_not : (new : Topics T S store) → disk new.shelf ≡ d1 → new.held.items ≡ t.held.items → new.uses ≡ t.uses → broker_of new ≡ broker_of t
+        pub worked_not : (new : Topics T S store) → disk new.shelf ≡ d1 → new.held.items ≡ t.held.items → broker_of new ≡ broker_of t
             → ((names : Names) → SettledIn (NamesHeld t.catalog) d1 names → SettledIn (NamesHeld new.catalog) d1 names) → Worked disk t new
-        worked_not new is items uses broker again =
+        worked_not new is items broker again =
             worked_so t new
             (record {
               honest = subst (λ (d : Disk). d.honest) (sym is) (kept.honest s.honest);
@@ -313,7 +298,6 @@ module _ {T S : Type 0} {store : StoreMembers T} (disk : S → Disk) where
                   subst (λ (b : Broker). NamesLeft store.stands b.doubtful b files) (sym broker) (subst (λ d. NamesLeft store.stands d (broker_of t) files) (sym none) (made_names files may)));
               settled = λ _. subst (λ (d : Disk). SettledIn (NamesHeld new.catalog) d (remembered new.catalog)) (sym is)
                   (again (remembered new.catalog) (subst (λ (l : Names). SettledIn (NamesHeld t.catalog) d1 l) (sym (ap (λ (b : Broker). b.names) broker)) made_settled));
-              marked = still_marked t new items uses s.marked;
             })
             (subst (λ (b : Broker). Gains (broker_of t) b) (sym broker) (gains_none (broker_of t)))
             (subst (λ (d : Disk). Leaves (StandsForSome store.stands (λ broker. Gains (broker_of t) broker)) (disk t.shelf) d) (sym is) some_moments)
@@ -347,8 +331,8 @@ module _ {T S : Type 0} {store : StoreMembers T} (disk : S → Disk) where
               (subst (λ n. store.stands n files [] map_of.empty) (sym (count_is t)) (added_files out.from files out.left out.elsewhere)))
 
           -- the device failed in it: the name is in doubt
-          pub worked_doubting : new.held.items ≡ t.held.items → new.uses ≡ t.uses → broker_of new ≡ doubting (broker_of t) name → failed new.catalog ≡ true → Worked disk t new
-          worked_doubting items uses broker fails =
+          pub worked_doubting : new.held.items ≡ t.held.items → broker_of new ≡ doubting (broker_of t) name → failed new.catalog ≡ true → Worked disk t new
+          worked_doubting items broker fails =
               worked_so t new
               (record {
                 honest = d2_honest;
@@ -356,15 +340,14 @@ module _ {T S : Type 0} {store : StoreMembers T} (disk : S → Disk) where
                 names = λ files may. subst (λ (b : Broker). NamesLeft store.stands b.doubtful b files) (sym broker)
                     (let out = w'.any_moment.now files may in ⊎_elim (λ without. inl without) (λ more. inr (more, subst (λ n. store.stands n files [] map_of.empty) (sym (count_is t)) (added_files out.from files out.left out.elsewhere))) out.own);
                 settled = λ works'. absurd (true≢false (sym fails ∙ works'));
-                marked = still_marked t new items uses s.marked;
               })
               (record { more = []; doubt = Some name; gained = broker ∙ doubting_is (broker_of t) name }) added_moments
               (λ number. ap (λ (l : List (Held T store)). stage_in (map (λ (x : Held T store). stage_of x.flight) l) number) items)
               (omega (arith, kept.faults, kept'.faults))
 
           -- it is added
-          pub worked_making : new.held.items ≡ t.held.items ++ h ∷ [] → new.uses ≡ t.uses → broker_of new ≡ made (broker_of t) name → SettledIn (NamesHeld new.catalog) (disk new.shelf) (remembered new.catalog) → Worked disk t new
-          worked_making items uses broker settled =
+          pub worked_making : new.held.items ≡ t.held.items ++ h ∷ [] → broker_of new ≡ made (broker_of t) name → SettledIn (NamesHeld new.catalog) (disk new.shelf) (remembered new.catalog) → Worked disk t new
+          worked_making items broker settled =
               let sure_now : new.doubtful ≡ None = ap (λ (b : Broker). b.doubtful) broker ∙ none in
               worked_so t new
               (record {
@@ -372,7 +355,6 @@ module _ {T S : Type 0} {store : StoreMembers T} (disk : S → Disk) where
                 each = subst (λ (l : List (Held T store)). (j : ℕ) (x : Held T store) → slice_get l j ≡ Some x → HeldStands x (disk new.shelf)) (sym items) (each_push (disk new.shelf) h added_here added_each);
                 names = λ files may. subst (λ d. NamesLeft store.stands d (broker_of new) files) (sym sure_now) (holds_stands new.catalog files (remembered new.catalog) (settled.left files may));
                 settled = λ _. settled;
-                marked = more_marked t new h items (ap (λ (u : Topic). u.queues) fresh_core) uses s.marked;
               })
               (record { more = name ∷ []; doubt = t.doubtful; gained = broker }) added_moments
               (λ number. ap (λ (l : List (Held T store)). stage_in (map (λ (x : Held T store). stage_of x.flight) l) number) items ∙ stage_more t.held.items h number rests)

@@ -7,7 +7,6 @@ pub mod Brokers
 pub mod Naming
 pub mod Steps
 pub mod Parts
-pub mod Uses
 pub mod Standing
 pub mod Opening
 pub mod Passing

@@ -25,7 +25,7 @@ use Rattle.session.specs.Broker.{Broker, topic_at, with_topic, fresh}
 use Rattle.node.specs.Naming.{IsFormed}
 use Rattle.node.specs.State.{Stage, Resting, MayRefuse, MayRefuseOf, stage_in, over}
 use Rattle.node.specs.Flights.{stage_of, phase_at}
-use Rattle.node.specs.Standing.{StandsForBroker, NamesLeft, view_in, phase_in, HeldStands, AreMarked, broker_of, stages_of, TopicsStand, Passed, Passes, Refuses}
+use Rattle.node.specs.Standing.{StandsForBroker, NamesLeft, view_in, phase_in, HeldStands, broker_of, stages_of, TopicsStand, Passed, Passes, Refuses}
 use Rattle.node.specs.Lists.{get_set, map_set, get_map, at_map, at_each}
 use Rattle.node.specs.Brokers.{set_at}
 
@@ -251,8 +251,8 @@ module _ {T S : Type 0} {store : StoreMembers T} (disk : S → Disk) where
     no_fewer = omega (arith, ap (λ (l : List (Held T store)). length l) held, length-set t.held.items number next)
 
     -- only a topic goes on
-    pub passes_core : new.shelf ≡ t.shelf → (TopicsStand disk t → AreMarked new.uses new.held.items) → Passes disk t new
-    passes_core shelf marks = (
+    pub passes_core : new.shelf ≡ t.shelf → Passes disk t new
+    passes_core shelf = (
       no_fewer,
       λ standing. record {
         standing = record {
@@ -260,7 +260,6 @@ module _ {T S : Type 0} {store : StoreMembers T} (disk : S → Disk) where
           each = subst (λ (s : S). (j : ℕ) (x : Held T store) → slice_get new.held.items j ≡ Some x → HeldStands x (disk s)) (sym shelf) (each_on (disk t.shelf) standing.each);
           names = subst (λ (s : S). (files : Image) → (disk s).may_leave files → NamesLeft store.stands new.doubtful (broker_of new) files) (sym shelf) (λ files may. names_then files (standing.names files may));
           settled = subst (λ (s : S). failed new.catalog ≡ false → SettledIn (NamesHeld new.catalog) (disk s) (remembered new.catalog)) (sym shelf) (settled_on (disk t.shelf) standing.settled);
-          marked = marks standing;
         };
         left = left_on;
         any_moment = untouched t new.shelf standing shelf;
@@ -273,8 +272,8 @@ module _ {T S : Type 0} {store : StoreMembers T} (disk : S → Disk) where
     )
 
     -- a topic goes on, and the device only reads
-    pub passes_read : OnlyReads (disk t.shelf) (disk new.shelf) → (TopicsStand disk t → AreMarked new.uses new.held.items) → Passes disk t new
-    passes_read reads marks = (
+    pub passes_read : OnlyReads (disk t.shelf) (disk new.shelf) → Passes disk t new
+    passes_read reads = (
       no_fewer,
       λ standing. record {
         standing = record {
@@ -282,7 +281,6 @@ module _ {T S : Type 0} {store : StoreMembers T} (disk : S → Disk) where
           each = each_on (disk new.shelf) (λ j x is. standing_read store.stands (phase_in x) x.core (view_in x) (disk t.shelf) (disk new.shelf) reads (standing.each j x is));
           names = λ files may. names_then files (standing.names files ((reads.any_moment standing.honest).now files may));
           settled = settled_on (disk new.shelf) (λ works. settled_names (disk t.shelf) (disk new.shelf) t.catalog reads (standing.settled works));
-          marked = marks standing;
         };
         left = left_on;
         any_moment = weaken (disk t.shelf).may_leave (StandsForBroker store.stands (broker_of t)) (disk t.shelf) (disk new.shelf) (reads.any_moment standing.honest) (stands_so t standing);

@@ -1,6 +1,5 @@
 -- How a node and its device hold the abstract node together.
-use Rattle.std.specs.Prelude.{◌≡◌, ◌⊎◌, ◌<◌, ◌≤◌, ℕ, true, false, Option, Some, None, List, [], ◌∷◌, ◌++◌, length, map as each, slice_get}
-use Rattle.std.specs.List.{list_any}
+use Rattle.std.specs.Prelude.{◌≡◌, ◌⊎◌, ◌<◌, ◌≤◌, ℕ, false, Option, Some, None, List, [], ◌∷◌, ◌++◌, length, map as each, slice_get}
 use Rattle.std.specs.FinMap as map
 use Rattle.disk.specs.Disk.{Disk, Image, Leaves}
 use Rattle.disk.specs.Contents.{Settled}
@@ -14,12 +13,10 @@ use Rattle.topic_stores.specs.Writing.{StandsFor}
 use Rattle.topic_core.specs.Crashes.{IsLeft}
 use Rattle.topic_core.specs.Standing.{Phase, Standing}
 use Rattle.topic_core.specs.State.{Topic}
-use Rattle.reply_queues.specs.Replies.{is_for}
 use Rattle.session.specs.Broker.{Broker, topic_at}
 use Rattle.node.specs.State.{State, Stage, MayRefuse, stage_in}
 use Rattle.node.specs.Naming.{IsFormed, Gains, Grows}
 use Rattle.node.specs.Flights.{stage_of, phase_at}
-use Rattle.node.specs.Uses.{Uses, is_used}
 use Rattle.node.specs.declared.held.Held.{Held}
 use Rattle.node.specs.declared.topics.Topics.{Topics}
 use Rattle.node.specs.declared.node.Node.{Node}
@@ -56,10 +53,6 @@ module _ {T : Type 0} {store : StoreMembers T} where
   abbrev pub HeldStands : Held T store → Disk → Type 0
   HeldStands h disk = Standing store.stands (phase_in h) h.core (view_in h) disk
 
-  -- whoever has a queue at a topic uses it
-  abbrev pub AreMarked : Uses → List (Held T store) → Type 0
-  AreMarked uses items = (number : ℕ) (h : Held T store) → slice_get items number ≡ Some h → (who : ℕ) → list_any (is_for who) h.core.queues ≡ true → is_used uses who number ≡ true
-
 -- ---- all of them
 
 module _ {T S : Type 0} {store : StoreMembers T} where
@@ -77,14 +70,12 @@ module _ {T S : Type 0} {store : StoreMembers T} where
   stages_of t = each (λ h. stage_of h.flight) t.held.items
 
   module _ (disk : S → Disk) where
-    -- The device is honest, and holds each topic; whatever a crash leaves stands for their names, or one more that is in doubt. Who
-    -- has a queue at a topic counts as one that uses it.
+    -- The device is honest, and holds each topic; whatever a crash leaves stands for their names, or one more that is in doubt.
     pub record TopicsStand (t : Topics T S store) : Type 0 where
       pub honest : (disk t.shelf).honest
       pub each : (number : ℕ) (h : Held T store) → slice_get t.held.items number ≡ Some h → HeldStands h (disk t.shelf)
       pub names : (files : Image) → (disk t.shelf).may_leave files → NamesLeft store.stands t.doubtful (broker_of t) files
       pub settled : failed t.catalog ≡ false → Settled (NamesHeld t.catalog) (disk t.shelf) (remembered t.catalog)
-      pub marked : AreMarked t.uses t.held.items
 
     -- A call of a port, which writes nothing: the device still holds the topics; what a crash leaves of them, it left before, and
     -- so at any moment of the call.

@@ -19,7 +19,6 @@ mod serving;
 mod site;
 mod status;
 mod topics;
-mod uses;
 
 pub use catalog::EntriesPerLedger;
 pub use commands::ReplyText;

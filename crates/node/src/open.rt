@@ -12,7 +12,6 @@ use crate::held::Held;
 use crate::node::Node;
 use crate::site::Site;
 use crate::topics::Topics;
-use crate::uses::Uses;
 use catalog::{Catalog, EntriesPerLedger};
 use disk::Shelf;
 use gated_log::Refusal;
@@ -80,7 +79,6 @@ impl<T: TopicStore, S: Shelf + Drop> Node<T, S> {
                 catalog,
                 doubtful: None,
                 held,
-                uses: Uses::new(alloc),
                 shelf,
             },
             sessions: Vec::new(alloc),

@@ -3,7 +3,6 @@ ghost use Rattle.catalog.specs.Catalogs.{remembered, per_ledger, failed};
 ghost use Rattle.node.specs.Numbers.{AreNumbered, AreNumbered-prop};
 
 use crate::held::Held;
-use crate::uses::Uses;
 use catalog::Catalog;
 use commands::ReplyText;
 use names::TopicName;
@@ -20,8 +19,6 @@ pub(crate) struct Topics<T: TopicStore, S> {
     /// A name that is in the catalog's file or isn't: the device failed in adding it.
     pub(crate) doubtful: Option<TopicName>,
     pub(crate) held: Vec<Held<T>>,
-    /// Who gave a command on which topic, and hasn't left it.
-    pub(crate) uses: Uses,
     pub(crate) shelf: S,
     pub ghost numbered: { AreNumbered (per_ledger catalog) held.items } by { AreNumbered-prop (per_ledger catalog) held.items },
     pub ghost named: { length (remembered catalog) ≡ length held.items },

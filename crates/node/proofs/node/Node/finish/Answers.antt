@@ -1,15 +1,12 @@
-use Rattle.std.proofs.Common.{◌<◌, length, refl, ap, subst, ◌∙◌, sym, arith}
+use Rattle.std.proofs.Common.{◌<◌, length, refl, subst, ◌∙◌, sym, arith}
 use Rattle.std.proofs.lemmas.List.{length-set}
 use Rattle.std.proofs.lemmas.Option.{slice_get_read}
-use Rattle.topic_core.specs.State.{Topic}
 use Rattle.catalog.specs.Catalogs.{per_ledger}
 use Rattle.node.specs.Standing.{broker_of}
 use Rattle.node.proofs.Frames.{keep_numbers, stand_beside, names_beside, finish_stands, held_same}
 use Rattle.std.specs.Prelude.{IfSome}
 use Rattle.node.specs.Flights.{stage_of}
 use Rattle.node.specs.Parts.{FinishesPart}
-use Rattle.node.proofs.Marks.{marked_on}
-use Rattle.node.proofs.Owners.{finish_owners, same_owners}
 use Rattle.node.proofs.Working as working
 use Rattle.node.proofs.node.Node.finish.Goals as goal
 
@@ -58,7 +55,6 @@ returns-in-Some-clause-stands g c =
       each = stand_beside disk t k h next was s (finish_stands g.met.T.TopicStore.laws h next (disk t.shelf) c.in-Some.finished e.stores part (s.each k h was));
       names = λ files may. names_beside t k next files (s.names files may);
       settled = s.settled;
-      marked = marked_on t.uses t.held.items k h next was (finish_owners h.core part.written c.in-Some.finished next.core part.step) s.marked;
     }
 
 pub returns-in-None-clause-step : goal.returns-in-None-clause-step
@@ -91,5 +87,4 @@ returns-in-None-clause-stands g c =
       each = stand_beside disk t k h next was s (held_same h next (disk t.shelf) e.stores same.0 same.1 (s.each k h was));
       names = λ files may. names_beside t k next files (s.names files may);
       settled = s.settled;
-      marked = marked_on t.uses t.held.items k h next was (same_owners h.core.queues next.core.queues (ap (λ (u : Topic). u.queues) same.0)) s.marked;
     }

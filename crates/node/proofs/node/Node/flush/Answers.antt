@@ -4,8 +4,6 @@ use Rattle.std.proofs.lemmas.Option.{slice_get_read}
 use Rattle.catalog.specs.Catalogs.{per_ledger}
 use Rattle.node.specs.Standing.{broker_of}
 use Rattle.node.proofs.Frames.{keep_numbers, stand_then, names_then, settled_then, of_number_within, flush_leaves, beyond_leaves, here}
-use Rattle.node.proofs.Marks.{marked_on}
-use Rattle.node.proofs.Owners.{flush_owners}
 use Rattle.node.proofs.Working as working
 use Rattle.node.proofs.node.Node.flush.Goals as goal
 
@@ -54,7 +52,6 @@ returns-clause-stands g c =
       each = stand_then disk g.met.T.TopicStore.laws g.met.T.TopicStore.stands_local t k low h next was _ d1 (of_number_within t k h was _ _ _ (e.within (s.each k h was))) here s;
       names = names_then disk g.met.T.TopicStore.laws g.met.T.TopicStore.stands_local t k low h next was _ d1 (of_number_within t k h was _ _ _ (e.within (s.each k h was))) s;
       settled = settled_then disk g.met.T.TopicStore.laws g.met.T.TopicStore.stands_local t k low h next was _ d1 (of_number_within t k h was _ _ _ (e.within (s.each k h was))) here.honest s;
-      marked = marked_on t.uses t.held.items k h next was (flush_owners h.core c.flush-flushed.result next.core e.step) s.marked;
     }
 
 pub returns-then-topic-count-clause-any_moment : goal.returns-then-topic-count-clause-any_moment

@@ -4,7 +4,6 @@ use Rattle.catalog.specs.Laws.{holds_stands}
 use Rattle.node.specs.Numbers.{AreNumbered}
 use Rattle.node.specs.Passing.{settled_names}
 use Rattle.node.proofs.Making.{both_kept, both_left}
-use Rattle.node.proofs.Marks.{marked_opened}
 use Rattle.node.proofs.AllOpening.{node_stands, just_opened, few_each, fault_before, opens_at}
 use Rattle.node.proofs.Opening.{state_crash, refused_rests}
 use Rattle.node.proofs.node.Node.open.Goals as goal
@@ -56,8 +55,8 @@ returns-clause-found g c = λ honest.
     let names = subst (λ i. NamesStand (per_ledger catalog) i (remembered catalog)) same (holds_stands catalog d1.seen (remembered catalog) opened.now) in
     let settled = settled_names d1 d2 catalog (record { seen = λ h. e2.seen h (λ no. cc); any_moment = e2.any_moment; kept = e2.kept }) opened in
     let opens = opens_at g.T.TopicStore.stands c.entries_per_ledger-per_ledger.result (per_ledger catalog) d1.seen d0.seen c.in-Ok-open_topics.held.items c.entries_per_ledger-per_ledger.ensures.number same (e2.found h1) in (
-      node_stands g.S.Shelf.disk _ refl settled (e2.stand h1) (marked_opened c.new.result c.in-Ok-open_topics.held.items g.T.TopicStore.stands c.entries_per_ledger-per_ledger.result d1.seen (e2.found h1)),
-      just_opened (per_ledger catalog) c.args.site.url (remembered catalog) c.in-Ok-open_topics.held.items d0.seen (e2.count ∙ c.len.ensures.count) names opens c.new-2.result.items d2.faults c.new-2.ensures.items,
+      node_stands g.S.Shelf.disk _ refl settled (e2.stand h1),
+      just_opened (per_ledger catalog) c.args.site.url (remembered catalog) c.in-Ok-open_topics.held.items d0.seen (e2.count ∙ c.len.ensures.count) names opens c.new.result.items d2.faults c.new.ensures.items,
     )
 
 pub returns-clause-opened : goal.returns-clause-opened
@@ -75,9 +74,9 @@ returns-clause-opened g c = λ old rest url.
     let names = subst (λ i. NamesStand (per_ledger catalog) i (remembered catalog)) same (holds_stands catalog d1.seen (remembered catalog) opened.now) in
     let settled = settled_names d1 d2 catalog (record { seen = λ h. e2.seen h (λ no. cc); any_moment = e2.any_moment; kept = e2.kept }) opened in
     let opens = opens_at g.T.TopicStore.stands c.entries_per_ledger-per_ledger.result (per_ledger catalog) d1.seen d0.seen c.in-Ok-open_topics.held.items c.entries_per_ledger-per_ledger.ensures.number same (e2.found h1) in (
-      node_stands g.S.Shelf.disk _ refl settled (e2.stand h1) (marked_opened c.new.result c.in-Ok-open_topics.held.items g.T.TopicStore.stands c.entries_per_ledger-per_ledger.result d1.seen (e2.found h1)),
+      node_stands g.S.Shelf.disk _ refl settled (e2.stand h1),
       state_crash g.T.TopicStore.stands g.met.T.TopicStore.stands_one old _ d0.seen (rest.left d0.seen (g.met.S.Shelf.lawful c.args.site.shelf honest).leaves_seen)
-          (just_opened (per_ledger catalog) c.args.site.url (remembered catalog) c.in-Ok-open_topics.held.items d0.seen (e2.count ∙ c.len.ensures.count) names opens c.new-2.result.items d2.faults c.new-2.ensures.items) (few_each (per_ledger catalog) c.args.site.url (remembered catalog) c.in-Ok-open_topics.held.items d0.seen (e2.count ∙ c.len.ensures.count) names opens) url (omega (arith, rest.faults, e1.kept.faults, e2.kept.faults)),
+          (just_opened (per_ledger catalog) c.args.site.url (remembered catalog) c.in-Ok-open_topics.held.items d0.seen (e2.count ∙ c.len.ensures.count) names opens c.new.result.items d2.faults c.new.ensures.items) (few_each (per_ledger catalog) c.args.site.url (remembered catalog) c.in-Ok-open_topics.held.items d0.seen (e2.count ∙ c.len.ensures.count) names opens) url (omega (arith, rest.faults, e1.kept.faults, e2.kept.faults)),
     )
 
 pub returns-clause-any_moment : goal.returns-clause-any_moment

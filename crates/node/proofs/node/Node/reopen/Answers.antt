@@ -9,8 +9,6 @@ use Rattle.node.specs.Standing.{broker_of}
 use Rattle.node.specs.Opening.{ReopenTells}
 use Rattle.node.specs.Passing.{untouched}
 use Rattle.node.proofs.Opening.{unknown_tells, tells_at}
-use Rattle.node.proofs.Marks.{marked_on}
-use Rattle.node.proofs.Owners.{reopen_owners}
 use Rattle.node.proofs.Working as working
 use Rattle.node.proofs.node.Node.reopen.Goals as goal
 
@@ -59,7 +57,6 @@ returns-clause-stands g c =
       each = stand_then disk g.met.T.TopicStore.laws g.met.T.TopicStore.stands_local t k low h next was _ d1 (of_number_within t k h was _ _ _ (e.within (s.each k h was))) here s;
       names = names_then disk g.met.T.TopicStore.laws g.met.T.TopicStore.stands_local t k low h next was _ d1 (of_number_within t k h was _ _ _ (e.within (s.each k h was))) s;
       settled = settled_then disk g.met.T.TopicStore.laws g.met.T.TopicStore.stands_local t k low h next was _ d1 (of_number_within t k h was _ _ _ (e.within (s.each k h was))) here.honest s;
-      marked = marked_on t.uses t.held.items k h next was (reopen_owners h.core c.reopen-reopened.result next.core (e.step (s.each k h was))) s.marked;
     }
 
 pub returns-clause-any_moment : goal.returns-clause-any_moment

@@ -4,8 +4,6 @@ use Rattle.std.proofs.lemmas.Option.{slice_get_read}
 use Rattle.catalog.specs.Catalogs.{per_ledger}
 use Rattle.node.specs.Standing.{broker_of}
 use Rattle.node.proofs.Frames.{keep_numbers, stand_beside, names_beside, take_stands}
-use Rattle.node.proofs.Marks.{marked_on}
-use Rattle.node.proofs.Owners.{take_owners}
 use Rattle.node.proofs.Working as working
 use Rattle.node.proofs.node.Node.take.Goals as goal
 
@@ -52,5 +50,4 @@ returns-clause-stands g c =
       each = stand_beside disk t k h next was s (take_stands g.met.T.TopicStore.laws h next (disk t.shelf) c.take-taken.result e.stores e.step (s.each k h was));
       names = λ files may. names_beside t k next files (s.names files may);
       settled = s.settled;
-      marked = marked_on t.uses t.held.items k h next was (take_owners h.core e.step.taken next.core e.step.step) s.marked;
     }

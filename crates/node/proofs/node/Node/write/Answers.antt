@@ -1,7 +1,6 @@
 use Rattle.std.proofs.Common.{◌≡◌, ◌<◌, length, Some, refl, ap, subst, ◌∙◌, sym, arith}
 use Rattle.std.proofs.lemmas.List.{length-set}
 use Rattle.std.proofs.lemmas.Option.{slice_get_read}
-use Rattle.topic_core.specs.State.{Topic}
 use Rattle.catalog.specs.Catalogs.{per_ledger}
 use Rattle.node.specs.Standing.{broker_of}
 use Rattle.node.proofs.Frames.{keep_numbers, stand_then, names_then, settled_then, of_number_within, leaves_same}
@@ -10,8 +9,6 @@ use Rattle.topic_stores.specs.declared.error.WriteError.{WriteError}
 use Rattle.node.specs.Flights.{stage_of}
 use Rattle.node.specs.State.{Taken, Written}
 use Rattle.node.specs.Passing.{untouched}
-use Rattle.node.proofs.Marks.{marked_on}
-use Rattle.node.proofs.Owners.{same_owners}
 use Rattle.node.proofs.Working as working
 use Rattle.node.proofs.node.Node.write.Goals as goal
 
@@ -62,7 +59,6 @@ returns-in-Some-clause-stands g c =
       each = stand_then disk g.met.T.TopicStore.laws g.met.T.TopicStore.stands_local t k low h next was _ d1 (of_number_within t k h was _ _ _ (e.within (s.each k h was))) here s;
       names = names_then disk g.met.T.TopicStore.laws g.met.T.TopicStore.stands_local t k low h next was _ d1 (of_number_within t k h was _ _ _ (e.within (s.each k h was))) s;
       settled = settled_then disk g.met.T.TopicStore.laws g.met.T.TopicStore.stands_local t k low h next was _ d1 (of_number_within t k h was _ _ _ (e.within (s.each k h was))) here.honest s;
-      marked = marked_on t.uses t.held.items k h next was (same_owners h.core.queues next.core.queues (ap (λ (u : Topic). u.queues) e.core)) s.marked;
     }
 
 pub returns-in-Some-clause-any_moment : goal.returns-in-Some-clause-any_moment
@@ -108,7 +104,6 @@ returns-in-None-clause-stands g c =
       each = stand_then disk g.met.T.TopicStore.laws g.met.T.TopicStore.stands_local t k low h next was _ d1 (of_number_within t k h was _ _ _ (e.within (s.each k h was))) here s;
       names = names_then disk g.met.T.TopicStore.laws g.met.T.TopicStore.stands_local t k low h next was _ d1 (of_number_within t k h was _ _ _ (e.within (s.each k h was))) s;
       settled = settled_then disk g.met.T.TopicStore.laws g.met.T.TopicStore.stands_local t k low h next was _ d1 (of_number_within t k h was _ _ _ (e.within (s.each k h was))) here.honest s;
-      marked = marked_on t.uses t.held.items k h next was (same_owners h.core.queues next.core.queues (ap (λ (u : Topic). u.queues) e.core)) s.marked;
     }
 
 pub returns-in-None-clause-any_moment : goal.returns-in-None-clause-any_moment

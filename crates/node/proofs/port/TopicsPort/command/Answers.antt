@@ -6,8 +6,6 @@ use Rattle.node.specs.Standing.{broker_of}
 use Rattle.node.specs.Passing.{passes_core}
 use Rattle.node.proofs.Frames.{keep_numbers, topic_was, topic_now, becomes}
 use Rattle.node.proofs.Ports.{commands}
-use Rattle.node.proofs.Marks.{marked_coming}
-use Rattle.node.proofs.Owners.{command_owners}
 use Rattle.node.proofs.port.TopicsPort.command.Goals as goal
 
 pub invariant_of-self : goal.invariant_of-self
@@ -29,7 +27,6 @@ returns-clause-passes g c =
     let was = slice_get_read t.held.items (length t.held.items) c.args.topic h refl c.requires c.index_mut.ensures.value in
     let e = c.command-said.ensures in
     passes_core g.S.Shelf.disk t _ c.args.topic h c.command-said.new.self was refl refl refl refl e.rest.0 e.rest.1 e.goes_on refl
-    (λ s. marked_coming t.uses t.held.items c.args.topic h c.command-said.new.self was c.mark.new.self c.args.who (command_owners h.core c.args.who c.args.command c.command-said.result c.command-said.new.self.core e.step) c.mark.ensures.used c.mark.ensures.others s.marked)
 
 pub returns-clause-step : goal.returns-clause-step
 returns-clause-step g c = λ stands.

@@ -7,8 +7,6 @@ use Rattle.node.proofs.Frames.{keep_numbers, topic_was, topic_now, becomes, stag
 use Rattle.node.proofs.Ports.{dispatches, refuses_at}
 use Rattle.node.specs.Flights.{stage_of}
 use Rattle.node.specs.Standing.{broker_of, TopicsStand, HeldStands, stages_of}
-use Rattle.node.proofs.Marks.{marked_on}
-use Rattle.node.proofs.Owners.{dispatch_owners}
 use Rattle.node.proofs.port.TopicsPort.dispatch.Goals as goal
 
 pub invariant_of-self : goal.invariant_of-self
@@ -30,7 +28,6 @@ returns-clause-passes g c =
     let was = slice_get_read t.held.items (length t.held.items) c.args.topic h refl c.requires c.index_mut.ensures.value in
     let e = c.dispatch-said.ensures in
     passes_read g.S.Shelf.disk t _ c.args.topic h c.dispatch-said.new.self was refl refl refl refl e.rest.0 e.rest.1 e.goes_on (record { seen = e.seen; any_moment = e.any_moment; kept = e.kept })
-    (λ s. marked_on t.uses t.held.items c.args.topic h c.dispatch-said.new.self was (dispatch_owners h.core c.args.who c.args.consumer_id c.dispatch-said.result c.dispatch-said.new.self.core (e.step (s.each c.args.topic h was))) s.marked)
 
 pub returns-clause-step : goal.returns-clause-step
 returns-clause-step g c = λ stands.

@@ -6,8 +6,6 @@ use Rattle.node.specs.Standing.{broker_of}
 use Rattle.node.specs.Passing.{passes_core}
 use Rattle.node.proofs.Frames.{keep_numbers, topic_was, topic_now, becomes}
 use Rattle.node.proofs.Ports.{grants}
-use Rattle.node.proofs.Marks.{marked_on}
-use Rattle.node.proofs.Owners.{grant_owners}
 use Rattle.node.proofs.port.TopicsPort.grant.Goals as goal
 
 pub invariant_of-self : goal.invariant_of-self
@@ -29,7 +27,6 @@ returns-clause-passes g c =
     let was = slice_get_read t.held.items (length t.held.items) c.args.topic h refl c.requires c.index_mut.ensures.value in
     let e = c.grant.ensures in
     passes_core g.S.Shelf.disk t _ c.args.topic h c.grant.new.self was refl refl refl refl e.rest.0 e.rest.1 e.goes_on refl
-    (λ s. marked_on t.uses t.held.items c.args.topic h c.grant.new.self was (grant_owners h.core c.args.who c.args.consumer_id c.args.permits c.grant.result c.grant.new.self.core e.step) s.marked)
 
 pub returns-clause-step : goal.returns-clause-step
 returns-clause-step g c = λ stands.

@@ -2,13 +2,10 @@ use Rattle.std.proofs.Common.{length, refl, ap, sym, ◌∙◌}
 use Rattle.std.proofs.lemmas.List.{length-set}
 use Rattle.std.proofs.lemmas.Option.{slice_get_read}
 use Rattle.catalog.specs.Catalogs.{per_ledger}
-use Rattle.topic_core.specs.State.{Topic}
 use Rattle.node.specs.Standing.{broker_of}
 use Rattle.node.specs.Passing.{passes_core}
 use Rattle.node.proofs.Frames.{keep_numbers, topic_was, topic_now, becomes}
 use Rattle.node.proofs.Ports.{stays, quiet}
-use Rattle.node.proofs.Marks.{marked_on}
-use Rattle.node.proofs.Owners.{same_owners}
 use Rattle.node.proofs.port.TopicsPort.is_quiet.Goals as goal
 
 pub invariant_of-self : goal.invariant_of-self
@@ -30,7 +27,6 @@ returns-clause-passes g c =
     let was = slice_get_read t.held.items (length t.held.items) c.args.topic h refl c.requires c.index_mut.ensures.value in
     let e = c.is_quiet-said.ensures in
     passes_core g.S.Shelf.disk t _ c.args.topic h c.is_quiet-said.new.self was refl refl refl refl e.rest.0 e.rest.1 e.goes_on refl
-    (λ s. marked_on t.uses t.held.items c.args.topic h c.is_quiet-said.new.self was (same_owners h.core.queues c.is_quiet-said.new.self.core.queues (ap (λ (x : Topic). x.queues) e.same)) s.marked)
 
 pub returns-clause-same : goal.returns-clause-same
 returns-clause-same g c = λ stands.

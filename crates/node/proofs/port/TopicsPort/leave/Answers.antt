@@ -6,8 +6,6 @@ use Rattle.node.specs.Standing.{broker_of}
 use Rattle.node.specs.Passing.{passes_core}
 use Rattle.node.proofs.Frames.{keep_numbers, topic_was, topic_now, becomes}
 use Rattle.node.proofs.Ports.{leaves}
-use Rattle.node.proofs.Marks.{marked_leaving}
-use Rattle.node.proofs.Owners.{leave_owners, left_owner}
 use Rattle.node.proofs.port.TopicsPort.leave.Goals as goal
 
 pub invariant_of-self : goal.invariant_of-self
@@ -29,7 +27,6 @@ returns-clause-passes g c =
     let was = slice_get_read t.held.items (length t.held.items) c.args.topic h refl c.requires c.index_mut.ensures.value in
     let e = c.leave.ensures in
     passes_core g.S.Shelf.disk t _ c.args.topic h c.leave.new.self was refl refl refl refl e.rest.0 e.rest.1 e.goes_on refl
-    (λ s. marked_leaving t.uses t.held.items c.args.topic h c.leave.new.self was c.forget.new.self c.args.who (leave_owners h.core c.args.who c.leave.new.self.core e.step) (left_owner h.core c.args.who c.leave.new.self.core e.step) c.forget.ensures.others s.marked)
 
 pub returns-clause-step : goal.returns-clause-step
 returns-clause-step g c = λ stands.

@@ -15,13 +15,13 @@ pub returns-in-Ok-clause-works : goal.returns-in-Ok-clause-works
 returns-in-Ok-clause-works g c =
     let disk = g.S.Shelf.disk in
     let plain = (c.find.ensures.plain c.in_default.ensures.sure).1 in
-    works_both disk c.args.self.now _ c.make.new.self (works_both disk c.args.self.now c.settle.new.self _ c.settle.ensures.works (works_same disk c.settle.new.self _ refl refl plain.0 refl refl plain.1)) c.make.ensures.works
+    works_both disk c.args.self.now _ c.make.new.self (works_both disk c.args.self.now c.settle.new.self _ c.settle.ensures.works (works_same disk c.settle.new.self _ refl plain.0 refl refl plain.1)) c.make.ensures.works
 
 pub returns-in-Err-make-clause-works : goal.returns-in-Err-make-clause-works
 returns-in-Err-make-clause-works g c =
     let disk = g.S.Shelf.disk in
     let plain = (c.find.ensures.plain c.in_default.ensures.sure).1 in
-    works_both disk c.args.self.now _ c.make.new.self (works_both disk c.args.self.now c.settle.new.self _ c.settle.ensures.works (works_same disk c.settle.new.self _ refl refl plain.0 refl refl plain.1)) c.make.ensures.works
+    works_both disk c.args.self.now _ c.make.new.self (works_both disk c.args.self.now c.settle.new.self _ c.settle.ensures.works (works_same disk c.settle.new.self _ refl plain.0 refl refl plain.1)) c.make.ensures.works
 
 pub returns-in-Err-make-clause-step : goal.returns-in-Err-make-clause-step
 returns-in-Err-make-clause-step g c = λ stands.

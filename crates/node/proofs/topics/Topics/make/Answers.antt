@@ -16,13 +16,13 @@ use Rattle.node.proofs.Making.{works_same, worked_not, worked_doubting, worked_m
 use Rattle.node.proofs.topics.Topics.make.Goals as goal
 
 pub returns-in_err-reserve-clause-works : goal.returns-in_err-reserve-clause-works
-returns-in_err-reserve-clause-works g c = works_same g.S.Shelf.disk c.args.self.now _ c.reserve.ensures.items refl refl refl refl refl
+returns-in_err-reserve-clause-works g c = works_same g.S.Shelf.disk c.args.self.now _ c.reserve.ensures.items refl refl refl refl
 
 pub returns-in_err-added-clause-works : goal.returns-in_err-added-clause-works
-returns-in_err-added-clause-works g c = works_same g.S.Shelf.disk c.args.self.now _ c.reserve.ensures.items refl refl refl refl refl
+returns-in_err-added-clause-works g c = works_same g.S.Shelf.disk c.args.self.now _ c.reserve.ensures.items refl refl refl refl
 
 pub returns-in_err-doubted-clause-works : goal.returns-in_err-doubted-clause-works
-returns-in_err-doubted-clause-works g c = works_same g.S.Shelf.disk c.args.self.now _ c.reserve.ensures.items refl refl refl refl refl
+returns-in_err-doubted-clause-works g c = works_same g.S.Shelf.disk c.args.self.now _ c.reserve.ensures.items refl refl refl refl
 
 pub returns-in-Err-clause-works : goal.returns-in-Err-clause-works
 returns-in-Err-clause-works g c = (
@@ -33,7 +33,7 @@ returns-in-Err-clause-works g c = (
       let e = c.in-Err.ensures in
       let n_is : c.len-number.result ≡ length t.held.items = search rules in
       worked_not disk g.met.T.TopicStore.laws g.met.T.TopicStore.stands_local t s c.requires.sure (disk c.create.new.shelf) e.kept (subst (λ k. Within (OfTopic k) (λ i. Unit {0}) (disk t.shelf) (disk c.create.new.shelf)) n_is (e.others s.honest))
-      _ refl c.reserve.ensures.items refl (ap (λ (l : List (Held _ _)). over (broker_of t) (map (λ (h : Held _ _). h.core) l)) c.reserve.ensures.items) (λ names settled. settled),
+      _ refl c.reserve.ensures.items (ap (λ (l : List (Held _ _)). over (broker_of t) (map (λ (h : Held _ _). h.core) l)) c.reserve.ensures.items) (λ names settled. settled),
 )
 
 pub invariant_of-self-then-is_failed : goal.invariant_of-self-then-is_failed
@@ -94,7 +94,7 @@ returns-then-is_failed-clause-works g c = (
       let appends = e2.appends old (made_settled disk laws local t s c.requires.sure d1 e1.kept w) in
       let w' = subst (λ (x : List ℕ). Within Own (BeforeOrAfter (NamesStand (per_ledger t.catalog)) old (old ++ x ∷ [])) d1 (disk c.add.new.shelf)) added appends.within in
       worked_doubting disk laws local t s c.requires.sure d1 e1.kept w h core e1.rests topic here (fresh_files h (per_ledger t.catalog) (length t.held.items) d1 core topic here) name _ e2.kept w'
-      c.reserve.ensures.items refl
+      c.reserve.ensures.items
       (same_parts e2.per_ledger refl (e2.remembered refl) (ap (λ (x : List ℕ). Some x) doubted) (ap (λ (l : List (Held _ _)). map (λ (h : Held _ _). h.core) l) c.reserve.ensures.items))
       (sym c.is_failed.ensures ∙ c.if-is_failed.true),
 )
@@ -114,7 +114,7 @@ returns-else-is_failed-clause-works g c = (
       let w = subst (λ k. Within (OfTopic k) (λ i. Unit {0}) (disk t.shelf) d1) n_is (e1.others s.honest) in
       let memory : c.in-Err-add.why ≡ refusal.NoMemory = ⊎_elim (λ (device : c.in-Err-add.why ≡ refusal.Device). absurd (true≢false (sym (e2.failed (ap (λ r. Err r) device)) ∙ sym c.is_failed.ensures ∙ c.if-is_failed.false))) (λ (none : c.in-Err-add.why ≡ refusal.NoMemory). none) e2.refusals in
       let m = e2.no_memory (ap (λ r. Err r) memory) in
-      worked_not disk laws local t s c.requires.sure d1 e1.kept w _ (ap (λ (x : _). disk x) m.1.1) c.reserve.ensures.items refl
+      worked_not disk laws local t s c.requires.sure d1 e1.kept w _ (ap (λ (x : _). disk x) m.1.1) c.reserve.ensures.items
       (same_parts e2.per_ledger refl (e2.remembered refl) refl (ap (λ (l : List (Held _ _)). map (λ (h : Held _ _). h.core) l) c.reserve.ensures.items))
       (λ names settled. record { honest = settled.honest; now = m.0.holds_still _ names settled.now; left = λ i may. m.0.holds_still i names (settled.left i may) }),
 )
@@ -144,7 +144,7 @@ returns-clause-works g c =
           let w' = subst (λ (x : List ℕ). Within Own (BeforeOrAfter (NamesStand (per_ledger t.catalog)) old (old ++ x ∷ [])) d1 (disk c.add.new.shelf)) added appends.within in
           let names = e2.grown ∙ ap (λ (x : List ℕ). old ++ x ∷ []) added in
           worked_making disk laws local t s c.requires.sure d1 e1.kept w h core e1.rests topic here (fresh_files h (per_ledger t.catalog) (length t.held.items) d1 core topic here) name _ e2.kept w'
-          pushed refl
+          pushed
           (same_parts e2.per_ledger refl names refl
           (ap (λ (l : List (Held _ _)). map (λ (h : Held _ _). h.core) l) pushed ∙ cores_push t.held.items h ∙ ap (λ (u : Topic). map (λ (h : Held _ _). h.core) t.held.items ++ u ∷ []) core))
           (subst (λ (l : Names). Settled (NamesHeld c.add.new.self) (disk c.add.new.shelf) l) (sym e2.grown) appends.added),

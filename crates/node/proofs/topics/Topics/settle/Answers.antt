@@ -7,7 +7,6 @@ use Rattle.std.proofs.lemmas.List.{length-append}
 use Rattle.node.specs.Numbers.{AreNumbered, IsNumbered}
 use Rattle.node.specs.Passing.{settled_names}
 use Rattle.node.specs.State.{over}
-use Rattle.topic_core.specs.State.{Topic}
 use Rattle.node.specs.Standing.{broker_of}
 use Rattle.std.proofs.lemmas.Bool.{true≢false}
 use Rattle.node.proofs.Making.{numbered_push, both_kept, both_left, not_own, works_same, worked_reading, worked_without, worked_with}
@@ -15,7 +14,7 @@ use Rattle.node.proofs.Settling.{one_more_name, opened_so, settles_without, no_f
 use Rattle.node.proofs.topics.Topics.settle.Goals as goal
 
 pub returns-then-not-is_failed-clause-works : goal.returns-then-not-is_failed-clause-works
-returns-then-not-is_failed-clause-works g c = works_same g.S.Shelf.disk c.args.self.now c.args.self.now refl refl refl refl refl refl
+returns-then-not-is_failed-clause-works g c = works_same g.S.Shelf.disk c.args.self.now c.args.self.now refl refl refl refl refl
 
 pub returns-in_err-again-clause-refusals : goal.returns-in_err-again-clause-refusals
 returns-in_err-again-clause-refusals g c = λ s.
@@ -29,7 +28,7 @@ returns-in_err-again-clause-works g c = (
   λ s.
       let e = c.in_err-again.ensures in
       worked_reading g.S.Shelf.disk g.met.T.TopicStore.laws g.met.T.TopicStore.stands_local c.args.self.now _ s e.kept (e.any_moment s.honest) (λ j low f of. e.others s.honest f (not_own j f of))
-      refl refl refl refl (sym c.is_failed.ensures ∙ c.if-not-is_failed.false),
+      refl refl refl (sym c.is_failed.ensures ∙ c.if-not-is_failed.false),
 )
 
 pub returns-then-not-is_followed_by-clause-refusals : goal.returns-then-not-is_followed_by-clause-refusals
@@ -46,7 +45,7 @@ returns-then-not-is_followed_by-clause-works g c = (
   λ s.
       let e = c.in_ok-again.ensures in
       worked_reading g.S.Shelf.disk g.met.T.TopicStore.laws g.met.T.TopicStore.stands_local c.args.self.now _ s e.kept (e.any_moment s.honest) (λ j low f of. e.others s.honest f (not_own j f of))
-      refl refl refl refl (sym c.is_failed.ensures ∙ c.if-not-is_failed.false),
+      refl refl refl (sym c.is_failed.ensures ∙ c.if-not-is_failed.false),
 )
 
 pub returns-in-Err-clause-works : goal.returns-in-Err-clause-works
@@ -56,7 +55,7 @@ returns-in-Err-clause-works g c = (
       let e = c.in_ok-again.ensures in
       let t = c.args.self.now in
       worked_reading g.S.Shelf.disk g.met.T.TopicStore.laws g.met.T.TopicStore.stands_local t _ s e.kept (e.any_moment s.honest) (λ j low f of. e.others s.honest f (not_own j f of))
-      c.reserve.ensures.items refl (ap (λ (l : List (Held _ _)). over (broker_of t) (map (λ (h : Held _ _). h.core) l)) c.reserve.ensures.items) refl (sym c.is_failed.ensures ∙ c.if-not-is_failed.false),
+      c.reserve.ensures.items (ap (λ (l : List (Held _ _)). over (broker_of t) (map (λ (h : Held _ _). h.core) l)) c.reserve.ensures.items) refl (sym c.is_failed.ensures ∙ c.if-not-is_failed.false),
 )
 
 pub returns-in-Err-open-clause-refusals : goal.returns-in-Err-open-clause-refusals
@@ -85,7 +84,7 @@ returns-in-Err-open-clause-works g c = (
       worked_reading g.S.Shelf.disk g.met.T.TopicStore.laws g.met.T.TopicStore.stands_local t _ s (both_kept d0 d1 d2 e1.kept e2.kept)
       (both_left d0 d1 d2 (e1.any_moment s.honest) (e2.any_moment h1))
       (λ j low f of. e2.others h1 f (apart c.len-number.result j (λ is. omega (arith, is, n_is, low)) f of) ∙ e1.others s.honest f (not_own j f of))
-      c.reserve.ensures.items refl (ap (λ (l : List (Held _ _)). over (broker_of t) (map (λ (h : Held _ _). h.core) l)) c.reserve.ensures.items) refl (sym c.is_failed.ensures ∙ c.if-not-is_failed.false),
+      c.reserve.ensures.items (ap (λ (l : List (Held _ _)). over (broker_of t) (map (λ (h : Held _ _). h.core) l)) c.reserve.ensures.items) refl (sym c.is_failed.ensures ∙ c.if-not-is_failed.false),
 )
 
 pub invariant_of-self-then-len : goal.invariant_of-self-then-len
@@ -155,7 +154,7 @@ returns-then-len-clause-works g c =
           (subst (λ k. g.T.TopicStore.stands k d1.seen h.core.ledger h.core.kept) n_is (e2.found h1)) in
           worked_with disk g.met.T.TopicStore.laws g.met.T.TopicStore.stands_local t _ s (both_kept d0 d1 d2 e1.kept e2.kept) (both_left d0 d1 d2 (e1.any_moment s.honest) (e2.any_moment h1))
           (λ j low f of. e2.others h1 f (apart c.len-number.result j (λ is. omega (arith, is, n_is, low)) f of) ∙ e1.others s.honest f (not_own j f of))
-          h (name_there disk t s lawful fails again d1 seen settled one many) pushed (ap (λ (u : Topic). u.queues) e2.opened) refl e2.rests (e2.stands h1) (broker_with_name disk t s lawful fails again d1 seen settled one many h c.push.new.self.items pushed core)
+          h (name_there disk t s lawful fails again d1 seen settled one many) pushed e2.rests (e2.stands h1) (broker_with_name disk t s lawful fails again d1 seen settled one many h c.push.new.self.items pushed core)
           (settled_names d1 d2 again (record { seen = λ h. e2.seen h (λ no. cc); any_moment = e2.any_moment; kept = e2.kept }) settled) refl,
     )
 
@@ -178,7 +177,7 @@ returns-clause-works g c = (
       let e1 = c.in_ok-again.ensures in
       let fails = sym c.is_failed.ensures ∙ c.if-not-is_failed.false in
       let few : length (remembered c.in_ok-again.again) ≤ length t.held.items = omega (arith, c.if-len.false, c.len.ensures.count, c.len-2.ensures) in
-      worked_without disk g.met.T.TopicStore.laws g.met.T.TopicStore.stands_local t _ s e1.kept (e1.any_moment s.honest) (λ j low f of. e1.others s.honest f (not_own j f of)) refl refl
+      worked_without disk g.met.T.TopicStore.laws g.met.T.TopicStore.stands_local t _ s e1.kept (e1.any_moment s.honest) (λ j low f of. e1.others s.honest f (not_own j f of)) refl
       (broker_without disk t s (g.met.S.Shelf.lawful t.shelf s.honest).leaves_seen fails c.in_ok-again.again (disk c.open.new.shelf) (e1.seen s.honest (λ no. cc)) (e1.opened s.honest) few)
       (e1.opened s.honest) refl,
 )
