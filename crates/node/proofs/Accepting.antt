@@ -25,6 +25,7 @@ use Rattle.topic_core.specs.Steps.{acked}
 use Rattle.node.specs.Promising.{Promise, There, Gone, Release, OfGone, OfThere, acked_by, promised}
 use Rattle.node.proofs.Lasting.{Spares}
 use Rattle.node.proofs.Holding.{Lands, Remains}
+use Rattle.permits.specs.Ends.{Word}
 
 -- changes behind others, all of which spare what remains
 pub record Adds (changes : List Record) (release : Option Release) (more : List Record) : Type 0 where
@@ -49,29 +50,29 @@ spares_made : (name : List ℕ) (start : ℕ) (p : Promise) → Remains (Some (O
 spares_made name start (There promised positions) remains = tt
 spares_made name start (Gone promised) remains = remains
 
-pub adds_attached : (t : Subscriptions) (name : List ℕ) (mode : Mode) (seat : Seat) (start : ℕ) → Adds t.changes (Some (OfGone name)) (attached t name mode seat start).changes
-adds_attached t name mode seat start = elim (find (is_named name) t.subs) as (λ o. Adds t.changes (Some (OfGone name)) (attached_at o t name mode seat start).changes) [
+pub adds_attached : (t : Subscriptions) (name : List ℕ) (mode : Mode) (seat : Seat) (word : Word) (start : ℕ) → Adds t.changes (Some (OfGone name)) (attached t name mode seat word start).changes
+adds_attached t name mode seat word start = elim (find (is_named name) t.subs) as (λ o. Adds t.changes (Some (OfGone name)) (attached_at o t name mode seat word start).changes) [
   | None ↦ record { added = Made name start ∷ []; behind = refl; spares = λ p remains. (spares_made name start p remains, tt) }
   | Some s ↦ adds_nothing t.changes (Some (OfGone name))
 ]
 
-there_attached : (t : Subscriptions) (name : List ℕ) (mode : Mode) (seat : Seat) (start : ℕ) → (s : Positions) × (acked_as name (attached t name mode seat start).subs ≡ Some s)
-there_attached t name mode seat start =
-    elim (find (is_named name) t.subs) as (λ o. find (is_named name) t.subs ≡ o → (s : Positions) × (acked_as name (attached_at o t name mode seat start).subs ≡ Some s)) [
+there_attached : (t : Subscriptions) (name : List ℕ) (mode : Mode) (seat : Seat) (word : Word) (start : ℕ) → (s : Positions) × (acked_as name (attached t name mode seat word start).subs ≡ Some s)
+there_attached t name mode seat word start =
+    elim (find (is_named name) t.subs) as (λ o. find (is_named name) t.subs ≡ o → (s : Positions) × (acked_as name (attached_at o t name mode seat word start).subs ≡ Some s)) [
       | None ↦ λ none.
-          let new = attached_to mode seat (made name mode start) in
+          let new = attached_to mode seat word (made name mode start) in
           (new.acked, acked_pushed name t.subs new none ∙ ap (λ b. cond b (Some new.acked) (acked_as name t.subs)) (name_itself name))
       | Some s ↦ λ found. (
         s.acked,
-        acked_spared (is_named name) (attached_to mode seat) (record { name = λ _. refl; acked = λ _. refl }) name t.subs ∙ ap (λ (o : Option Subscription). option_map (λ (x : Subscription). x.acked) o) found,
+        acked_spared (is_named name) (attached_to mode seat word) (record { name = λ _. refl; acked = λ _. refl }) name t.subs ∙ ap (λ (o : Option Subscription). option_map (λ (x : Subscription). x.acked) o) found,
       )
     ] refl
 
-pub lands_attached : (e : ℕ) (kept : Kept) (t : Subscriptions) (name : List ℕ) (mode : Mode) (seat : Seat) (start : ℕ) → AreKept e kept (attached t name mode seat start)
-    → Lands (attached t name mode seat start).changes kept (There name set.empty)
-lands_attached e kept t name mode seat start are =
-    let there = there_attached t name mode seat start in
-    lands_there e kept (attached t name mode seat start) name set.empty there.0 are there.1 (λ i has. nothing_has there.0 i has)
+pub lands_attached : (e : ℕ) (kept : Kept) (t : Subscriptions) (name : List ℕ) (mode : Mode) (seat : Seat) (word : Word) (start : ℕ) → AreKept e kept (attached t name mode seat word start)
+    → Lands (attached t name mode seat word start).changes kept (There name set.empty)
+lands_attached e kept t name mode seat word start are =
+    let there = there_attached t name mode seat word start in
+    lands_there e kept (attached t name mode seat word start) name set.empty there.0 are there.1 (λ i has. nothing_has there.0 i has)
 
 -- ---- ACK
 

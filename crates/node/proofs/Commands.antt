@@ -22,6 +22,8 @@ use Rattle.subscriptions.specs.State.{Subscriptions}
 use Rattle.subscriptions.specs.Steps as subscriptions
 use Rattle.permits.specs.declared.plain.TooManyPermits.{TooManyPermits}
 use Rattle.topic_core.specs.Dispatch.{sent}
+use Rattle.permits.specs.Ends.{Word}
+use Rattle.topic_core.proofs.Meeting.{met}
 use Rattle.topic_core.specs.Steps.{Outcome, outcome_of, GrantStep, key_of, TopicStep, refused_or, first_standing, producer_refusals, send_refusals, subscribe_refusal, attach_refusal, ack_refusals, ack_refused, ack_accepted, close_refusals, closing, unsubscribe_refusal, unsubscribed, detach_refusals, detached, asked_back, with_producer, accepted, subscribed, bytes_of}
 use Rattle.topic_core.proofs.Sends.{takes_entry}
 use Rattle.topic_core.proofs.Subscribing.{accepts}
@@ -76,11 +78,11 @@ awaits_nothing : (who : ℕ) (t : Topic) → Awaits who t t
 awaits_nothing who t = record { per_ledger = refl; committed = refl; ledger = refl; waiting = refl; doubt = refl; handed = refl; failed = refl; queues = inl refl }
 
 -- by its outcome
-awaits_by : (who : ℕ) (c : TopicCommand) (t : Topic) (a : Answer) (u : Topic) → Awaits who t (outcome_of t who c).topic → TopicStep t who c a u → Awaits who t u
+awaits_by : (who : ℕ) (c : TopicCommand) (t : Topic) (a : Answer) (u : Topic) → ((word : Word) → Awaits who t (outcome_of t who c word).topic) → TopicStep t who c a u → Awaits who t u
 awaits_by who c t NoMemory u h step = subst (λ (x : Topic). Awaits who t x) (sym step.0) (awaits_nothing who t)
-awaits_by who c t Nothing u h step = subst (λ (x : Topic). Awaits who t x) (sym step.1) h
-awaits_by who c t (Now r) u h step = subst (λ (x : Topic). Awaits who t x) (sym step.1) h
-awaits_by who c t Later u h step = subst (λ (x : Topic). Awaits who t x) (sym step.1) h
+awaits_by who c t Nothing u h step = let m = met t who c Nothing u step in subst (λ (x : Topic). Awaits who t x) (sym m.1.1) (h m.0)
+awaits_by who c t (Now r) u h step = let m = met t who c (Now r) u step in subst (λ (x : Topic). Awaits who t x) (sym m.1.1) (h m.0)
+awaits_by who c t Later u h step = let m = met t who c Later u step in subst (λ (x : Topic). Awaits who t x) (sym m.1.1) (h m.0)
 
 refused_awaits : (who : ℕ) (o : Option ServerError) (refused : ServerError → Answer) (t : Topic) (effect : Outcome) → (o ≡ None → Awaits who t effect.topic) → Awaits who t (refused_or o refused t effect).topic
 refused_awaits who None refused t effect h = h refl
@@ -106,8 +108,8 @@ awaits_one who r plain t u per_ledger committed ledger waiting doubt handed fail
 
 pub subscribe_topic : (a : Answer) (t : Topic) (who : ℕ) (subscribe : Subscribe) (u : Topic) → TopicStep t who (asked.Subscribe subscribe) a u → Awaits who t u
 subscribe_topic a t who subscribe u step = awaits_by who (asked.Subscribe subscribe) t a u
-    (refused_awaits who (subscribe_refusal t subscribe) (λ error. Now (Error subscribe.request_id error)) t (record { answer = Later; topic = subscribed t who subscribe })
-    (λ none. awaits_one who (Success subscribe.request_id) (record { no_receipt = refl; no_message = refl }) t (subscribed t who subscribe) refl refl refl refl refl refl refl (no_first t.failed PersistenceError (attach_refusal t subscribe) none) refl))
+    (λ word. refused_awaits who (subscribe_refusal t subscribe) (λ error. Now (Error subscribe.request_id error)) t (record { answer = Later; topic = subscribed t who subscribe word })
+    (λ none. awaits_one who (Success subscribe.request_id) (record { no_receipt = refl; no_message = refl }) t (subscribed t who subscribe word) refl refl refl refl refl refl refl (no_first t.failed PersistenceError (attach_refusal t subscribe) none) refl))
     step
 
 accepted_awaits : (request : Option ℕ) (t : Topic) (who : ℕ) (ack : Ack) → t.failed ≡ false → Awaits who t (ack_accepted t who ack request).topic
@@ -117,19 +119,19 @@ accepted_awaits (Some request) t who ack works =
 
 pub ack_topic : (a : Answer) (t : Topic) (who : ℕ) (ack : Ack) (u : Topic) → TopicStep t who (asked.Ack ack) a u → Awaits who t u
 ack_topic a t who ack u step = awaits_by who (asked.Ack ack) t a u
-    (refused_awaits who (first_standing (ack_refusals t who ack)) (ack_refused ack.consumer_id ack.request_id) t (ack_accepted t who ack ack.request_id)
+    (λ word. refused_awaits who (first_standing (ack_refusals t who ack)) (ack_refused ack.consumer_id ack.request_id) t (ack_accepted t who ack ack.request_id)
     (λ none. accepted_awaits ack.request_id t who ack (accepts t who ack none).works))
     step
 
 pub close_topic : (a : Answer) (t : Topic) (who : ℕ) (close : CloseProducer) (u : Topic) → TopicStep t who (asked.CloseProducer close) a u → Awaits who t u
 close_topic a t who close u step = awaits_by who (asked.CloseProducer close) t a u
-    (refused_awaits who (first_standing (close_refusals t who close)) (λ error. Now (Error close.request_id error)) t (record { answer = Later; topic = closing t who close })
+    (λ word. refused_awaits who (first_standing (close_refusals t who close)) (λ error. Now (Error close.request_id error)) t (record { answer = Later; topic = closing t who close })
     (λ none. awaits_one who (Success close.request_id) (record { no_receipt = refl; no_message = refl }) t (closing t who close) refl refl refl refl refl refl refl (close-works t who close none) refl))
     step
 
 pub unsubscribe_topic : (a : Answer) (t : Topic) (who : ℕ) (unsubscribe : Unsubscribe) (u : Topic) → TopicStep t who (asked.Unsubscribe unsubscribe) a u → Awaits who t u
 unsubscribe_topic a t who unsubscribe u step = awaits_by who (asked.Unsubscribe unsubscribe) t a u
-    (refused_awaits who (unsubscribe_refusal t who unsubscribe) (λ error. Now (Error unsubscribe.request_id error)) t (record { answer = Later; topic = unsubscribed t who unsubscribe })
+    (λ word. refused_awaits who (unsubscribe_refusal t who unsubscribe) (λ error. Now (Error unsubscribe.request_id error)) t (record { answer = Later; topic = unsubscribed t who unsubscribe })
     (λ none. awaits_one who (Success unsubscribe.request_id) (record { no_receipt = refl; no_message = refl }) t (unsubscribed t who unsubscribe) refl refl refl refl refl refl refl (unsubscribe-works t who unsubscribe none) refl))
     step
 
@@ -140,14 +142,14 @@ granted_by false who t subs = record { per_ledger = refl; committed = refl; ledg
 -- a consumer is detached at once
 pub detach_topic : (a : Answer) (t : Topic) (who : ℕ) (close : CloseConsumer) (u : Topic) → TopicStep t who (asked.CloseConsumer close) a u → Awaits who t u
 detach_topic a t who close u step = awaits_by who (asked.CloseConsumer close) t a u
-    (refused_awaits who (first_standing (detach_refusals t who close)) (λ error. Now (Error close.request_id error)) t (record { answer = Now (Success close.request_id); topic = detached t who close })
+    (λ word. refused_awaits who (first_standing (detach_refusals t who close)) (λ error. Now (Error close.request_id error)) t (record { answer = Now (Success close.request_id); topic = detached t who close })
     (λ none. record { per_ledger = refl; committed = refl; ledger = refl; waiting = refl; doubt = refl; handed = refl; failed = refl; queues = inl refl }))
     step
 
 -- what a consumer gives back is free at once
 pub redeliver_topic : (a : Answer) (t : Topic) (who : ℕ) (redeliver : Redeliver) (u : Topic) → TopicStep t who (asked.Redeliver redeliver) a u → Awaits who t u
 redeliver_topic a t who redeliver u step = awaits_by who (asked.Redeliver redeliver) t a u
-    (granted_by t.failed who t (subscriptions.redelivered t.subs (key_of who redeliver.consumer_id) (asked_back t.per_ledger t.committed redeliver.message_ids)))
+    (λ word. granted_by t.failed who t (subscriptions.redelivered t.subs (key_of who redeliver.consumer_id) (asked_back t.per_ledger t.committed redeliver.message_ids)))
     step
 
 -- so do permits

@@ -26,6 +26,8 @@ use Rattle.topic_core.specs.declared.command.TopicCommand.TheVariants as asked
 use Rattle.topic_core.specs.State.{Topic, changes_of}
 use Rattle.topic_core.specs.Soundness.{IsSound, IsSoundTopic}
 use Rattle.topic_core.specs.Crashes.{IsLeft, TopicCrash}
+use Rattle.permits.specs.Ends.{Word as PermitWord}
+use Rattle.topic_core.proofs.Meeting.{met}
 use Rattle.topic_core.specs.Steps.{Outcome, TopicStep, outcome_of, GrantStep, key_of, seat_of, refused_or, first_standing, producer_refusals, subscribe_refusal, subscribed, start_of, ack_refusals, ack_refused, ack_accepted, close_refusals, closing, unsubscribe_refusal, unsubscribed, detach_refusals, detached, redelivered, asked_back, with_producer, accepted, receipt, bytes_of}
 use Rattle.topic_core.proofs.Keeps.{step-keeps, grant-keeps}
 use Rattle.node.specs.Moves.{Move, Command, Tell, Lose, Grant, Deliver, Miss, Leave, Flush, Take, Finish, Reopen, Crash, Cut, MoveStep, Moves}
@@ -101,16 +103,16 @@ module _ (t : Topic) (kept : Kept) (word : Word) (sound : IsSound t) (h : HoldsI
       back u (accepted t who send.producer_id send.sequence_id (bytes_of send.entry)) (answered t who (asked.Send send) Later word) is
       (owes t.committed t.subs.changes None who (receipt t send.producer_id send.sequence_id) None are.formed (adds_nothing t.subs.changes None) tt)
 
-  subscribes : (who : ℕ) (subscribe : Subscribe) (u : Topic) → u ≡ subscribed t who subscribe → AreKeptIn u → HoldsIn u kept (answered t who (asked.Subscribe subscribe) Later word)
-  subscribes who subscribe u is are =
-      let c = subscribed t who subscribe in
+  subscribes : (who : ℕ) (subscribe : Subscribe) (permits : PermitWord) (u : Topic) → u ≡ subscribed t who subscribe permits → AreKeptIn u → HoldsIn u kept (answered t who (asked.Subscribe subscribe) Later word)
+  subscribes who subscribe permits u is are =
+      let c = subscribed t who subscribe permits in
       let seat = seat_of who subscribe in
       let start = subscriptions.start_of (start_of subscribe.initial) t.committed in
       let are' = at_topic u c is are in
       back u c (answered t who (asked.Subscribe subscribe) Later word) is
       (owes t.committed c.subs.changes (Some (OfGone subscribe.subscription)) who (Success subscribe.request_id) (promise_of t who (asked.Subscribe subscribe)) are'.formed
-      (adds_attached t.subs subscribe.subscription subscribe.mode seat start)
-      (lands_attached t.committed kept t.subs subscribe.subscription subscribe.mode seat start are', tt))
+      (adds_attached t.subs subscribe.subscription subscribe.mode seat permits start)
+      (lands_attached t.committed kept t.subs subscribe.subscription subscribe.mode seat permits start are', tt))
 
   acks_later : (request : Option ℕ) (who : ℕ) (ack : Ack) (u : Topic) → Later ≡ (ack_accepted t who ack request).answer → u ≡ (ack_accepted t who ack request).topic → AreKeptIn u
       → HoldsIn u kept (with_owed (record { session = who; reply = ack_reply ack.consumer_id request; promise = promise_of t who (asked.Ack ack) }) word)
@@ -200,12 +202,12 @@ module _ (t : Topic) (kept : Kept) (word : Word) (sound : IsSound t) (h : HoldsI
       (permits t.failed (subscriptions.redelivered t.subs (key_of who redeliver.consumer_id) (asked_back t.per_ledger t.committed redeliver.message_ids)) refl))
 
   -- an outcome that was met
-  meets : (who : ℕ) (c : TopicCommand) (w : Answer → Word) → ((a : Answer) (u : Topic) → a ≡ (outcome_of t who c).answer → u ≡ (outcome_of t who c).topic → AreKeptIn u → HoldsIn u kept (w a)) → w NoMemory ≡ word
+  meets : (who : ℕ) (c : TopicCommand) (w : Answer → Word) → ((permits : PermitWord) (a : Answer) (u : Topic) → a ≡ (outcome_of t who c permits).answer → u ≡ (outcome_of t who c permits).topic → AreKeptIn u → HoldsIn u kept (w a)) → w NoMemory ≡ word
       → (a : Answer) (u : Topic) → TopicStep t who c a u → AreKeptIn u → HoldsIn u kept (w a)
   meets who c w by none NoMemory u step are = subst (λ (x : Word). HoldsIn u kept x) (sym none) (same u step.0)
-  meets who c w by none Nothing u step are = by Nothing u step.0 step.1 are
-  meets who c w by none (Now r) u step are = by (Now r) u step.0 step.1 are
-  meets who c w by none Later u step are = by Later u step.0 step.1 are
+  meets who c w by none Nothing u step are = let m = met t who c Nothing u step in by m.0 Nothing u m.1.0 m.1.1 are
+  meets who c w by none (Now r) u step are = let m = met t who c (Now r) u step in by m.0 (Now r) u m.1.0 m.1.1 are
+  meets who c w by none Later u step are = let m = met t who c Later u step in by m.0 Later u m.1.0 m.1.1 are
 
   commanded : (who : ℕ) (c : TopicCommand) (a : Answer) (u : Topic) → TopicStep t who c a u → AreKeptIn t → AreKeptIn u → HoldsIn u kept (answered t who c a word)
   commanded who (asked.Producer id request name) NoMemory u step are are' = same u step.0
@@ -219,24 +221,24 @@ module _ (t : Topic) (kept : Kept) (word : Word) (sound : IsSound t) (h : HoldsI
   commanded who (asked.Send send) Later u step are are' = sent who send u (accepted_topic t who send u step).1 are
   commanded who (asked.Subscribe subscribe) a u step are are' =
       meets who (asked.Subscribe subscribe) (λ b. answered t who (asked.Subscribe subscribe) b word)
-      (awaited who (asked.Subscribe subscribe) (λ error. Error subscribe.request_id error) (subscribed t who subscribe) (λ x is kept_x. subscribes who subscribe x is kept_x) (subscribe_refusal t subscribe))
+      (λ permits. awaited who (asked.Subscribe subscribe) (λ error. Error subscribe.request_id error) (subscribed t who subscribe permits) (λ x is kept_x. subscribes who subscribe permits x is kept_x) (subscribe_refusal t subscribe))
       refl a u step are'
   commanded who (asked.Ack ack) a u step are are' = acks who ack a u step are'
   commanded who (asked.CloseProducer close) a u step are are' =
       meets who (asked.CloseProducer close) (λ b. answered t who (asked.CloseProducer close) b word)
-      (awaited who (asked.CloseProducer close) (λ error. Error close.request_id error) (closing t who close) (λ x is _. closes who close x is are) (first_standing (close_refusals t who close)))
+      (λ permits. awaited who (asked.CloseProducer close) (λ error. Error close.request_id error) (closing t who close) (λ x is _. closes who close x is are) (first_standing (close_refusals t who close)))
       refl a u step are'
   commanded who (asked.Unsubscribe unsubscribe) a u step are are' =
       meets who (asked.Unsubscribe unsubscribe) (λ b. answered t who (asked.Unsubscribe unsubscribe) b word)
-      (awaited who (asked.Unsubscribe unsubscribe) (λ error. Error unsubscribe.request_id error) (unsubscribed t who unsubscribe) (λ x is kept_x. unsubscribes who unsubscribe x is kept_x) (unsubscribe_refusal t who unsubscribe))
+      (λ permits. awaited who (asked.Unsubscribe unsubscribe) (λ error. Error unsubscribe.request_id error) (unsubscribed t who unsubscribe) (λ x is kept_x. unsubscribes who unsubscribe x is kept_x) (unsubscribe_refusal t who unsubscribe))
       refl a u step are'
   commanded who (asked.CloseConsumer close) a u step are are' =
       meets who (asked.CloseConsumer close) (λ b. answered t who (asked.CloseConsumer close) b word)
-      (detaches who close (first_standing (detach_refusals t who close)))
+      (λ permits. detaches who close (first_standing (detach_refusals t who close)))
       refl a u step are'
   commanded who (asked.Redeliver redeliver) a u step are are' =
       meets who (asked.Redeliver redeliver) (λ b. answered t who (asked.Redeliver redeliver) b word)
-      (redelivers who redeliver)
+      (λ permits. redelivers who redeliver)
       refl a u step are'
 
   granted : (result : Result (Unit {0}) TooManyPermits) (who id count : ℕ) (u : Topic) → GrantStep t who id count result u → HoldsIn u kept word

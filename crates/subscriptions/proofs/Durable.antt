@@ -35,6 +35,7 @@ use Rattle.subscriptions.proofs.Looking.{zip_found, named_looked, acked_looked}
 use Rattle.subscriptions.proofs.Sound.{length_changed, sound_opened}
 use Rattle.subscriptions.proofs.Kept.{names, turned, get_insert, after_append, after_parts, after_ack, there_after_ack, same_name, acked_found, acked_spared, acked_each, attached_same, acknowledged_same, through_same, after_through, removed_same}
 use Rattle.subscriptions.proofs.Places.{removed-none, none_found, length_removed}
+use Rattle.permits.specs.Ends.{Word}
 
 -- ---- durable subscriptions
 
@@ -151,21 +152,21 @@ new_name e kept t name start none few named low is = record {
   );
 }
 
-attach_kept : (e : ℕ) (kept : Kept) (t : Subscriptions) (name : List ℕ) (mode : Mode) (seat : Seat) (start : ℕ) (o : Option Subscription) → find (is_named name) t.subs ≡ o
-    → first_standing (refusals_at o t mode seat.ranges) ≡ None → is_subscription_name name ≡ true → start ≤ e → IsKept e kept t → IsKept e kept (attached_at o t name mode seat start)
-attach_kept e kept t name mode seat start None none allowed named low is =
+attach_kept : (e : ℕ) (kept : Kept) (t : Subscriptions) (name : List ℕ) (mode : Mode) (seat : Seat) (word : Word) (start : ℕ) (o : Option Subscription) → find (is_named name) t.subs ≡ o
+    → first_standing (refusals_at o t mode seat.ranges) ≡ None → is_subscription_name name ≡ true → start ≤ e → IsKept e kept t → IsKept e kept (attached_at o t name mode seat word start)
+attach_kept e kept t name mode seat word start None none allowed named low is =
     let new = new_name e kept t name start none (first_row _ _ _ allowed) named low is in
     let all = after_append t.changes (Made name start ∷ []) kept in
     record {
-      same = attached_same kept t name mode seat start None none is.same;
+      same = attached_same kept t name mode seat word start None none is.same;
       count = ap (λ m. map.len m) all ∙ len-new (after_all t.changes kept) name (below start) new.placed.0.not_there
-          ∙ omega (arith, is.count, length-append t.subs (attached_to mode seat (made name mode start) ∷ []));
+          ∙ omega (arith, is.count, length-append t.subs (attached_to mode seat word (made name mode start) ∷ []));
       durable = is.durable;
       formed = formed_append e t.changes (Made name start ∷ []) kept is.formed (new, tt);
     }
-attach_kept e kept t name mode seat start (Some s) found allowed named low is = record {
-  same = attached_same kept t name mode seat start (Some s) found is.same;
-  count = is.count ∙ sym (length_changed (is_named name) (attached_to mode seat) t.subs);
+attach_kept e kept t name mode seat word start (Some s) found allowed named low is = record {
+  same = attached_same kept t name mode seat word start (Some s) found is.same;
+  count = is.count ∙ sym (length_changed (is_named name) (attached_to mode seat word) t.subs);
   durable = is.durable;
   formed = is.formed;
 }
@@ -335,7 +336,7 @@ opened_committed committed kept = each_fresh committed (map.entries kept)
 pub are_kept : AreKept
 are_kept = record {
   opened = opened_kept;
-  attach = λ e kept t name mode seat start allowed named low is. attach_kept e kept t name mode seat start (find (is_named name) t.subs) refl allowed named low is;
+  attach = λ e kept t name mode seat word start allowed named low is. attach_kept e kept t name mode seat word start (find (is_named name) t.subs) refl allowed named low is;
   grant = λ e kept t key permits is. kept_spared e kept t _ (λ q. acked_spared (is_on key) (granted_on key permits) (record { name = λ _. refl; acked = λ _. refl }) q t.subs) (length_changed (is_on key) (granted_on key permits) t.subs) is;
   learn = λ e kept t key n is. kept_spared e kept t _ (λ q. acked_spared (is_on key) (learnt_on key n) (record { name = λ _. refl; acked = λ _. refl }) q t.subs) (length_changed (is_on key) (learnt_on key n) t.subs) is;
   look = λ e kept t new who h is. subst (IsKept e kept) (sym h.same) (kept_spared e kept t new.subs (λ q. zip_found (HasLearntOn who) (λ s. s.acked) (is_named q) (named_looked who q) (acked_looked who) t.subs new.subs h.subs) (sym (length_all_zip (HasLearntOn who) t.subs new.subs h.subs)) is);

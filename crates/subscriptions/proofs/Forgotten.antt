@@ -27,6 +27,7 @@ use Rattle.subscriptions.specs.Steps.{first_changed, first_removed, each_deliver
 use Rattle.subscriptions.proofs.Each.{get_each}
 use Rattle.subscriptions.proofs.Limits.{picked}
 use Rattle.subscriptions.proofs.Settled.{is_in, has_joined, has_through, get_forgotten, get_forgotten_below}
+use Rattle.permits.specs.Ends.{Word}
 
 -- ---- deliveries
 
@@ -64,8 +65,8 @@ each_unacked f acked d =
 forgetting_twice : (s : Subscription) → forgetting (forgetting s) ≡ forgetting s
 forgetting_twice s = ap (λ ds. let x : Subscription = record s { deliveries = ds } in x) (twice s.acked s.deliveries)
 
-alike_attached : (mode : Mode) (seat : Seat) (s : Subscription) → forgetting (attached_to mode seat (forgetting s)) ≡ forgetting (attached_to mode seat s)
-alike_attached mode seat s = ap (λ ds. let x : Subscription = record (attached_to mode seat s) { deliveries = ds } in x) (twice s.acked s.deliveries)
+alike_attached : (mode : Mode) (seat : Seat) (word : Word) (s : Subscription) → forgetting (attached_to mode seat word (forgetting s)) ≡ forgetting (attached_to mode seat word s)
+alike_attached mode seat word s = ap (λ ds. let x : Subscription = record (attached_to mode seat word s) { deliveries = ds } in x) (twice s.acked s.deliveries)
 
 alike_granted : (key : ConsumerKey) (permits : ℕ) (s : Subscription) → forgetting (granted_on key permits (forgetting s)) ≡ forgetting (granted_on key permits s)
 alike_granted key permits s = ap (λ ds. let x : Subscription = record (granted_on key permits s) { deliveries = ds } in x) (twice s.acked s.deliveries)
@@ -246,13 +247,13 @@ with_both : (t : Subscriptions) (subs subs' : List Subscription) (changes change
     → (let x : Subscriptions = record t { subs = subs; changes = t.changes ++ changes } in x) ≡ record t { subs = subs'; changes = t.changes ++ changes' }
 with_both t subs subs' changes changes' same told = λ i. record t { subs = same i; changes = t.changes ++ told i }
 
-attach_at : (o : Option Subscription) (t : Subscriptions) (name : List ℕ) (mode : Mode) (seat : Seat) (start : ℕ)
-    → forgetful (attached_at (option_map (λ s. forgetting s) o) (forgetful t) name mode seat start) ≡ forgetful (attached_at o t name mode seat start)
-attach_at None t name mode seat start =
-    let new = attached_to mode seat (made name mode start) ∷ [] in
-    ap (λ ss. let x : Subscriptions = record (attached_at None t name mode seat start) { subs = ss } in x)
+attach_at : (o : Option Subscription) (t : Subscriptions) (name : List ℕ) (mode : Mode) (seat : Seat) (word : Word) (start : ℕ)
+    → forgetful (attached_at (option_map (λ s. forgetting s) o) (forgetful t) name mode seat word start) ≡ forgetful (attached_at o t name mode seat word start)
+attach_at None t name mode seat word start =
+    let new = attached_to mode seat word (made name mode start) ∷ [] in
+    ap (λ ss. let x : Subscriptions = record (attached_at None t name mode seat word start) { subs = ss } in x)
     (map-append (λ s. forgetting s) (all t.subs) new ∙ ap (λ ss. ss ++ all new) (all_twice t.subs) ∙ sym (map-append (λ s. forgetting s) t.subs new))
-attach_at (Some s) t name mode seat start = with_subs t _ _ (changed_alike (is_named name) (λ s. refl) (attached_to mode seat) (λ s. alike_attached mode seat s) t.subs)
+attach_at (Some s) t name mode seat word start = with_subs t _ _ (changed_alike (is_named name) (λ s. refl) (attached_to mode seat word) (λ s. alike_attached mode seat word s) t.subs)
 
 looked : (who : ℕ) (xs ys : List Subscription) → AllZip (HasLearntOn who) xs ys → AllZip (HasLearntOn who) (all xs) (all ys)
 looked who [] [] h = tt
@@ -277,7 +278,7 @@ goes_on t =
     let on : (key : ConsumerKey) (f : Subscription → Subscription) → ((s : Subscription) → forgetting (f (forgetting s)) ≡ forgetting (f s)) → all (first_changed (is_on key) f (all t.subs)) ≡ all (first_changed (is_on key) f t.subs)
     = λ key f alike. changed_alike (is_on key) (λ s. refl) f alike t.subs in
     record {
-      attach = λ name mode seat start. ap (λ o. forgetful (attached_at o (forgetful t) name mode seat start)) (found (is_named name) (λ s. refl) t.subs) ∙ attach_at (find (is_named name) t.subs) t name mode seat start;
+      attach = λ name mode seat word start. ap (λ o. forgetful (attached_at o (forgetful t) name mode seat word start)) (found (is_named name) (λ s. refl) t.subs) ∙ attach_at (find (is_named name) t.subs) t name mode seat word start;
       grant = λ key permits. with_subs t _ _ (on key (granted_on key permits) (λ s. alike_granted key permits s));
       learn = λ key n. with_subs t _ _ (on key (learnt_on key n) (λ s. alike_learnt key n s));
       look = λ who new h. record { subs = looked who t.subs new.subs h.subs; same = ap (λ x. forgetful x) h.same };

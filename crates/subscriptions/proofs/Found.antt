@@ -15,6 +15,7 @@ use Rattle.subscriptions.specs.Steps.{first_changed, first_standing, is_named, i
 use Rattle.holds.specs.Backlog.{IsOpenAt}
 use Rattle.holds.specs.Deliveries.{times}
 use Rattle.subscriptions.proofs.Places.{changes, finds, is_place, stays, misses, removes, removed-none, none_found}
+use Rattle.permits.specs.Ends.{Word}
 
 -- what holds anyhow holds where there is an error
 pub on_err : {T E P : Type 0} (r : Result T E) → P → OnErr r P
@@ -35,17 +36,17 @@ allowed_none t name mode ranges at is = ap (λ (o : Option Subscription). first_
 pub allowed_some : (t : Subscriptions) (name : List ℕ) (mode : Mode) (ranges : List SlotRange) (i : ℕ) (s : Subscription) → position (is_named name) t.subs ≡ Some i → s ≡ get_or t.subs i s → first_standing (subscribe_refusals t name mode ranges) ≡ None → first_standing (attach_refusals mode ranges s) ≡ None
 allowed_some t name mode ranges i s at read is = ap (λ (o : Option Subscription). first_standing (refusals_at o t mode ranges)) (sym (finds (is_named name) t.subs i s at read)) ∙ is
 
-pub attaches_none : (t : Subscriptions) (name : List ℕ) (mode : Mode) (seat : Seat) (start : ℕ) (s : Subscription) → position (is_named name) t.subs ≡ None → s ≡ attached_to mode seat (made name mode start)
-    → (let n : Subscriptions = record t { subs = t.subs ++ s ∷ []; changes = t.changes ++ Made name start ∷ [] } in n ≡ attached t name mode seat start)
-attaches_none t name mode seat start s at is =
+pub attaches_none : (t : Subscriptions) (name : List ℕ) (mode : Mode) (seat : Seat) (word : Word) (start : ℕ) (s : Subscription) → position (is_named name) t.subs ≡ None → s ≡ attached_to mode seat word (made name mode start)
+    → (let n : Subscriptions = record t { subs = t.subs ++ s ∷ []; changes = t.changes ++ Made name start ∷ [] } in n ≡ attached t name mode seat word start)
+attaches_none t name mode seat word start s at is =
     ap (λ (x : Subscription). let n : Subscriptions = record t { subs = t.subs ++ x ∷ []; changes = t.changes ++ Made name start ∷ [] } in n) is
-    ∙ sym (ap (λ (o : Option Subscription). attached_at o t name mode seat start) (misses (is_named name) t.subs at))
+    ∙ sym (ap (λ (o : Option Subscription). attached_at o t name mode seat word start) (misses (is_named name) t.subs at))
 
-pub attaches_some : (t : Subscriptions) (name : List ℕ) (mode : Mode) (seat : Seat) (start : ℕ) (i : ℕ) (s s' : Subscription) → position (is_named name) t.subs ≡ Some i → s ≡ get_or t.subs i s → s' ≡ attached_to mode seat s
-    → (let n : Subscriptions = record t { subs = set t.subs i s' } in n ≡ attached t name mode seat start)
-attaches_some t name mode seat start i s s' at read is =
-    ap (λ (xs : List Subscription). let n : Subscriptions = record t { subs = xs } in n) (changes (is_named name) (attached_to mode seat) t.subs i s s' at read is)
-    ∙ sym (ap (λ (o : Option Subscription). attached_at o t name mode seat start) (finds (is_named name) t.subs i s at read))
+pub attaches_some : (t : Subscriptions) (name : List ℕ) (mode : Mode) (seat : Seat) (word : Word) (start : ℕ) (i : ℕ) (s s' : Subscription) → position (is_named name) t.subs ≡ Some i → s ≡ get_or t.subs i s → s' ≡ attached_to mode seat word s
+    → (let n : Subscriptions = record t { subs = set t.subs i s' } in n ≡ attached t name mode seat word start)
+attaches_some t name mode seat word start i s s' at read is =
+    ap (λ (xs : List Subscription). let n : Subscriptions = record t { subs = xs } in n) (changes (is_named name) (attached_to mode seat word) t.subs i s s' at read is)
+    ∙ sym (ap (λ (o : Option Subscription). attached_at o t name mode seat word start) (finds (is_named name) t.subs i s at read))
 
 -- ---- by consumer
 

@@ -27,6 +27,7 @@ use Rattle.holds.specs.declared.consumer.ConsumerKey.{ConsumerKey}
 use Rattle.holds.specs.declared.consumer.Consumer.{Consumer as Seat}
 use Rattle.subscriptions.proofs.Settled.{is_in, has_joined, joined_none, forgotten, forgotten_below}
 use Rattle.subscriptions.proofs.Places.{changed-none, removed-none, none_found}
+use Rattle.permits.specs.Ends.{Word}
 
 -- ---- names
 
@@ -234,15 +235,15 @@ acked_removed test q (x ∷ xs) s d is = elim (test x) as (λ b. cond b (Some x)
 abbrev pub AreSame : Kept → Subscriptions → Type 0
 AreSame kept t = (name : List ℕ) → map.get (after_all t.changes kept) name ≡ acked_as name t.subs
 
-pub attached_same : (kept : Kept) (t : Subscriptions) (name : List ℕ) (mode : Mode) (seat : Seat) (start : ℕ) (o : Option Subscription) → find (is_named name) t.subs ≡ o
-    → AreSame kept t → AreSame kept (attached_at o t name mode seat start)
-attached_same kept t name mode seat start None none is q =
+pub attached_same : (kept : Kept) (t : Subscriptions) (name : List ℕ) (mode : Mode) (seat : Seat) (word : Word) (start : ℕ) (o : Option Subscription) → find (is_named name) t.subs ≡ o
+    → AreSame kept t → AreSame kept (attached_at o t name mode seat word start)
+attached_same kept t name mode seat word start None none is q =
     ap (λ m. map.get m q) (after_append t.changes (Made name start ∷ []) kept)
     ∙ get_insert (after_all t.changes kept) name (below start) q
     ∙ ap (λ x. cond (bytes_eq q name) (Some (below start)) x) (is q)
-    ∙ sym (acked_pushed q t.subs (attached_to mode seat (made name mode start)) none)
-attached_same kept t name mode seat start (Some s) found is q =
-    is q ∙ sym (acked_spared (is_named name) (attached_to mode seat) (record { name = λ _. refl; acked = λ _. refl }) q t.subs)
+    ∙ sym (acked_pushed q t.subs (attached_to mode seat word (made name mode start)) none)
+attached_same kept t name mode seat word start (Some s) found is q =
+    is q ∙ sym (acked_spared (is_named name) (attached_to mode seat word) (record { name = λ _. refl; acked = λ _. refl }) q t.subs)
 
 pub acknowledged_same : (kept : Kept) (t : Subscriptions) (key : ConsumerKey) (ps : List ℕ) (o : Option Subscription) → find (is_on key) t.subs ≡ o → IsDistinct bytes_eq (names t.subs)
     → AreSame kept t → (q : List ℕ) → map.get (after_all (t.changes ++ acknowledgements o ps) kept) q ≡ acked_as q (first_changed (is_on key) (acked_on ps) t.subs)

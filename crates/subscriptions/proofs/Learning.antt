@@ -22,6 +22,7 @@ use Rattle.subscriptions.proofs.Sound.{any_changed}
 use Rattle.subscriptions.proofs.Limits.{limits_changed}
 use Rattle.subscriptions.proofs.Noted.{notes_learnt, notes_sent}
 use Rattle.subscriptions.proofs.Passed.{hints_learnt, hints_sent}
+use Rattle.permits.specs.Ends.{Word}
 use Rattle.subscriptions.proofs.Standing.{on_learnt, places_learnt, places_sent, same_place}
 
 -- ---- one consumer
@@ -29,30 +30,30 @@ use Rattle.subscriptions.proofs.Standing.{on_learnt, places_learnt, places_sent,
 more_known : (known known' : ℕ) → known ≤ known' → known' ≡ max known known'
 more_known known known' more = omega (arith, more)
 
-same_but_known : (key : ConsumerKey) (known known' sent sent' : ℕ) → sent' ≡ sent → known ≤ known'
-    → (let new : Consumer = record { key = key; granted = known'; sent = sent' } in let old : Consumer = record { key = key; granted = known; sent = sent } in new ≡ learnt_to known' old)
-same_but_known key known known' sent sent' s more = λ i. record { key = key; granted = more_known known known' more i; sent = s i }
+same_but_known : (key : ConsumerKey) (known known' sent sent' : ℕ) (word word' : Word) → sent' ≡ sent → known ≤ known' → word' ≡ word
+    → (let new : Consumer = record { key = key; granted = known'; sent = sent'; word = word' } in let old : Consumer = record { key = key; granted = known; sent = sent; word = word } in new ≡ learnt_to known' old)
+same_but_known key known known' sent sent' word word' s more same = λ i. record { key = key; granted = more_known known known' more i; sent = s i; word = same i }
 
-pub looked : (key : ConsumerKey) (known known' sent sent' : ℕ) (old : Consumer) → (let inside : Consumer = record { key = key; granted = known; sent = sent } in inside ≡ old)
-    → sent' ≡ sent → known ≤ known' → known' ≤ 2 ^ 62
-    → (let new : Consumer = record { key = key; granted = known'; sent = sent' } in IsLearnt (λ n. learnt_to n old) new)
-looked key known known' sent sent' old is s more bound = record {
+pub looked : (key : ConsumerKey) (known known' sent sent' : ℕ) (word word' : Word) (old : Consumer) → (let inside : Consumer = record { key = key; granted = known; sent = sent; word = word } in inside ≡ old)
+    → sent' ≡ sent → known ≤ known' → known' ≤ 2 ^ 62 → word' ≡ word
+    → (let new : Consumer = record { key = key; granted = known'; sent = sent'; word = word' } in IsLearnt (λ n. learnt_to n old) new)
+looked key known known' sent sent' word word' old is s more bound same = record {
   granted = known';
   bound = bound;
-  same = same_but_known key known known' sent sent' s more ∙ ap (learnt_to known') is;
+  same = same_but_known key known known' sent sent' word word' s more same ∙ ap (learnt_to known') is;
 }
 
 raised : (b : Bool) (sent sent' : ℕ) (P : Type 0) → b ≡ true → MatchBool b (sent' ≡ sent + 1) P → sent' ≡ sent + 1
 raised true sent sent' P is said = said
 raised false sent sent' P is said = absurd (cc)
 
-pub took : (key : ConsumerKey) (known known' sent sent' : ℕ) (old : Consumer) (b : Bool) (P : Type 0) → (let inside : Consumer = record { key = key; granted = known; sent = sent } in inside ≡ old)
-    → b ≡ true → MatchBool b (sent' ≡ sent + 1) P → known ≤ known' → known' ≤ 2 ^ 62
-    → (let new : Consumer = record { key = key; granted = known'; sent = sent' } in IsLearnt (λ n. learnt_to n (sent_one old)) new)
-took key known known' sent sent' old b P is answer s more bound = record {
+pub took : (key : ConsumerKey) (known known' sent sent' : ℕ) (word word' : Word) (old : Consumer) (b : Bool) (P : Type 0) → (let inside : Consumer = record { key = key; granted = known; sent = sent; word = word } in inside ≡ old)
+    → b ≡ true → MatchBool b (sent' ≡ sent + 1) P → known ≤ known' → known' ≤ 2 ^ 62 → word' ≡ word
+    → (let new : Consumer = record { key = key; granted = known'; sent = sent'; word = word' } in IsLearnt (λ n. learnt_to n (sent_one old)) new)
+took key known known' sent sent' word word' old b P is answer s more bound same = record {
   granted = known';
   bound = bound;
-  same = same_but_known key known known' (sent + 1) sent' (raised b sent sent' P answer s) more ∙ ap (λ (c : Consumer). learnt_to known' (sent_one c)) is;
+  same = same_but_known key known known' (sent + 1) sent' word word' (raised b sent sent' P answer s) more same ∙ ap (λ (c : Consumer). learnt_to known' (sent_one c)) is;
 }
 
 -- ---- the first that passes a test

@@ -30,6 +30,7 @@ use Rattle.subscriptions.proofs.Kept.{names, turned}
 use Rattle.subscriptions.proofs.Durable.{opened_sound, opened_committed}
 use Rattle.subscriptions.proofs.Settled.{is_in, get_forgotten, get_forgotten_below}
 use Rattle.subscriptions.proofs.Places.{all_removed, length_fewer}
+use Rattle.permits.specs.Ends.{Word}
 
 pub names_changed : (test : Subscription → Bool) (f : Subscription → Subscription) → ((s : Subscription) → (f s).name ≡ s.name) → (subs : List Subscription) → names (first_changed test f subs) ≡ names subs
 names_changed test f same [] = refl
@@ -78,9 +79,9 @@ below_64 n h = grind (arith, nat_tests)
 below_65536 : (n : ℕ) → nat_le 65536 n ≡ false → n + 1 ≤ 65536
 below_65536 n h = grind (arith, nat_tests)
 
-making_rows : (t : Subscriptions) (mode : Mode) (seat : Seat) → first_standing (making_refusals mode seat.ranges t) ≡ None
+making_rows : (t : Subscriptions) (mode : Mode) (seat : Seat) (word : Word) → first_standing (making_refusals mode seat.ranges t) ≡ None
     → (nat_le 64 (length t.subs) ≡ false) × (refuses_ranges mode [] seat.ranges ≡ false) × (nat_le 65536 (length t.changes) ≡ false)
-making_rows t mode seat allowed = three_rows (nat_le 64 (length t.subs)) (refuses_ranges mode [] seat.ranges) (nat_le 65536 (length t.changes)) _ _ _ allowed
+making_rows t mode seat word allowed = three_rows (nat_le 64 (length t.subs)) (refuses_ranges mode [] seat.ranges) (nat_le 65536 (length t.changes)) _ _ _ allowed
 
 no_such_name : (name : List ℕ) (subs : List Subscription) → find (is_named name) subs ≡ None → list_any (bytes_eq name) (names subs) ≡ false
 no_such_name name [] none = refl
@@ -93,11 +94,11 @@ names_pushed : (subs : List Subscription) (s : Subscription) → names (subs ++ 
 names_pushed [] s = refl
 names_pushed (x ∷ xs) s = ap (λ ns. x.name ∷ ns) (names_pushed xs s)
 
-pub limits_made : (t : Subscriptions) (name : List ℕ) (mode : Mode) (seat : Seat) (start : ℕ) → find (is_named name) t.subs ≡ None → first_standing (making_refusals mode seat.ranges t) ≡ None
-    → HasLimits t → HasLimits (attached_at None t name mode seat start)
-limits_made t name mode seat start none allowed l =
-    let rows = making_rows t mode seat allowed in record {
-      names = subst (IsDistinct bytes_eq) (sym (names_pushed t.subs (attached_to mode seat (made name mode start)))) (IsDistinct-push nat_list_eq_equiv (names t.subs) name l.names (no_such_name name t.subs none));
+pub limits_made : (t : Subscriptions) (name : List ℕ) (mode : Mode) (seat : Seat) (word : Word) (start : ℕ) → find (is_named name) t.subs ≡ None → first_standing (making_refusals mode seat.ranges t) ≡ None
+    → HasLimits t → HasLimits (attached_at None t name mode seat word start)
+limits_made t name mode seat word start none allowed l =
+    let rows = making_rows t mode seat word allowed in record {
+      names = subst (IsDistinct bytes_eq) (sym (names_pushed t.subs (attached_to mode seat word (made name mode start)))) (IsDistinct-push nat_list_eq_equiv (names t.subs) name l.names (no_such_name name t.subs none));
       subscriptions = rw length-append (below_64 (length t.subs) rows.0);
       changes = rw length-append (below_65536 (length t.changes) rows.2);
     }
@@ -159,16 +160,16 @@ all_each : (f : Subscription → Subscription) → ((s : Subscription) → IsSou
 all_each f to [] all = tt
 all_each f to (x ∷ xs) all = (to x all.0, all_each f to xs all.1)
 
-sound_attach : (t : Subscriptions) (name : List ℕ) (mode : Mode) (seat : Seat) (start : ℕ) (o : Option Subscription) → find (is_named name) t.subs ≡ o → first_standing (refusals_at o t mode seat.ranges) ≡ None → IsSound t → IsSound (attached_at o t name mode seat start)
-sound_attach t name mode seat start None none allowed sound = record {
-  limits = limits_made t name mode seat start none allowed sound.limits;
-  each_one = all_pushed IsSoundSubscription t.subs (attached_to mode seat (made name mode start)) sound.each_one
-      (sound_first name mode seat start (making_rows t mode seat allowed).1);
+sound_attach : (t : Subscriptions) (name : List ℕ) (mode : Mode) (seat : Seat) (word : Word) (start : ℕ) (o : Option Subscription) → find (is_named name) t.subs ≡ o → first_standing (refusals_at o t mode seat.ranges) ≡ None → IsSound t → IsSound (attached_at o t name mode seat word start)
+sound_attach t name mode seat word start None none allowed sound = record {
+  limits = limits_made t name mode seat word start none allowed sound.limits;
+  each_one = all_pushed IsSoundSubscription t.subs (attached_to mode seat word (made name mode start)) sound.each_one
+      (sound_first name mode seat word start (making_rows t mode seat word allowed).1);
 }
-sound_attach t name mode seat start (Some s) found allowed sound = record {
-  limits = limits_changed t (is_named name) (attached_to mode seat) (λ _. refl) sound.limits;
-  each_one = all_changed (is_named name) (attached_to mode seat) IsSoundSubscription t.subs
-      (λ x is ok. sound_attached mode seat x (let same : x ≡ s = cc in ap (λ (y : Subscription). first_standing (attach_refusals mode seat.ranges y)) same ∙ allowed) ok) sound.each_one;
+sound_attach t name mode seat word start (Some s) found allowed sound = record {
+  limits = limits_changed t (is_named name) (attached_to mode seat word) (λ _. refl) sound.limits;
+  each_one = all_changed (is_named name) (attached_to mode seat word) IsSoundSubscription t.subs
+      (λ x is ok. sound_attached mode seat word x (let same : x ≡ s = cc in ap (λ (y : Subscription). first_standing (attach_refusals mode seat.ranges y)) same ∙ allowed) ok) sound.each_one;
 }
 
 granted_at : (key : ConsumerKey) (permits : ℕ) (t : Subscriptions) (x : Subscription) → find (is_on key) t.subs ≡ Some x → grants_too_many t key permits ≡ false → is_past_on key permits (Some x) ≡ false
@@ -192,7 +193,7 @@ pub each_sound : StaysSound
 each_sound = record {
   opened = opened_sound;
   made = record { limits = record { names = no_names; subscriptions = omega arith; changes = omega arith }; each_one = tt };
-  attach = λ t name mode seat start allowed sound. sound_attach t name mode seat start (find (is_named name) t.subs) refl allowed sound;
+  attach = λ t name mode seat word start allowed sound. sound_attach t name mode seat word start (find (is_named name) t.subs) refl allowed sound;
   grant = λ t key permits within sound. record {
     limits = limits_changed t (is_on key) (granted_on key permits) (λ _. refl) sound.limits;
     each_one = all_changed (is_on key) (granted_on key permits) IsSoundSubscription t.subs (λ x is ok. sound_granted key permits x (granted_at key permits t x is within) ok) sound.each_one;
@@ -264,17 +265,17 @@ each_left : (committed who : ℕ) (subs : List Subscription) → AllByRecursion 
 each_left committed who [] all = tt
 each_left committed who (x ∷ xs) all = (committed_left committed who x all.0, each_left committed who xs all.1)
 
-committed_attach : (committed : ℕ) (t : Subscriptions) (name : List ℕ) (mode : Mode) (seat : Seat) (start : ℕ) (o : Option Subscription) → IsCommitted committed t → IsCommitted committed (attached_at o t name mode seat start)
-committed_attach committed t name mode seat start None all =
-    all_pushed (IsCommittedOn committed) t.subs (attached_to mode seat (made name mode start)) all (λ i h. map.get-empty {X = Delivery} nat_cmp i)
-committed_attach committed t name mode seat start (Some s) all =
-    all_changed (is_named name) (attached_to mode seat) (IsCommittedOn committed) t.subs (λ x is c. c) all
+committed_attach : (committed : ℕ) (t : Subscriptions) (name : List ℕ) (mode : Mode) (seat : Seat) (word : Word) (start : ℕ) (o : Option Subscription) → IsCommitted committed t → IsCommitted committed (attached_at o t name mode seat word start)
+committed_attach committed t name mode seat word start None all =
+    all_pushed (IsCommittedOn committed) t.subs (attached_to mode seat word (made name mode start)) all (λ i h. map.get-empty {X = Delivery} nat_cmp i)
+committed_attach committed t name mode seat word start (Some s) all =
+    all_changed (is_named name) (attached_to mode seat word) (IsCommittedOn committed) t.subs (λ x is c. c) all
 
 pub each_committed : DeliveriesAreCommitted
 each_committed = record {
   opened = opened_committed;
   made = λ committed. tt;
-  attach = λ committed t name mode seat start all. committed_attach committed t name mode seat start (find (is_named name) t.subs) all;
+  attach = λ committed t name mode seat word start all. committed_attach committed t name mode seat word start (find (is_named name) t.subs) all;
   grant = λ committed t key permits all. all_changed (is_on key) (granted_on key permits) (IsCommittedOn committed) t.subs (λ x is c. c) all;
   learn = λ committed t key n all. all_changed (is_on key) (learnt_on key n) (IsCommittedOn committed) t.subs (λ x is c. c) all;
   look = λ committed t new who h all. zip_all (HasLearntOn who) (IsCommittedOn committed) (IsCommittedOn committed) (λ x y on c j low. ap (λ (s : Subscription). map.get s.deliveries j) on.same ∙ c j low) t.subs new.subs h.subs all;

@@ -14,6 +14,7 @@ use Rattle.subscriptions.specs.State.{Consumer, Subscription, Subscriptions}
 use Rattle.subscriptions.specs.Steps.{first_changed, is_on, is_named, is_consumer, has_permit, granted_on, granted_to, learnt_on, learnt_to, acked_on, acked_through_on, sent_on, sent_one, attached_to, made, Admits, AdmitsAt}
 use Rattle.subscriptions.proofs.Passed.{FreesNone, grants, learns, acks, acks_through, sends}
 use Rattle.subscriptions.proofs.Sound.{all_changed, all_pushed, opens_of}
+use Rattle.permits.specs.Ends.{Word}
 
 -- ---- a session's permits
 
@@ -41,11 +42,11 @@ neither : (a b c : Bool) → a ≡ false → (a && b) ≡ true → (a && c) ≡ 
 neither true b c off h = absurd (true≢false off)
 neither false b c off h = h
 
-without_permits : (who : ℕ) (cs : List Consumer) (key : ConsumerKey) → has_permits who (cs ++ record { key = key; granted = 0; sent = 0 } ∷ []) ≡ true → has_permits who cs ≡ true
-without_permits who [] key h = elim (nat_eq key.session who) as (λ b. ((b && false) || false) ≡ true → false ≡ true) [ true ↦ λ k. k | false ↦ λ k. k ] h
-without_permits who (c ∷ cs) key h =
+without_permits : (who : ℕ) (cs : List Consumer) (key : ConsumerKey) (word : Word) → has_permits who (cs ++ record { key = key; granted = 0; sent = 0; word = word } ∷ []) ≡ true → has_permits who cs ≡ true
+without_permits who [] key word h = elim (nat_eq key.session who) as (λ b. ((b && false) || false) ≡ true → false ≡ true) [ true ↦ λ k. k | false ↦ λ k. k ] h
+without_permits who (c ∷ cs) key word h =
     let it : Bool = nat_eq c.key.session who && nat_lt c.sent c.granted in
-    either it it (has_permits who (cs ++ record { key = key; granted = 0; sent = 0 } ∷ [])) (has_permits who cs) (λ k. k) (without_permits who cs key) h
+    either it it (has_permits who (cs ++ record { key = key; granted = 0; sent = 0; word = word } ∷ [])) (has_permits who cs) (λ k. k) (without_permits who cs key word) h
 
 its_session : (c k : ConsumerKey) → same_key c k ≡ true → nat_eq c.session k.session ≡ true
 its_session c k same = grind (arith, nat_tests)
@@ -96,17 +97,17 @@ notes_sent subs notes key i are = notes_changed (is_on key) (sent_on key i)
     subs notes are
 
 -- a consumer is attached, without permits
-joins : (mode : Mode) (seat : Seat) (who : ℕ) → LeavesQuiet who (attached_to mode seat)
-joins mode seat who committed s quiet = λ permit. quiet (without_permits who s.consumers seat.key permit)
+joins : (mode : Mode) (seat : Seat) (word : Word) (who : ℕ) → LeavesQuiet who (attached_to mode seat word)
+joins mode seat word who committed s quiet = λ permit. quiet (without_permits who s.consumers seat.key word permit)
 
-pub notes_joined : (subs : List Subscription) (notes : List (Option Note)) (name : List ℕ) (mode : Mode) (seat : Seat) → AreQuiet subs notes → AreQuiet (first_changed (is_named name) (attached_to mode seat) subs) notes
-notes_joined subs notes name mode seat are = notes_changed (is_named name) (attached_to mode seat) (joins mode seat) subs notes are
+pub notes_joined : (subs : List Subscription) (notes : List (Option Note)) (name : List ℕ) (mode : Mode) (seat : Seat) (word : Word) → AreQuiet subs notes → AreQuiet (first_changed (is_named name) (attached_to mode seat word) subs) notes
+notes_joined subs notes name mode seat word are = notes_changed (is_named name) (attached_to mode seat word) (joins mode seat word) subs notes are
 
 -- a subscription is made, with a consumer
-pub notes_made : (subs : List Subscription) (notes : List (Option Note)) (name : List ℕ) (mode : Mode) (seat : Seat) (start : ℕ) → AreQuiet subs notes → AreQuiet (subs ++ attached_to mode seat (made name mode start) ∷ []) notes
-notes_made subs notes name mode seat start are = record {
-  quiet = λ who committed is. all_pushed (IsQuietOn who committed) subs (attached_to mode seat (made name mode start)) (are.quiet who committed is)
-      (joins mode seat who committed (made name mode start) (λ permit. absurd (true≢false (sym permit))));
+pub notes_made : (subs : List Subscription) (notes : List (Option Note)) (name : List ℕ) (mode : Mode) (seat : Seat) (word : Word) (start : ℕ) → AreQuiet subs notes → AreQuiet (subs ++ attached_to mode seat word (made name mode start) ∷ []) notes
+notes_made subs notes name mode seat word start are = record {
+  quiet = λ who committed is. all_pushed (IsQuietOn who committed) subs (attached_to mode seat word (made name mode start)) (are.quiet who committed is)
+      (joins mode seat word who committed (made name mode start) (λ permit. absurd (true≢false (sym permit))));
 }
 
 -- a subscription goes

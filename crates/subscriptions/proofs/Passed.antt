@@ -23,6 +23,7 @@ use Rattle.subscriptions.specs.State.{Subscription, Subscriptions}
 use Rattle.subscriptions.specs.Steps.{first_changed, is_on, granted, granted_on, learnt, learnt_on, acknowledged, acked_on, acknowledged_through, acked_through_on, sent, sent_on, slotted, attached_to, AdmitsBy, IsLeastIn, is_key_shared}
 use Rattle.subscriptions.proofs.Sound.{all_kept, all_pushed}
 use Rattle.subscriptions.proofs.Settled.{is_in, has_joined, get_forgotten, has_through, get_forgotten_below}
+use Rattle.permits.specs.Ends.{Word}
 
 -- ---- hints as a list
 
@@ -288,20 +289,20 @@ found_before : (key : ConsumerKey) (seats : List Seat) (seat : Seat) → same_ke
 found_before key [] seat other = ap (λ b. cond b (Some seat) None) other
 found_before key (x ∷ seats) seat other = ap (λ o. cond (same_key x.key key) (Some x) o) (found_before key seats seat other)
 
-hint_beside : (slots : List ℕ) (mode : Mode) (seat : Seat) (s : Subscription) (hint : Hint) → is_hint_of seat.key hint ≡ false → IsHint slots s hint → IsHint slots (attached_to mode seat s) hint
-hint_beside slots mode seat s hint other ok = record {
+hint_beside : (slots : List ℕ) (mode : Mode) (seat : Seat) (word : Word) (s : Subscription) (hint : Hint) → is_hint_of seat.key hint ≡ false → IsHint slots s hint → IsHint slots (attached_to mode seat word s) hint
+hint_beside slots mode seat word s hint other ok = record {
   known = ok.known;
   passed = subst (λ (o : Option Seat). IsPassed o s.acked s.deliveries slots hint.below) (sym (found_before hint.key s.seats seat (apart_keys hint.key seat.key other))) ok.passed;
 }
 
 -- the others keep their hints
-hints_beside : (slots : List ℕ) (mode : Mode) (seat : Seat) (s : Subscription) (hints : List Hint) → AreHintsOn slots s hints
-    → AreHintsOn slots (attached_to mode seat s) (filter (λ h. not (is_hint_of seat.key h)) hints)
-hints_beside slots mode seat s [] all = tt
-hints_beside slots mode seat s (hint ∷ hints) all =
-    elim (is_hint_of seat.key hint) as (λ b. is_hint_of seat.key hint ≡ b → AreHintsOn slots (attached_to mode seat s) (cond (not b) (hint ∷ filter (λ h. not (is_hint_of seat.key h)) hints) (filter (λ h. not (is_hint_of seat.key h)) hints))) [
-      | true ↦ λ _. hints_beside slots mode seat s hints all.1
-      | false ↦ λ other. (hint_beside slots mode seat s hint other all.0, hints_beside slots mode seat s hints all.1)
+hints_beside : (slots : List ℕ) (mode : Mode) (seat : Seat) (word : Word) (s : Subscription) (hints : List Hint) → AreHintsOn slots s hints
+    → AreHintsOn slots (attached_to mode seat word s) (filter (λ h. not (is_hint_of seat.key h)) hints)
+hints_beside slots mode seat word s [] all = tt
+hints_beside slots mode seat word s (hint ∷ hints) all =
+    elim (is_hint_of seat.key hint) as (λ b. is_hint_of seat.key hint ≡ b → AreHintsOn slots (attached_to mode seat word s) (cond (not b) (hint ∷ filter (λ h. not (is_hint_of seat.key h)) hints) (filter (λ h. not (is_hint_of seat.key h)) hints))) [
+      | true ↦ λ _. hints_beside slots mode seat word s hints all.1
+      | false ↦ λ other. (hint_beside slots mode seat word s hint other all.0, hints_beside slots mode seat word s hints all.1)
     ] refl
 
 -- ---- the hints of the subscription at a place
@@ -348,14 +349,14 @@ hints_none slots (s ∷ subs) (h ∷ hints) same empty = (subst (AreHintsOn slot
 -- ---- what the calls do to them
 
 -- a consumer is attached
-pub hints_joined : (t : Subscriptions) (hints : List (List Hint)) (mode : Mode) (seat : Seat) (i : ℕ) (s s' : Subscription) (h h' : List Hint) → AreHints t hints → i < length t.subs
-    → s ≡ get_or t.subs i s → h ≡ get_or hints i h → s' ≡ attached_to mode seat s → h' ≡ filter (λ x. not (is_hint_of seat.key x)) h
+pub hints_joined : (t : Subscriptions) (hints : List (List Hint)) (mode : Mode) (seat : Seat) (word : Word) (i : ℕ) (s s' : Subscription) (h h' : List Hint) → AreHints t hints → i < length t.subs
+    → s ≡ get_or t.subs i s → h ≡ get_or hints i h → s' ≡ attached_to mode seat word s → h' ≡ filter (λ x. not (is_hint_of seat.key x)) h
     → AreHints (record t { subs = set t.subs i s' }) (set hints i h')
-hints_joined t hints mode seat i s s' h h' are low is its new kept =
+hints_joined t hints mode seat word i s s' h h' are low is its new kept =
     are_hints (record t { subs = set t.subs i s' }) (set hints i h')
     (hints_set t.slots t.subs hints i s' h' are.each_one
     (subst (λ (x : Subscription). AreHintsOn t.slots x h') (sym new)
-    (subst (AreHintsOn t.slots (attached_to mode seat s)) (sym kept) (hints_beside t.slots mode seat s h (hints_at t.slots t.subs hints i s h are.each_one low is its)))))
+    (subst (AreHintsOn t.slots (attached_to mode seat word s)) (sym kept) (hints_beside t.slots mode seat word s h (hints_at t.slots t.subs hints i s h are.each_one low is its)))))
 
 -- positions are given back
 pub hints_cleared : (t : Subscriptions) (hints : List (List Hint)) (i : ℕ) (s' : Subscription) (h' : List Hint) → AreHints t hints → h' ≡ []

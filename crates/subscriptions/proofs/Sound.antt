@@ -32,6 +32,7 @@ use Rattle.subscriptions.specs.Soundness.{IsWithinPermits, IsSoundSubscription}
 use Rattle.subscriptions.proofs.Lists.{keys_pushed, keys_kept, keys_changed, keys_length}
 use Rattle.subscriptions.proofs.Each.{get_each, apart_changed}
 use Rattle.subscriptions.proofs.Settled.{is_in, get_forgotten, get_forgotten_below, apart_acked, apart_through, apart_empty, apart_sent, given_back_apart}
+use Rattle.permits.specs.Ends.{Word}
 
 -- ---- lists
 
@@ -206,29 +207,29 @@ apart_before : (s : Subscription) (cs : List Consumer) → s.consumers ≡ cs �
 apart_before s [] is row sound = no_seats s.seats (as_many s.seats s.consumers sound.seated ∙ ap (λ (cs : List Consumer). length cs) is)
 apart_before s (c ∷ cs) is row sound = sound.ranges_apart (key_shared_too s.mode (none_or_same (same_mode s.mode KeyShared) (ap (λ b. b && not (same_mode s.mode KeyShared)) (sym (above_none (length cs))) ∙ row)))
 
-ranges_pushed : (mode : Mode) (seat : Seat) (s : Subscription) → (has_some s.consumers && not (same_mode s.mode mode)) ≡ false → nat_le 64 (length s.consumers) ≡ false → refuses_ranges mode s.seats seat.ranges ≡ false
+ranges_pushed : (mode : Mode) (seat : Seat) (word : Word) (s : Subscription) → (has_some s.consumers && not (same_mode s.mode mode)) ≡ false → nat_le 64 (length s.consumers) ≡ false → refuses_ranges mode s.seats seat.ranges ≡ false
     → IsSoundSubscription s → mode ≡ KeyShared → AreRangesApart (s.seats ++ seat ∷ [])
-ranges_pushed mode seat s same few fit sound is =
+ranges_pushed mode seat word s same few fit sound is =
     pushed s.seats seat
     (apart_before s s.consumers refl (sym (ap (λ m. has_some s.consumers && not (same_mode s.mode m)) is) ∙ same) sound)
     (taken_in s.seats seat (has_room (length s.consumers) (length s.seats) (as_many s.seats s.consumers sound.seated) few) (sym (ap (λ m. refuses_ranges m s.seats seat.ranges) is) ∙ fit))
 
-pub sound_attached : (mode : Mode) (seat : Seat) (s : Subscription) → first_standing (attach_refusals mode seat.ranges s) ≡ None → IsSoundSubscription s → IsSoundSubscription (attached_to mode seat s)
-sound_attached mode seat s allowed sound =
+pub sound_attached : (mode : Mode) (seat : Seat) (word : Word) (s : Subscription) → first_standing (attach_refusals mode seat.ranges s) ≡ None → IsSoundSubscription s → IsSoundSubscription (attached_to mode seat word s)
+sound_attached mode seat word s allowed sound =
     let rows = four_rows (has_some s.consumers && not (same_mode s.mode mode)) (has_some s.consumers && is_exclusive mode) (nat_le 64 (length s.consumers)) (refuses_ranges mode s.seats seat.ranges) _ _ _ _ allowed in record {
       few = rw length-append (below_limit (length s.consumers) rows.2);
       single = λ is. rw length-append (alone mode s.consumers rows.1 is);
       permits = all_pushed IsWithinPermits s.consumers _ sound.permits (record { sent = omega arith; granted = omega arith });
       seated = seated_one_more s.seats s.consumers seat _ refl sound.seated;
-      ranges_apart = ranges_pushed mode seat s rows.0 rows.2 rows.3 sound;
+      ranges_apart = ranges_pushed mode seat word s rows.0 rows.2 rows.3 sound;
       unacknowledged = sound.unacknowledged;
       held = λ i k h. any_more (is_consumer k) s.consumers _ (sound.held i k h);
     }
 
 -- a new subscription with its first consumer
-pub sound_first : (name : List ℕ) (mode : Mode) (seat : Seat) (start : ℕ) → refuses_ranges mode [] seat.ranges ≡ false → IsSoundSubscription (attached_to mode seat (made name mode start))
-sound_first name mode seat start fit =
-    sound_attached mode seat (made name mode start) (ap (λ b. cond b (Some ConsumerAssignError) None) fit) (sound_made name mode start)
+pub sound_first : (name : List ℕ) (mode : Mode) (seat : Seat) (word : Word) (start : ℕ) → refuses_ranges mode [] seat.ranges ≡ false → IsSoundSubscription (attached_to mode seat word (made name mode start))
+sound_first name mode seat word start fit =
+    sound_attached mode seat word (made name mode start) (ap (λ b. cond b (Some ConsumerAssignError) None) fit) (sound_made name mode start)
 
 pub sound_granted : (key : ConsumerKey) (n : ℕ) (s : Subscription) → is_past n (find (is_consumer key) s.consumers) ≡ false → IsSoundSubscription s → IsSoundSubscription (granted_on key n s)
 sound_granted key n s within sound = record {

@@ -23,6 +23,7 @@ use Rattle.subscriptions.specs.Steps.{first_changed, is_consumer, is_on, is_name
 use Rattle.subscriptions.proofs.Sound.{any_changed}
 use Rattle.subscriptions.proofs.Passed.{key_is}
 use Rattle.subscriptions.proofs.Places.{is_place, finds}
+use Rattle.permits.specs.Ends.{Word}
 
 -- ---- the directory as a list
 
@@ -321,32 +322,32 @@ places_redelivered subs places key asked are = places_kept subs places (is_on ke
 pub by_key : (key k : ConsumerKey) (a b c : Option ℕ) → (same_key key k ≡ true → a ≡ c) → (same_key key k ≡ false → b ≡ c) → cond (same_key key k) a b ≡ c
 by_key key k a b c its others = elim (same_key key k) as (λ s. same_key key k ≡ s → cond s a b ≡ c) [ true ↦ λ same. its same | false ↦ λ other. others other ] refl
 
-abbrev newcomer : Seat → Consumer
-newcomer seat = record { key = seat.key; granted = 0; sent = 0 }
+abbrev newcomer : Seat → Word → Consumer
+newcomer seat word = record { key = seat.key; granted = 0; sent = 0; word = word }
 
 -- a consumer is attached to the subscription of a name
-pub places_joined : (subs : List Subscription) (places places' : List ((ℕ × ℕ) × ℕ)) (name : List ℕ) (mode : Mode) (seat : Seat) (p : ℕ) → position (is_named name) subs ≡ Some p
+pub places_joined : (subs : List Subscription) (places places' : List ((ℕ × ℕ) × ℕ)) (name : List ℕ) (mode : Mode) (seat : Seat) (word : Word) (p : ℕ) → position (is_named name) subs ≡ Some p
     → ((k : ConsumerKey) → place_in places' k ≡ cond (same_key seat.key k) (Some (earliest (place_in places seat.key) p)) (place_in places k))
-    → ArePlaces subs places → ArePlaces (first_changed (is_named name) (attached_to mode seat) subs) places'
-places_joined subs places places' name mode seat p at says are = record {
+    → ArePlaces subs places → ArePlaces (first_changed (is_named name) (attached_to mode seat word) subs) places'
+places_joined subs places places' name mode seat word p at says are = record {
   found = λ k. says k ∙ by_key seat.key k _ _ _
       (λ same. ap (λ o. Some (earliest o p)) (are.found seat.key)
       ∙ ap (λ (k : ConsumerKey). Some (earliest (position (is_on k) subs) p)) (key_is seat.key k same)
-      ∙ sym (joined_place (is_on k) (is_named name) (attached_to mode seat) (λ s. any_pushed (is_consumer k) s.consumers (newcomer seat) same) subs p at))
-      (λ other. are.found k ∙ sym (same_place (is_on k) (is_named name) (attached_to mode seat) (λ s. any_beside (is_consumer k) s.consumers (newcomer seat) other) subs));
+      ∙ sym (joined_place (is_on k) (is_named name) (attached_to mode seat word) (λ s. any_pushed (is_consumer k) s.consumers (newcomer seat word) same) subs p at))
+      (λ other. are.found k ∙ sym (same_place (is_on k) (is_named name) (attached_to mode seat word) (λ s. any_beside (is_consumer k) s.consumers (newcomer seat word) other) subs));
 }
 
 -- a subscription is made, with a consumer
-pub places_made : (subs : List Subscription) (places places' : List ((ℕ × ℕ) × ℕ)) (name : List ℕ) (mode : Mode) (seat : Seat) (start n : ℕ) → n ≡ length subs
+pub places_made : (subs : List Subscription) (places places' : List ((ℕ × ℕ) × ℕ)) (name : List ℕ) (mode : Mode) (seat : Seat) (word : Word) (start n : ℕ) → n ≡ length subs
     → ((k : ConsumerKey) → place_in places' k ≡ cond (same_key seat.key k) (Some (earliest (place_in places seat.key) n)) (place_in places k))
-    → ArePlaces subs places → ArePlaces (subs ++ attached_to mode seat (made name mode start) ∷ []) places'
-places_made subs places places' name mode seat start n last says are = record {
+    → ArePlaces subs places → ArePlaces (subs ++ attached_to mode seat word (made name mode start) ∷ []) places'
+places_made subs places places' name mode seat word start n last says are = record {
   found = λ k. says k ∙ by_key seat.key k _ _ _
       (λ same. ap (λ o. Some (earliest o n)) (are.found seat.key)
       ∙ ap (λ (k : ConsumerKey). Some (earliest (position (is_on k) subs) n)) (key_is seat.key k same)
       ∙ ap (λ n. Some (earliest (position (is_on k) subs) n)) last
-      ∙ sym (pushed_place (is_on k) subs (attached_to mode seat (made name mode start)) (any_pushed (is_consumer k) [] (newcomer seat) same)))
-      (λ other. are.found k ∙ sym (beside_place (is_on k) subs (attached_to mode seat (made name mode start)) (any_beside (is_consumer k) [] (newcomer seat) other)));
+      ∙ sym (pushed_place (is_on k) subs (attached_to mode seat word (made name mode start)) (any_pushed (is_consumer k) [] (newcomer seat word) same)))
+      (λ other. are.found k ∙ sym (beside_place (is_on k) subs (attached_to mode seat word (made name mode start)) (any_beside (is_consumer k) [] (newcomer seat word) other)));
 }
 
 pub put_some : (place : Option ℕ) (n : ℕ) → put_in_place place (Some n) ≡ place

@@ -10,6 +10,7 @@ use Rattle.holds.specs.declared.consumer.SlotRange.{SlotRange}
 use Rattle.subscriptions.specs.declared.consumer.Mode.{Mode}
 use Rattle.subscriptions.specs.State.{Subscription, Subscriptions}
 use Rattle.subscriptions.specs.Steps.{subscribe_refusals, attached, granted, grants_too_many, learnt, HasLearnt, acknowledged, acknowledged_through, unsubscribe_refusals, unsubscribed, sent, sent_before, left, detached, redelivered, settled, slotted, Admits}
+use Rattle.permits.specs.Ends.{Word}
 
 -- the deliveries of the positions that aren't acknowledged
 abbrev pub unacknowledged : Positions → Deliveries → Deliveries
@@ -34,7 +35,7 @@ pub record AnswersTheSame (t : Subscriptions) : Type 0 where
 
 -- And so after any calls: whatever is forgotten before a call, what is remembered behind it is the same.
 pub record GoesOnTheSame (t : Subscriptions) : Type 0 where
-  pub attach : (name : List ℕ) (mode : Mode) (seat : Seat) (start : ℕ) → forgetful (attached (forgetful t) name mode seat start) ≡ forgetful (attached t name mode seat start)
+  pub attach : (name : List ℕ) (mode : Mode) (seat : Seat) (word : Word) (start : ℕ) → forgetful (attached (forgetful t) name mode seat word start) ≡ forgetful (attached t name mode seat word start)
   pub grant : (key : ConsumerKey) (permits : ℕ) → forgetful (granted (forgetful t) key permits) ≡ forgetful (granted t key permits)
   pub learn : (key : ConsumerKey) (granted : ℕ) → forgetful (learnt (forgetful t) key granted) ≡ forgetful (learnt t key granted)
   pub look : (who : ℕ) (new : Subscriptions) → HasLearnt who t new → HasLearnt who (forgetful t) (forgetful new)

@@ -14,6 +14,7 @@ use Rattle.records.specs.Records.{IsThere, AreFormed, after_all}
 use Rattle.subscriptions.specs.State.{Subscription, Subscriptions}
 use Rattle.subscriptions.specs.Steps.{none_yet, opened, first_standing, subscribe_refusals, attached, has_consumer, learnt, HasLearnt, granted, grants_too_many, acknowledged, acknowledged_through, unsubscribe_refusals, unsubscribed, sent, left, detached, redelivered, settled, slotted, Admits, is_named, is_on}
 use Rattle.subscriptions.specs.Soundness.{IsSound, HasLimits, IsCommitted}
+use Rattle.permits.specs.Ends.{Word}
 
 -- durable subscriptions that a topic may have: 64 at most, each name of its form
 pub record AreDurable (kept : Kept) : Type 0 where
@@ -35,7 +36,7 @@ pub record IsKept (entries : ℕ) (kept : Kept) (t : Subscriptions) : Type 0 whe
 pub record StaysSound : Type 0 where
   pub made : IsSound none_yet
   pub opened : (kept : Kept) → AreDurable kept → IsSound (opened kept)
-  pub attach : (t : Subscriptions) (name : List ℕ) (mode : Mode) (seat : Seat) (start : ℕ) → first_standing (subscribe_refusals t name mode seat.ranges) ≡ None → IsSound t → IsSound (attached t name mode seat start)
+  pub attach : (t : Subscriptions) (name : List ℕ) (mode : Mode) (seat : Seat) (word : Word) (start : ℕ) → first_standing (subscribe_refusals t name mode seat.ranges) ≡ None → IsSound t → IsSound (attached t name mode seat word start)
   pub grant : (t : Subscriptions) (key : ConsumerKey) (permits : ℕ) → grants_too_many t key permits ≡ false → IsSound t → IsSound (granted t key permits)
   pub learn : (t : Subscriptions) (key : ConsumerKey) (granted : ℕ) → (has_consumer t key ≡ true → granted ≤ 2 ^ 62) → IsSound t → IsSound (learnt t key granted)
   pub look : (t new : Subscriptions) (who : ℕ) → HasLearnt who t new → IsSound t → IsSound new
@@ -53,8 +54,8 @@ pub record StaysSound : Type 0 where
 -- A longer ledger changes nothing.
 pub record AreKept : Type 0 where
   pub opened : (entries : ℕ) (kept : Kept) → AreDurable kept → IsKept entries kept (opened kept)
-  pub attach : (entries : ℕ) (kept : Kept) (t : Subscriptions) (name : List ℕ) (mode : Mode) (seat : Seat) (start : ℕ)
-      → first_standing (subscribe_refusals t name mode seat.ranges) ≡ None → is_subscription_name name ≡ true → start ≤ entries → IsKept entries kept t → IsKept entries kept (attached t name mode seat start)
+  pub attach : (entries : ℕ) (kept : Kept) (t : Subscriptions) (name : List ℕ) (mode : Mode) (seat : Seat) (word : Word) (start : ℕ)
+      → first_standing (subscribe_refusals t name mode seat.ranges) ≡ None → is_subscription_name name ≡ true → start ≤ entries → IsKept entries kept t → IsKept entries kept (attached t name mode seat word start)
   pub grant : (entries : ℕ) (kept : Kept) (t : Subscriptions) (key : ConsumerKey) (permits : ℕ) → IsKept entries kept t → IsKept entries kept (granted t key permits)
   pub learn : (entries : ℕ) (kept : Kept) (t : Subscriptions) (key : ConsumerKey) (granted : ℕ) → IsKept entries kept t → IsKept entries kept (learnt t key granted)
   pub look : (entries : ℕ) (kept : Kept) (t new : Subscriptions) (who : ℕ) → HasLearnt who t new → IsKept entries kept t → IsKept entries kept new
@@ -76,7 +77,7 @@ pub record AreKept : Type 0 where
 pub record DeliveriesAreCommitted : Type 0 where
   pub made : (committed : ℕ) → IsCommitted committed none_yet
   pub opened : (committed : ℕ) (kept : Kept) → IsCommitted committed (opened kept)
-  pub attach : (committed : ℕ) (t : Subscriptions) (name : List ℕ) (mode : Mode) (seat : Seat) (start : ℕ) → IsCommitted committed t → IsCommitted committed (attached t name mode seat start)
+  pub attach : (committed : ℕ) (t : Subscriptions) (name : List ℕ) (mode : Mode) (seat : Seat) (word : Word) (start : ℕ) → IsCommitted committed t → IsCommitted committed (attached t name mode seat word start)
   pub grant : (committed : ℕ) (t : Subscriptions) (key : ConsumerKey) (permits : ℕ) → IsCommitted committed t → IsCommitted committed (granted t key permits)
   pub learn : (committed : ℕ) (t : Subscriptions) (key : ConsumerKey) (granted : ℕ) → IsCommitted committed t → IsCommitted committed (learnt t key granted)
   pub look : (committed : ℕ) (t new : Subscriptions) (who : ℕ) → HasLearnt who t new → IsCommitted committed t → IsCommitted committed new

@@ -2,6 +2,7 @@
 use Rattle.std.specs.Prelude.{ℕ, List}
 use Rattle.cursor.specs.Positions.{Positions}
 use Rattle.holds.specs.Deliveries.{Deliveries}
+use Rattle.permits.specs.Ends.{Word}
 use Rattle.holds.specs.declared.consumer.Consumer.{Consumer as Seat}
 use Rattle.holds.specs.declared.consumer.ConsumerKey.{ConsumerKey}
 use Rattle.subscriptions.specs.declared.consumer.Mode.{Mode}
@@ -12,6 +13,7 @@ pub record Consumer : Type 0 where
   pub key : ConsumerKey
   pub granted : ℕ  -- how many permits it is known to have been granted
   pub sent : ℕ  -- how many messages it got
+  pub word : Word  -- whose permits it takes
 
 pub record Subscription : Type 0 where
   pub name : List ℕ

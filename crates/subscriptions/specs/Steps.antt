@@ -19,6 +19,7 @@ use Rattle.subscriptions.specs.declared.consumer.Refusal.{Refusal}
 use Rattle.subscriptions.specs.declared.consumer.Refusal.TheVariants.{ConsumerBusy, TooManyRequests, ConsumerAssignError}
 use Rattle.subscriptions.specs.declared.initial_position.InitialPosition.{InitialPosition}
 use Rattle.subscriptions.specs.declared.initial_position.InitialPosition.TheVariants.{Latest, Earliest}
+use Rattle.permits.specs.Ends.{Word}
 use Rattle.records.specs.declared.record.Record.{Record}
 use Rattle.records.specs.Maps.{Kept}
 use Rattle.records.specs.declared.record.Record.TheVariants.{Made, Removed, Acknowledged, AcknowledgedThrough}
@@ -138,9 +139,9 @@ refusals_at (Some s) t mode ranges = attach_refusals mode ranges s
 abbrev pub subscribe_refusals : Subscriptions → List ℕ → Mode → List SlotRange → List (Bool × Refusal)
 subscribe_refusals t name mode ranges = refusals_at (find (is_named name) t.subs) t mode ranges
 
--- one more consumer, without permits, and attached last
-abbrev pub attached_to : Mode → Seat → Subscription → Subscription
-attached_to mode seat s = record s { mode = mode; consumers = s.consumers ++ record { key = seat.key; granted = 0; sent = 0 } ∷ []; seats = s.seats ++ seat ∷ [] }
+-- one more consumer, without permits on this word, and attached last
+abbrev pub attached_to : Mode → Seat → Word → Subscription → Subscription
+attached_to mode seat word s = record s { mode = mode; consumers = s.consumers ++ record { key = seat.key; granted = 0; sent = 0; word = word } ∷ []; seats = s.seats ++ seat ∷ [] }
 
 -- the position below which all is acknowledged on a new subscription
 abbrev pub start_of : InitialPosition → ℕ → ℕ
@@ -151,12 +152,12 @@ abbrev pub made : List ℕ → Mode → ℕ → Subscription
 made name mode start = record { name = name; mode = mode; consumers = []; seats = []; acked = below start; deliveries = map.empty }
 
 -- SUBSCRIBE: a name that is there gains a consumer, and another name is made with it
-abbrev pub attached_at : Option Subscription → Subscriptions → List ℕ → Mode → Seat → ℕ → Subscriptions
-attached_at None t name mode seat start = record t { subs = t.subs ++ attached_to mode seat (made name mode start) ∷ []; changes = t.changes ++ Made name start ∷ [] }
-attached_at (Some s) t name mode seat start = record t { subs = first_changed (is_named name) (attached_to mode seat) t.subs }
+abbrev pub attached_at : Option Subscription → Subscriptions → List ℕ → Mode → Seat → Word → ℕ → Subscriptions
+attached_at None t name mode seat word start = record t { subs = t.subs ++ attached_to mode seat word (made name mode start) ∷ []; changes = t.changes ++ Made name start ∷ [] }
+attached_at (Some s) t name mode seat word start = record t { subs = first_changed (is_named name) (attached_to mode seat word) t.subs }
 
-abbrev pub attached : Subscriptions → List ℕ → Mode → Seat → ℕ → Subscriptions
-attached t name mode seat start = attached_at (find (is_named name) t.subs) t name mode seat start
+abbrev pub attached : Subscriptions → List ℕ → Mode → Seat → Word → ℕ → Subscriptions
+attached t name mode seat word start = attached_at (find (is_named name) t.subs) t name mode seat word start
 
 -- a consumer is known to have been granted at least so many permits
 abbrev pub learnt_to : ℕ → Consumer → Consumer

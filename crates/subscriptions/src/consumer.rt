@@ -40,7 +40,7 @@ impl<G: Gauge> Model for Consumer<G> {
 
     ghost Value = { State };
 
-    ghost view = { λ c. record { key = c.key; granted = G.known c.gauge; sent = G.taken c.gauge } };
+    ghost view = { λ c. record { key = c.key; granted = G.known c.gauge; sent = G.taken c.gauge; word = G.word c.gauge } };
 }
 
 impl<G: Gauge> Drop for Consumer<G> {
@@ -55,7 +55,7 @@ impl<G: Gauge> Consumer<G> {
     pub(crate) fn new(key: ConsumerKey, gauge: G) -> Consumer<G>
         requires none_known { G.known gauge ≡ 0 }
         requires none_taken { G.taken gauge ≡ 0 }
-        ensures { result ≡ record { key = key; granted = 0; sent = 0 } }
+        ensures { result ≡ record { key = key; granted = 0; sent = 0; word = G.word gauge } }
     {
         Consumer { key, gauge }
     }

@@ -139,7 +139,7 @@ impl<G: Gauge> Subscription<G> {
         requires allowed { first_standing (attach_refusals mode seat.ranges self.old) ≡ None }
         requires none_known { G.known gauge ≡ 0 }
         requires none_taken { G.taken gauge ≡ 0 }
-        ensures ok { OnOk result (self.new ≡ attached_to mode seat self.old) }
+        ensures ok { OnOk result (self.new ≡ attached_to mode seat (G.word gauge) self.old) }
         ensures err { OnErr result (self.new ≡ self.old) }
     {
         let newcomer = Consumer::new(seat.key, gauge);

@@ -179,7 +179,7 @@ impl<G: Gauge> Subscriptions<G> {
         requires allowed { first_standing (subscribe_refusals self.old name.now mode seat.ranges) ≡ None }
         requires none_known { G.known gauge ≡ 0 }
         requires none_taken { G.taken gauge ≡ 0 }
-        ensures ok { OnOk result (self.new ≡ attached self.old name.now mode seat (start_of initial committed)) }
+        ensures ok { OnOk result (self.new ≡ attached self.old name.now mode seat (G.word gauge) (start_of initial committed)) }
         ensures err { OnErr result (self.new ≡ self.old) }
     {
         let Some(place) = place_named(self.subs.as_slice(), name) else {
@@ -220,7 +220,7 @@ impl<G: Gauge> Subscriptions<G> {
         requires allowed { first_standing (subscribe_refusals self.old name.now mode seat.ranges) ≡ None }
         requires none_known { G.known gauge ≡ 0 }
         requires none_taken { G.taken gauge ≡ 0 }
-        ensures ok { OnOk result (self.new ≡ attached self.old name.now mode seat start) }
+        ensures ok { OnOk result (self.new ≡ attached self.old name.now mode seat (G.word gauge) start) }
         ensures err { OnErr result (self.new ≡ self.old) }
     {
         let key = seat.key;
@@ -544,7 +544,7 @@ fn new_subscription<G: Gauge>(
     requires none_known { G.known gauge ≡ 0 }
     requires none_taken { G.taken gauge ≡ 0 }
     requires allowed { refuses_ranges mode [] seat.ranges ≡ false }
-    ensures { IfOk result (λ s. s ≡ attached_to mode seat (made name.now mode start)) }
+    ensures { IfOk result (λ s. s ≡ attached_to mode seat (G.word gauge) (made name.now mode start)) }
 {
     let name = match Name::new(alloc, name) {
         Ok(name) => name,

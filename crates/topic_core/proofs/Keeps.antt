@@ -48,10 +48,12 @@ use Rattle.topic_core.proofs.Sends.{takes_entry, sound-accepted, receipts-accept
 use Rattle.topic_core.proofs.Collects.{sound-collected, receipts-collected, sound-left, receipts-left}
 use Rattle.topic_core.proofs.Subscribing.{sound-subs, receipts-subs, sound-subscribed, receipts-subscribed, kept-subscribed, accepts, sound-acked, receipts-acked, kept-acked, first-acked, slots-attached, slots-acked}
 use Rattle.topic_core.proofs.States.{AreKeptBack, all_opened}
+use Rattle.topic_core.proofs.Meeting.{met}
 use Rattle.topic_core.proofs.Closings.{sound-producers, receipts-producers, close-works, sound-closing, receipts-closing, sound-unsubscribed, receipts-unsubscribed, kept-unsubscribed, changes-unsubscribed}
 use Rattle.topic_core.proofs.Flushes.{sound-handed_on, receipts-handed_on, sound-finished, receipts-finished, sound-taken_back, receipts-taken_back, sound-failed, receipts-failed}
 use Rattle.topic_core.proofs.Flushing.{finished-handed_on, empty, and_first, and_second, idle-append, idle-waiting, idle-changes, idle-queues-of, idle-producers, idle-where}
 use Rattle.topic_core.proofs.States.{open_stay}
+use Rattle.permits.specs.Ends.{Word}
 
 -- a core that is sound, with as many committed entries as before, over the same durable subscriptions
 pub record Stays (old new : Topic) : Type 0 where
@@ -102,10 +104,10 @@ still t sound are = stays t t refl sound are (λ kept is. is) refl refl (λ ledg
 with-producers : (t : Topic) (ps : List Producer) → (AreKeptBack t.producers → AreKeptBack ps) → Keeps t (record t { producers = ps })
 with-producers t ps to sound are = stays t _ refl (sound-producers t ps to sound) (receipts-producers t ps are) (λ kept is. is) refl refl (λ ledger is. is)
 
-doubt-attached : (t : Topic) (name : List ℕ) (mode : Mode) (seat : Seat) (start : ℕ) → changes_of t.doubt ≤ length t.subs.changes
-    → take (changes_of t.doubt) (subscriptions.attached t.subs name mode seat start).changes ≡ take (changes_of t.doubt) t.subs.changes
-doubt-attached t name mode seat start low =
-    elim (find (subscriptions.is_named name) t.subs.subs) as (λ o. take (changes_of t.doubt) (subscriptions.attached_at o t.subs name mode seat start).changes ≡ take (changes_of t.doubt) t.subs.changes) [
+doubt-attached : (t : Topic) (name : List ℕ) (mode : Mode) (seat : Seat) (word : Word) (start : ℕ) → changes_of t.doubt ≤ length t.subs.changes
+    → take (changes_of t.doubt) (subscriptions.attached t.subs name mode seat word start).changes ≡ take (changes_of t.doubt) t.subs.changes
+doubt-attached t name mode seat word start low =
+    elim (find (subscriptions.is_named name) t.subs.subs) as (λ o. take (changes_of t.doubt) (subscriptions.attached_at o t.subs name mode seat word start).changes ≡ take (changes_of t.doubt) t.subs.changes) [
       | None ↦ take-append-le (changes_of t.doubt) t.subs.changes (Made name start ∷ []) low
       | Some s ↦ refl
     ]
@@ -156,29 +158,29 @@ either-keeps : (t : Topic) (o : Option ServerError) (refused : ServerError → A
 either-keeps t None refused effect keeps = keeps refl
 either-keeps t (Some e) refused effect keeps = still t
 
-outcome-keeps : (t : Topic) (who : ℕ) (c : TopicCommand) → Keeps t (outcome_of t who c).topic
-outcome-keeps t who (command.Producer id request name) = either-keeps t (first_standing (producer_refusals t name)) _ _ (λ none. with-producers t _ (all_opened t.producers _ refl))
-outcome-keeps t who (command.Send send) = either-keeps t (first_standing (send_refusals t who send)) _ _ (λ none sound are. let fits = takes_entry t who send none in stays t _ refl
+outcome-keeps : (t : Topic) (who : ℕ) (c : TopicCommand) (word : Word) → Keeps t (outcome_of t who c word).topic
+outcome-keeps t who (command.Producer id request name) word = either-keeps t (first_standing (producer_refusals t name)) _ _ (λ none. with-producers t _ (all_opened t.producers _ refl))
+outcome-keeps t who (command.Send send) word = either-keeps t (first_standing (send_refusals t who send)) _ _ (λ none sound are. let fits = takes_entry t who send none in stays t _ refl
     (sound-accepted t who send.producer_id send.sequence_id (bytes_of send.entry) sound fits.0 fits.1 fits.2 fits.3)
     (receipts-accepted t who send.producer_id send.sequence_id (bytes_of send.entry) sound are)
     (λ kept is. are_kept.slot t.committed kept t.subs (slot_of_entry (bytes_of send.entry) ∷ []) is)
     (take-append-le (entries_of t.doubt) t.waiting (bytes_of send.entry ∷ []) (omega (arith, sound.promises))) refl
     (λ ledger is. slots-accepted t ledger (bytes_of send.entry) is))
-outcome-keeps t who (command.Subscribe s) = either-keeps t (subscribe_refusal t s) _ _ (λ none sound are.
+outcome-keeps t who (command.Subscribe s) word = either-keeps t (subscribe_refusal t s) _ _ (λ none sound are.
     let start = subscriptions.start_of (start_of s.initial) t.committed in
-    stays t _ refl (sound-subscribed t who s sound none) (receipts-subscribed t who s sound none are) (λ kept is. kept-subscribed t who s sound none kept is)
-    refl (doubt-attached t s.subscription s.mode (seat_of who s) start sound.changes) (λ ledger is. slots-attached t.subs s.subscription s.mode (seat_of who s) start ∙ is))
-outcome-keeps t who (command.Ack ack) =
+    stays t _ refl (sound-subscribed t who s word sound none) (receipts-subscribed t who s word sound none are) (λ kept is. kept-subscribed t who s word sound none kept is)
+    refl (doubt-attached t s.subscription s.mode (seat_of who s) word start sound.changes) (λ ledger is. slots-attached t.subs s.subscription s.mode (seat_of who s) word start ∙ is))
+outcome-keeps t who (command.Ack ack) word =
     either-keeps t (first_standing (ack_refusals t who ack)) _ _ (λ none sound are. let fits = accepts t who ack none in stays t _ (frame-acked t who ack ack.request_id)
     (sound-acked t who ack sound ack.request_id fits) (receipts-acked t who ack sound ack.request_id fits are) (λ kept is. kept-acked t who ack sound ack.request_id fits kept is)
     (entries-acked t who ack ack.request_id) (changes-acked t who ack sound.changes ack.request_id) (λ ledger is. slots-answered t who ack ledger is ack.request_id))
-outcome-keeps t who (command.CloseProducer close) = either-keeps t (first_standing (close_refusals t who close)) _ _ (λ none sound are.
+outcome-keeps t who (command.CloseProducer close) word = either-keeps t (first_standing (close_refusals t who close)) _ _ (λ none sound are.
     stays t _ refl (sound-closing t who close sound (close-works t who close none)) (receipts-closing t who close sound are) (λ kept is. is) refl refl (λ ledger is. is))
-outcome-keeps t who (command.Unsubscribe u) = either-keeps t (unsubscribe_refusal t who u) _ _ (λ none sound are.
+outcome-keeps t who (command.Unsubscribe u) word = either-keeps t (unsubscribe_refusal t who u) _ _ (λ none sound are.
     stays t _ refl (sound-unsubscribed t who u none sound) (receipts-unsubscribed t who u none sound are)
     (λ kept is. kept-unsubscribed t who u none sound kept is) refl (changes-unsubscribed t who u none sound) (λ ledger is. is))
-outcome-keeps t who (command.CloseConsumer close) = either-keeps t (first_standing (detach_refusals t who close)) _ _ (λ none. detached-keeps t (key_of who close.consumer_id))
-outcome-keeps t who (command.Redeliver r) =
+outcome-keeps t who (command.CloseConsumer close) word = either-keeps t (first_standing (detach_refusals t who close)) _ _ (λ none. detached-keeps t (key_of who close.consumer_id))
+outcome-keeps t who (command.Redeliver r) word =
     elim t.failed as (λ b. Keeps t (cond b t (record t { subs = subscriptions.redelivered t.subs (key_of who r.consumer_id) (asked_back t.per_ledger t.committed r.message_ids) }))) [
       | true ↦ still t
       | false ↦ redelivered-keeps t (key_of who r.consumer_id) (asked_back t.per_ledger t.committed r.message_ids)
@@ -189,9 +191,9 @@ to old a b e h = let P : Topic → Type 0 = λ x. Keeps old x in subst P (sym e)
 
 pub step-keeps : (t : Topic) (who : ℕ) (c : TopicCommand) (a : Answer) (new : Topic) → TopicStep t who c a new → Keeps t new
 step-keeps t who c NoMemory new h = to t new t h.0 (still t)
-step-keeps t who c (Now r) new h = to t new _ h.1 (outcome-keeps t who c)
-step-keeps t who c Later new h = to t new _ h.1 (outcome-keeps t who c)
-step-keeps t who c Nothing new h = to t new _ h.1 (outcome-keeps t who c)
+step-keeps t who c (Now r) new h = let m = met t who c (Now r) new h in to t new _ m.1.1 (outcome-keeps t who c m.0)
+step-keeps t who c Later new h = let m = met t who c Later new h in to t new _ m.1.1 (outcome-keeps t who c m.0)
+step-keeps t who c Nothing new h = let m = met t who c Nothing new h in to t new _ m.1.1 (outcome-keeps t who c m.0)
 
 -- what keeps the parts of a topic keeps all that is said of it
 pub stays-sound : (old new : Topic) → Stays old new → IsSoundTopic old → IsSoundTopic new

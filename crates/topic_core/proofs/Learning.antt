@@ -1,14 +1,12 @@
 -- What is learnt of the permits of a topic's consumers.
-use Rattle.std.proofs.Common.{◌≡◌, ◌⊎◌, ⊎_elim, ℕ, ◌<◌, max, Option, Some, None, Result, Ok, Err, slice_get, refl, sym, ap, subst, ◌∙◌, arith}
+use Rattle.std.proofs.Common.{◌≡◌, ◌⊎◌, ⊎_elim, ℕ, List, ◌<◌, max, Option, Some, None, Result, Ok, Err, slice_get, refl, sym, ap, subst, ◌∙◌, arith}
 use Rattle.commands.specs.declared.reply.Reply.TheVariants.{Message}
 use Rattle.gated_log.specs.declared.read_error.ReadError.{ReadError}
 use Rattle.gated_log.specs.declared.read_error.ReadError.TheVariants.{Device, NoMemory}
 use Rattle.holds.specs.declared.consumer.ConsumerKey.{ConsumerKey}
 use Rattle.ids.specs.Ids.{message_id_at}
-use Rattle.std.specs.Prelude.{IsErr}
-use Rattle.std.proofs.lemmas.Bool.{false≢true}
+use Rattle.managed_ledger.specs.Entries.{Entries}
 use Rattle.std.specs.List.{find}
-use Rattle.std.specs.declared.alloc.AllocError.{AllocError}
 use Rattle.subscriptions.specs.Laws.{IsOpenFor}
 use Rattle.subscriptions.specs.State.{Subscription, Subscriptions}
 use Rattle.subscriptions.proofs.Limits.{picked}
@@ -123,9 +121,17 @@ read_refused t who id e is = ⊎_elim (λ n. subst (λ (x : ReadError). Dispatch
 pub refused_dispatch : (t : Topic) (who id : ℕ) (result : Result (Option Outgoing) ReadError) (e : ReadError) → result ≡ Err e → (e ≡ NoMemory) ⊎ (e ≡ Device) → DispatchStep t who id result t
 refused_dispatch t who id result e is why = subst (λ (r : Result (Option Outgoing) ReadError). DispatchStep t who id r t) (sym is) (read_refused t who id e why)
 
-pub refused_at_hand : (t new : Topic) (key : ConsumerKey) (result : Result AtHand AllocError) → IsErr result → new ≡ t → AtHandStep t key result new
-refused_at_hand t new key (Ok x) is same = absurd (false≢true is)
-refused_at_hand t new key (Err e) is same = same
+-- the same without a read
+at_hand_refused : (t : Topic) (key : ConsumerKey) (e : ReadError) → (e ≡ NoMemory) ⊎ (e ≡ Device) → AtHandStep t key (Err e) t
+at_hand_refused t key e is = ⊎_elim (λ n. subst (λ (x : ReadError). AtHandStep t key (Err x) t) (sym n) refl) (λ d. subst (λ (x : ReadError). AtHandStep t key (Err x) t) (sym d) refl) is
+
+pub refused_at_hand : (t new : Topic) (key : ConsumerKey) (result : Result AtHand ReadError) (e : ReadError) → result ≡ Err e → (e ≡ NoMemory) ⊎ (e ≡ Device) → new ≡ t → AtHandStep t key result new
+refused_at_hand t new key result e is why same =
+    subst (λ (x : Topic). AtHandStep t key result x) (sym same) (subst (λ (r : Result AtHand ReadError). AtHandStep t key r t) (sym is) (at_hand_refused t key e why))
+
+-- the entry that a message has is the one that was found
+pub whole_entry : (ledger : Entries) (i : ℕ) (found given : List ℕ) → slice_get ledger i ≡ Some found → given ≡ found → slice_get ledger i ≡ Some given
+whole_entry ledger i found given is same = is ∙ ap (λ (e : List ℕ). Some e) (sym same)
 
 pub refused_give : (t new : Topic) (who id : ℕ) (result : Result (Option Outgoing) ReadError) → result ≡ Err NoMemory → new ≡ t → DispatchStep t who id result new
 refused_give t new who id result is same = subst (λ (r : Result (Option Outgoing) ReadError). DispatchStep t who id r new) (sym is) same

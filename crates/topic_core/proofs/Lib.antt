@@ -1,4 +1,5 @@
 pub mod Ids
+pub mod Meeting
 pub mod LastEntries
 pub mod Queues
 pub mod Receipts

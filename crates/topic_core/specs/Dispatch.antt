@@ -1,5 +1,5 @@
 -- What a dispatch gives a consumer.
-use Rattle.std.specs.Prelude.{◌≡◌, ◌≤◌, ℕ, false, Option, Some, None, Result, Ok, Err, length, slice_get}
+use Rattle.std.specs.Prelude.{◌≡◌, ◌⊎◌, ◌≤◌, ℕ, false, Option, Some, None, Result, Ok, Err, IfOk, IfErr, length, slice_get}
 use Rattle.commands.specs.declared.reply.Reply.TheVariants.{Message}
 use Rattle.ids.specs.declared.message_id.MessageId.{MessageId}
 use Rattle.ids.specs.Ids.{message_id_at}
@@ -8,7 +8,8 @@ use Rattle.subscriptions.specs.Steps as subscriptions
 use Rattle.topic_core.specs.declared.dispatch.Outgoing.{Outgoing}
 use Rattle.topic_core.specs.declared.dispatch.AtHand.{AtHand}
 use Rattle.topic_core.specs.declared.dispatch.AtHand.TheVariants as at_hand
-use Rattle.std.specs.declared.alloc.AllocError.{AllocError}
+use Rattle.topic_core.specs.declared.read_at.ReadAt.{ReadAt}
+use Rattle.managed_ledger.specs.Entries.{Entries}
 use Rattle.gated_log.specs.declared.read_error.ReadError.{ReadError}
 use Rattle.gated_log.specs.declared.read_error.ReadError.TheVariants.{Device, Damaged, NoMemory}
 use Rattle.topic_core.specs.State.{Topic}
@@ -49,15 +50,23 @@ Dispatches old key (Err (Damaged file offset)) new = ⊥
 abbrev pub DispatchStep : Topic → ℕ → ℕ → Result (Option Outgoing) ReadError → Topic → Type 0
 DispatchStep old who id result new = Dispatches old (key_of who id) result new
 
--- the same without a read of the device: a message of an admitted position, none exactly where none is admitted, or that its entry has to be read
-abbrev pub AtHandStep : Topic → ConsumerKey → Result AtHand AllocError → Topic → Type 0
+-- what was read is the entry at its position, or it couldn't be read
+pub record IsReadOf (ledger : Entries) (read : ReadAt) : Type 0 where
+  pub entry : IfOk read.entry (λ entry. slice_get ledger read.position ≡ Some entry)
+  pub refused : IfErr read.entry (λ e. (e ≡ NoMemory) ⊎ (e ≡ Device))
+
+-- the same by what was read before, or stands in memory: a message of an admitted position, none exactly where none is admitted, or the
+-- admitted position whose entry has to be read
+abbrev pub AtHandStep : Topic → ConsumerKey → Result AtHand ReadError → Topic → Type 0
 AtHandStep old key (Ok at_hand.Nothing) new = (new ≡ old) × ((i : ℕ) → Admits old key i → ⊥)
-AtHandStep old key (Ok at_hand.Unread) new = new ≡ old
+AtHandStep old key (Ok (at_hand.Unread position)) new = (new ≡ old) × Admits old key position
 AtHandStep old key (Ok (at_hand.Message outgoing)) new = (i : ℕ) × IsSent old key i outgoing new
-AtHandStep old key (Err refused) new = new ≡ old
+AtHandStep old key (Err NoMemory) new = new ≡ old
+AtHandStep old key (Err Device) new = new ≡ old
+AtHandStep old key (Err (Damaged file offset)) new = ⊥
 
 -- a message, if there is one, is a MESSAGE for this consumer
 abbrev pub IsAtHandFor : ℕ → AtHand → Type 0
 IsAtHandFor consumer_id at_hand.Nothing = Unit {0}
-IsAtHandFor consumer_id at_hand.Unread = Unit {0}
+IsAtHandFor consumer_id (at_hand.Unread position) = Unit {0}
 IsAtHandFor consumer_id (at_hand.Message outgoing) = IsMessageTo consumer_id outgoing

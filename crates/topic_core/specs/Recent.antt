@@ -1,5 +1,6 @@
 -- The entries of a ledger that stand in memory.
-use Rattle.std.specs.Prelude.{◌≡◌, ℕ, ◌≤◌, List, ◌++◌, length, All}
+use Rattle.std.specs.Prelude.{◌≡◌, ℕ, ◌≤◌, nat_le, Bool, true, Result, Ok, Err, List, ◌++◌, length, All}
+use Rattle.gated_log.specs.declared.read_error.ReadError.{ReadError}
 
 -- these entries are the ledger's last ones, none longer than any that is accepted
 pub record AreLast (ledger recent : List (List ℕ)) : Type 0 where
@@ -11,3 +12,8 @@ pub record AreLast (ledger recent : List (List ℕ)) : Type 0 where
 pub record IsRest (old new : List (List ℕ)) : Type 0 where
   pub gone : List (List ℕ)
   pub is : old ≡ gone ++ new
+
+-- what was read is no longer than any that is accepted
+abbrev pub is_short : Result (List ℕ) ReadError → Bool
+is_short (Ok entry) = nat_le (length entry) 1048576
+is_short (Err why) = true

@@ -1,4 +1,4 @@
-ghost use Rattle.std.specs.Prelude.{◌≡◌, ◌⊎◌, ◌<◌, ◌≤◌, ℕ, IfNone, Some, false, true, length, slice_get, Ok, IfOk, IfErr, IfSome, OnOk, OnErr, IsErr, IsErrOf};
+ghost use Rattle.std.specs.Prelude.{◌≡◌, ◌≢◌, ◌⊎◌, ◌<◌, ◌≤◌, ℕ, IfNone, Some, None, false, true, length, slice_get, Ok, Err, IfOk, IfErr, IfSome, OnOk, OnErr, IsErr, IsErrOf};
 ghost use Rattle.disk.specs.Disk.{Same, Leaves, Kept, Failed};
 ghost use Rattle.gated_log.specs.declared.read_error.ReadError.TheVariants.{Device, NoMemory};
 ghost use Rattle.commands.specs.declared.reply.Reply.TheVariants.{Message};
@@ -6,10 +6,11 @@ ghost use Rattle.ids.specs.Ids.{message_id_at};
 ghost use Rattle.subscriptions.specs.Steps.{IsLearnt, sent_before};
 ghost use Rattle.topic_core.specs.State.{Topic, CountsStay};
 ghost use Rattle.topic_core.specs.Steps.{key_of, learnt, HasLearnt};
-ghost use Rattle.topic_core.specs.declared.dispatch.AtHand.TheVariants.{Nothing};
-ghost use Rattle.topic_core.specs.Dispatch.{Admits, sent, DispatchStep, AtHandStep, IsMessageTo, IsAtHandFor};
+ghost use Rattle.topic_core.specs.declared.dispatch.AtHand.TheVariants.{Nothing, Unread};
+ghost use Rattle.topic_core.specs.Dispatch.{Admits, sent, DispatchStep, AtHandStep, IsMessageTo, IsAtHandFor, IsReadOf};
 ghost use Rattle.topic_core.specs.Standing.{GoesOn, Phase, Standing};
 
+use crate::read_at::{ReadAt, read_committed};
 use crate::topic::{TopicCore, key_of};
 use bytes::Bytes;
 use commands::Reply;
@@ -33,8 +34,8 @@ pub struct Outgoing {
 pub enum AtHand {
     /// There is no message for it.
     Nothing,
-    /// There is one, whose entry has to be read.
-    Unread,
+    /// There is one, whose entry stands at this position and has to be read.
+    Unread(u64),
     Message(Outgoing),
 }
 
@@ -98,21 +99,26 @@ impl<G: Gauge> TopicCore<G> {
         let Some(position) = self.pick(who, consumer_id) else {
             return Ok(None);
         };
-        let bytes = self.read_committed(stores, shelf, position)?;
-        let entry = Bytes::from_vec(bytes)?;
+        let entry = read_committed(stores, shelf, position)?;
         let outgoing = self.give(key_of(who, consumer_id), position, entry)?;
         Ok(Some(outgoing))
     }
 
-    /// A message for a consumer, which holds it from then on, where its entry stands in memory. A refusal changes nothing but what
-    /// is known of the consumer's permits.
-    pub fn dispatch_at_hand(&mut self, who: u64, consumer_id: u64) -> Result<AtHand, AllocError>
-        ensures step { length self.old.ledger ≡ self.old.committed →
+    /// A message for a consumer, which holds it from then on, where its entry stands in memory or is the one that was read. A read that
+    /// failed is told where its position is the message's. A refusal changes nothing but what is known of the consumer's permits.
+    pub fn dispatch_at_hand(
+        &mut self,
+        who: u64,
+        consumer_id: u64,
+        read: Option<ReadAt>,
+    ) -> Result<AtHand, ReadError>
+        ensures step { length self.old.ledger ≡ self.old.committed → IfSome read (IsReadOf self.old.ledger) →
             (t : Topic) × IsLearnt (learnt self.old who consumer_id) t × (G.exact → t ≡ self.old) × AtHandStep t (key_of who consumer_id) result self.new }
 
-        // Whatever the ledger is.
+        // Whatever the ledger is, and whatever was read.
         ensures message { IfOk result (λ at_hand. IsAtHandFor consumer_id at_hand) }
         ensures nothing { result ≡ Ok Nothing → (i : ℕ) → Admits self.new (key_of who consumer_id) i → ⊥ }
+        ensures unread { (position : ℕ) → result ≡ Ok (Unread position) → IfSome read (λ at. at.position ≢ position) }
         ensures goes_on { GoesOn self.old self.new }
         ensures counts { CountsStay self.old self.new }
         ensures refused { IsErr result → IsLearnt (learnt self.old who consumer_id) self.new }
@@ -122,11 +128,24 @@ impl<G: Gauge> TopicCore<G> {
         let Some(position) = self.pick(who, consumer_id) else {
             return Ok(AtHand::Nothing);
         };
-        let Some(entry) = self.durable.entry(position, self.committed)? else {
-            return Ok(AtHand::Unread);
+        let Some(entry) = self.entry_at(position, read)? else {
+            return Ok(AtHand::Unread(position));
         };
         let outgoing = self.give(key_of(who, consumer_id), position, entry)?;
         Ok(AtHand::Message(outgoing))
+    }
+
+    /// The entry of a position, where it is the one that was read or stands in memory.
+    fn entry_at(&self, position: u64, read: Option<ReadAt>) -> Result<Option<Bytes>, ReadError>
+        ensures entry { length self.now.ledger ≡ self.now.committed → IfSome read (IsReadOf self.now.ledger) → IfOk result (λ found. IfSome found (λ entry. slice_get self.now.ledger position ≡ Some entry)) }
+        ensures refused { IfSome read (IsReadOf self.now.ledger) → IfErr result (λ e. (e ≡ NoMemory) ⊎ (e ≡ Device)) }
+        ensures short { IfOk result (λ found. IfSome found (λ entry. length entry ≤ 1048576)) }
+        ensures unread { result ≡ Ok None → IfSome read (λ at. at.position ≢ position) }
+    {
+        match read {
+            Some(read) if read.position == position => read.into_entry(),
+            _ => Ok(self.durable.entry(position, self.committed)?),
+        }
     }
 
     /// Gives a consumer the entry of a position that it may get.
@@ -150,25 +169,5 @@ impl<G: Gauge> TopicCore<G> {
             redelivery_count,
         };
         Ok(Outgoing { reply, entry })
-    }
-
-    /// Reads the entry of a committed position, also while a flush is under way.
-    fn read_committed<T: TopicStore, S: Shelf>(
-        &self,
-        stores: &T,
-        shelf: &mut S,
-        position: u64,
-    ) -> Result<Vec<u8>, ReadError>
-        ensures entry { (phase : Phase) → Standing T.stands phase self.now (T.view stores.now) (S.disk shelf.old) → position < self.now.committed →
-            IfOk result (λ entry. slice_get self.now.ledger position ≡ Some entry.items) }
-        ensures refused { (phase : Phase) → Standing T.stands phase self.now (T.view stores.now) (S.disk shelf.old) → position < self.now.committed →
-            IfErr result (λ e. (e ≡ NoMemory) ⊎ (e ≡ Device)) }
-        ensures short { IfOk result (λ entry. length entry.items ≤ 1048576) }
-        ensures cause { (T.view stores.now).failed ≡ false → IsErrOf result Device → Failed (S.disk shelf.old) (S.disk shelf.new) }
-        ensures seen { (S.disk shelf.old).honest → Same (S.disk shelf.old).seen (S.disk shelf.new).seen }
-        ensures any_moment { (S.disk shelf.old).honest → Leaves (S.disk shelf.old).may_leave (S.disk shelf.old) (S.disk shelf.new) }
-        ensures kept { Kept (S.disk shelf.old) (S.disk shelf.new) }
-    {
-        stores.read(shelf, position)
     }
 }

@@ -22,6 +22,7 @@ mod opening;
 mod producer;
 mod producer_counts;
 mod producers;
+mod read_at;
 mod recent;
 mod redelivering;
 mod slots;
@@ -37,5 +38,6 @@ pub use laws::{
 };
 pub use permits::TooManyPermits;
 pub use producer::{Producer, ProducerState};
+pub use read_at::ReadAt;
 pub use topic::TopicCore;
 pub use topic_stores::{Batch, FileStores, ReadError, TopicStore, TopicStores, WriteError};

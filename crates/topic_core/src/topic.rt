@@ -6,7 +6,7 @@ ghost use Rattle.subscriptions.specs.Statuses.{AreStatuses};
 ghost use Rattle.topic_core.specs.Slots.{slot_of_entry};
 ghost use Rattle.topic_core.specs.State.{Topic, next_position};
 ghost use Rattle.reply_queues.specs.Replies.{is_receipt};
-ghost use Rattle.topic_core.specs.Steps.{Meets, TopicStep, Collects, Fits, first_standing, producer_refusals, send_refusals, limit_refusals, has_room, producer_outcome, send_outcome, has_producer, has_open_producer, has_name, is_single_message, accepted, receipt, key_of, left};
+ghost use Rattle.topic_core.specs.Steps.{Meets, TopicStep, LentBy, Collects, Fits, first_standing, producer_refusals, send_refusals, limit_refusals, has_room, producer_outcome, send_outcome, has_producer, has_open_producer, has_name, is_single_message, accepted, receipt, key_of, left};
 ghost use Rattle.topic_core.specs.Soundness.{IsSound};
 ghost use Rattle.topic_core.specs.Standing.{GoesOn};
 
@@ -305,6 +305,7 @@ impl<G: Fresh> TopicCore<G> {
         granter: &mut Option<Granter>,
     ) -> Answer
         ensures step { TopicStep self.old who command result self.new }
+        ensures lent { LentBy self.old who command result self.new granter.old granter.new }
         ensures goes_on { GoesOn self.old self.new }
         ensures fits { Fits command result }
     {

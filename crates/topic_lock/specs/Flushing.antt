@@ -10,6 +10,7 @@ use Rattle.topic_core.specs.Flush.{finished, taken_back, failed}
 use Rattle.topic_lock.specs.declared.counted.flushing.Taken.{Taken}
 use Rattle.topic_lock.specs.declared.counted.flushing.Taken.TheVariants as taken
 use Rattle.topic_lock.specs.declared.counted.flushing.Flushed.{Flushed}
+use Rattle.topic_lock.specs.declared.counted.flushing.TakenBatch.{TakenBatch}
 use Rattle.topic_lock.specs.declared.fault.FlushFault.{FlushFault}
 use Rattle.topic_lock.specs.declared.fault.FlushFault.TheVariants.{Device, NoMemory, Apart}
 
@@ -29,12 +30,20 @@ abbrev pub IfNothing : Taken → (Flushed → Type 0) → Type 0
 IfNothing (taken.Nothing flushed) says = says flushed
 IfNothing (taken.Batch that) says = Unit {0}
 
--- what the stores remember after a write: one that doesn't fit them isn't tried
-abbrev pub Writes : StoreView → Batch → Result (Unit {0}) FlushFault → StoreView → Type 0
-Writes old batch (Ok done) new = Fits old batch × Remembers old batch (Ok done) new
-Writes old batch (Err NoMemory) new = Fits old batch × Remembers old batch (Err write.NoMemory) new
-Writes old batch (Err Device) new = Fits old batch × Remembers old batch (Err write.Device) new
-Writes old batch (Err Apart) new = Fits old batch → ⊥
+abbrev pub IfBatch : Taken → (TakenBatch → Type 0) → Type 0
+IfBatch (taken.Nothing flushed) says = Unit {0}
+IfBatch (taken.Batch that) says = says that
+
+-- a batch is the stores' to write: it was taken of their topic, and fits what they remember
+abbrev pub IsTheirs : StoreView → ℕ → Batch → Type 0
+IsTheirs stores topic batch = (topic ≡ stores.topic) × Fits stores batch
+
+-- what the stores remember after a write: a batch that isn't theirs isn't tried
+abbrev pub Writes : StoreView → ℕ → Batch → Result (Unit {0}) FlushFault → StoreView → Type 0
+Writes old topic batch (Ok done) new = IsTheirs old topic batch × Remembers old batch (Ok done) new
+Writes old topic batch (Err NoMemory) new = IsTheirs old topic batch × Remembers old batch (Err write.NoMemory) new
+Writes old topic batch (Err Device) new = IsTheirs old topic batch × Remembers old batch (Err write.Device) new
+Writes old topic batch (Err Apart) new = IsTheirs old topic batch → ⊥
 
 -- a flush ends as its write did: what was handed on is committed, or waits again, or the topic fails
 abbrev pub FinishStep : Topic → Result (Unit {0}) FlushFault → Result ℕ FlushFault → Topic → Type 0

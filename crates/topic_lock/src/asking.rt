@@ -3,8 +3,9 @@ ghost use Rattle.std.specs.Prelude.{◌≡◌};
 ghost use Rattle.std.specs.Sync.Mutex.{mutex_guard_value};
 ghost use Rattle.session.specs.Broker.{SendsTo};
 
+use crate::counted::reading::Next;
 use crate::counted::{CountedTopic, Heard, Sent};
-use crate::holding::{Hold, is_message};
+use crate::holding::Hold;
 use crate::places::SharedTopic;
 use crate::tally::Tallies;
 use bells::{Bells, Marks};
@@ -40,8 +41,8 @@ impl<T: TopicStore, S: Shelf + Drop, K: Tallies> SharedTopic<T, S, K> {
         rt: &R,
         bells: &Bells,
         number: u64,
-        held: Option<Hold<'t, T, S, K>>,
-    ) -> Hold<'t, T, S, K>
+        held: Option<Hold<'t, K>>,
+    ) -> Hold<'t, K>
         ensures { (mutex_guard_value result.topic).number ≡ number }
     {
         match held {
@@ -49,7 +50,7 @@ impl<T: TopicStore, S: Shelf + Drop, K: Tallies> SharedTopic<T, S, K> {
             Some(hold) => hold.release(bells),
             None => {}
         }
-        Hold::new(None, self.lock(rt, number))
+        Hold::new(self.lock(rt, number))
     }
 
     /// The topic's lock, for the connection at this place, with room for an entry of this length, or where none has to be waited
@@ -62,8 +63,8 @@ impl<T: TopicStore, S: Shelf + Drop, K: Tallies> SharedTopic<T, S, K> {
         number: u64,
         place: u8,
         length: Option<usize>,
-        held: Option<Hold<'t, T, S, K>>,
-    ) -> Hold<'t, T, S, K>
+        held: Option<Hold<'t, K>>,
+    ) -> Hold<'t, K>
         ensures { (mutex_guard_value result.topic).number ≡ number }
     {
         let mut held = held;
@@ -81,34 +82,44 @@ impl<T: TopicStore, S: Shelf + Drop, K: Tallies> SharedTopic<T, S, K> {
         unreachable!()
     }
 
-    /// A message for a consumer, which holds it from then on, under the topic's lock. For an entry that isn't at hand it is let go,
-    /// and taken again behind the stores' lock, so that nobody waits for a write with it.
+    /// A message for a consumer, which holds it from then on. For an entry that isn't at hand the topic's lock is let go, and the lock of
+    /// its stores taken: the topic tells the position anew, it is read without the topic's lock, so that a read holds nobody who asks
+    /// the topic, and given under it.
     pub(crate) fn dispatch<'t, R: Wait>(
         &'t self,
         rt: &R,
         bells: &Bells,
         number: u64,
-        held: Hold<'t, T, S, K>,
+        held: Hold<'t, K>,
         place: u8,
         who: u64,
         consumer_id: u64,
-    ) -> (Hold<'t, T, S, K>, Heard<u64, Sent>)
+    ) -> (Hold<'t, K>, Heard<u64, Sent>)
         requires { (mutex_guard_value held.topic).number ≡ number }
         ensures about { (result.1.topic ≡ number) × (result.1.who ≡ who) × (result.1.asked.value ≡ consumer_id) }
         ensures message { SendsTo consumer_id result.1.said }
     {
         let mut hold = held;
-        if let Some(heard) = hold.next_at_hand(place, who, consumer_id) {
-            return (hold, heard);
+        match hold.next(place, who, consumer_id, None) {
+            Next::Heard(heard) => return (hold, heard),
+            Next::Unread(_) => {}
         }
         hold.release(bells);
         let mut stores = self.stores.lock(rt);
-        let mut topic = self.lock(rt, number);
-        let heard = topic.read_next(&mut *stores, who, consumer_id);
-        if !is_message(heard.said()) {
-            topic.waiting.starve(place);
+        let mut read = None;
+        for _ in rt.forever() {
+            let mut hold = Hold::new(self.lock(rt, number));
+            let position = match hold.next(place, who, consumer_id, read) {
+                Next::Heard(heard) => {
+                    drop(stores);
+                    return (hold, heard);
+                }
+                Next::Unread(position) => position,
+            };
+            hold.release(bells);
+            read = Some(stores.read_at(position));
         }
-        (Hold::new(Some(stores), topic), heard)
+        unreachable!()
     }
 
     /// The session of the connection at this place leaves. What it sent stays; what its consumers held is given back.

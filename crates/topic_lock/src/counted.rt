@@ -1,40 +1,34 @@
 // A topic with its shares, and what it tells sessions. Its calls alone reach the topic itself.
 pub(crate) mod flushing;
+pub(crate) mod reading;
 mod reopening;
 
-ghost use Rattle.std.specs.Prelude.{◌≡◌, ◌+◌, ◌<◌, ◌≤◌, ℕ, false, true, length, Ok, IfOk, IfErr, IfSome, IfNone, IsErr, IsErrOf};
-ghost use Rattle.disk.specs.Disk.{Same, Leaves, Kept, Failed};
-ghost use Rattle.gated_log.specs.declared.read_error.ReadError.TheVariants.{Device};
+ghost use Rattle.std.specs.Prelude.{◌≡◌, ◌+◌, ◌<◌, ◌≤◌, ℕ, false, true, length, Ok};
 ghost use Rattle.subscriptions.specs.Steps.{IsLearnt};
-ghost use Rattle.topic_core.specs.State.{Topic, CountsStay};
-ghost use Rattle.topic_core.specs.Steps.{TopicStep, Collects, has_room, Fits, key_of, left, learnt, HasLearnt, has_producer, has_consumer};
-ghost use Rattle.topic_core.specs.declared.dispatch.AtHand.TheVariants.{Nothing};
-ghost use Rattle.topic_core.specs.Dispatch.{Admits, DispatchStep, AtHandStep, IsAtHandFor, IsMessageTo};
+ghost use Rattle.topic_core.specs.State.{CountsStay};
+ghost use Rattle.topic_core.specs.Steps.{TopicStep, LentBy, Collects, has_room, Fits, key_of, left, learnt, HasLearnt, has_producer, has_consumer};
+ghost use Rattle.topic_core.specs.Dispatch.{Admits};
 ghost use Rattle.topic_core.specs.Soundness.{IsSound};
-ghost use Rattle.topic_core.specs.Standing.{GoesOn, Phase, Standing};
+ghost use Rattle.topic_core.specs.Standing.{GoesOn};
 ghost use Rattle.session.specs.declared.told.Member.TheVariants.{Producer as IsProducer, Consumer as IsConsumer};
-ghost use Rattle.session.specs.Broker.{SendsTo};
-ghost use Rattle.topic_lock.specs.Hearing.{put_off, sent_of};
+ghost use Rattle.topic_lock.specs.Hearing.{put_off};
 ghost use Rattle.topic_lock.specs.Counting.{sends_of, receipts_collected, is_send, is_later};
 ghost use Rattle.reply_queues.specs.Replies.{is_receipt};
 
 use crate::durable::DurableByTopics;
-use crate::stores::CountedStores;
 use crate::tally::{
     AcceptedByPorts, AcceptedByTopics, HandedByPorts, HandedByTopics, Tallies, Tally,
 };
 use crate::waiting::Waiting;
 use commands::Reply;
-use disk::Shelf;
 use permits::{Granter, Taker};
 use session::{Ear, Member, Told};
-use std::alloc::AllocError;
 use std::snapshot::Snapshot;
 use std::sync::ledger::Share;
 use std::sync::{Mutex, Wait};
 use topic_core::{
-    Answer, AtHand, Outgoing, ReadError, TopicCommand, TopicCore, TopicStore,
-    commands_hand_out_nothing, entries_are_published,
+    Answer, Outgoing, ReadError, TopicCommand, TopicCore, commands_hand_out_nothing,
+    entries_are_published,
 };
 
 /// A topic behind a lock. Who grants permits to its consumers does so without that lock.
@@ -244,6 +238,7 @@ impl<K: Tallies> CountedTopic<K> {
         ensures about { (result.topic ≡ self.old.number) × (result.who ≡ who) × (result.asked.value ≡ command) }
         ensures step { TopicStep self.old.core who command result.said self.new.core }
         ensures fits { Fits command result.said }
+        ensures lent { LentBy self.old.core who command result.said self.new.core granter.old granter.new }
         ensures goes_on { GoesOn self.old.core self.new.core }
         ensures number { self.new.number ≡ self.old.number }
         ensures counted { port.new.amount ≡ port.old.amount + sends_of command result.said }
@@ -336,107 +331,6 @@ impl<K: Tallies> CountedTopic<K> {
         Heard::new(*number, who, Snapshot::of(&()), said)
     }
 
-    /// A message for a consumer, which holds it from then on, where its entry stands in memory. A refusal changes nothing but what
-    /// is known of the consumer's permits.
-    fn dispatch_at_hand(&mut self, who: u64, consumer_id: u64) -> Result<AtHand, AllocError>
-        ensures step { length self.old.core.ledger ≡ self.old.core.committed →
-            (t : Topic) × IsLearnt (learnt self.old.core who consumer_id) t × AtHandStep t (key_of who consumer_id) result self.new.core }
-        ensures message { IfOk result (λ at_hand. IsAtHandFor consumer_id at_hand) }
-        ensures nothing { result ≡ Ok Nothing → (i : ℕ) → Admits self.new.core (key_of who consumer_id) i → ⊥ }
-        ensures goes_on { GoesOn self.old.core self.new.core }
-        ensures number { self.new.number ≡ self.old.number }
-        ensures counts { CountsStay self.old.core self.new.core }
-        ensures refused { IsErr result → IsLearnt (learnt self.old.core who consumer_id) self.new.core }
-        ensures works { IsErr result → self.old.core.failed ≡ false }
-    {
-        let CountedTopic { core, .. } = self;
-        core.dispatch_at_hand(who, consumer_id)
-    }
-
-    /// A message for a consumer, which holds it from then on, with one read of the topic's stores where there is one. A refusal
-    /// changes nothing but what is known of the consumer's permits.
-    fn dispatch<T: TopicStore, S: Shelf + Drop>(
-        &mut self,
-        stores: &mut CountedStores<T, S, K>,
-        who: u64,
-        consumer_id: u64,
-    ) -> Result<Option<Outgoing>, ReadError>
-        ensures step { (phase : Phase) → Standing T.stands phase self.old.core (T.view stores.old.stores) (S.disk stores.old.shelf) →
-            (t : Topic) × IsLearnt (learnt self.old.core who consumer_id) t × DispatchStep t who consumer_id result self.new.core }
-        ensures message { IfOk result (λ sent. IfSome sent (λ outgoing. IsMessageTo consumer_id outgoing)) }
-        ensures goes_on { GoesOn self.old.core self.new.core }
-        ensures number { self.new.number ≡ self.old.number }
-        ensures counts { CountsStay self.old.core self.new.core }
-        ensures refused { IsErr result → IsLearnt (learnt self.old.core who consumer_id) self.new.core }
-        ensures works { IsErr result → self.old.core.failed ≡ false }
-        ensures stores { stores.new.stores ≡ stores.old.stores }
-        ensures cause { (T.view stores.old.stores).failed ≡ false → IsErrOf result Device → Failed (S.disk stores.old.shelf) (S.disk stores.new.shelf) }
-        ensures seen { (S.disk stores.old.shelf).honest → Same (S.disk stores.old.shelf).seen (S.disk stores.new.shelf).seen }
-        ensures any_moment { (S.disk stores.old.shelf).honest → Leaves (S.disk stores.old.shelf).may_leave (S.disk stores.old.shelf) (S.disk stores.new.shelf) }
-        ensures kept { Kept (S.disk stores.old.shelf) (S.disk stores.new.shelf) }
-    {
-        let CountedTopic { core, .. } = self;
-        let CountedStores {
-            stores: files,
-            shelf,
-            ..
-        } = stores;
-        core.dispatch(files, shelf, who, consumer_id)
-    }
-
-    /// A message for a consumer, which holds it from then on, or that there is none for it. None where its entry has to be read, and
-    /// nothing is handed out.
-    pub fn next_at_hand(&mut self, who: u64, consumer_id: u64) -> Option<Heard<u64, Sent>>
-        ensures about { IfSome result (λ heard. (heard.topic ≡ self.old.number) × (heard.who ≡ who) × (heard.asked.value ≡ consumer_id)) }
-        ensures step { length self.old.core.ledger ≡ self.old.core.committed → IfSome result (λ heard.
-            (t : Topic) × IsLearnt (learnt self.old.core who consumer_id) t × DispatchStep t who consumer_id heard.said self.new.core) }
-        ensures message { IfSome result (λ heard. SendsTo consumer_id heard.said) }
-        ensures goes_on { GoesOn self.old.core self.new.core }
-        ensures number { self.new.number ≡ self.old.number }
-        ensures counts { CountsStay self.old.core self.new.core }
-    {
-        let topic = self.number;
-        let said = sent_of(self.dispatch_at_hand(who, consumer_id))?;
-        Some(Heard {
-            topic,
-            who,
-            asked: Snapshot::of(&consumer_id),
-            said,
-        })
-    }
-
-    /// A message for a consumer, which holds it from then on, with one read of the topic's stores where there is one. A refusal
-    /// changes nothing but what is known of the consumer's permits.
-    pub fn read_next<T: TopicStore, S: Shelf + Drop>(
-        &mut self,
-        stores: &mut CountedStores<T, S, K>,
-        who: u64,
-        consumer_id: u64,
-    ) -> Heard<u64, Sent>
-        ensures about { (result.topic ≡ self.old.number) × (result.who ≡ who) × (result.asked.value ≡ consumer_id) }
-        ensures step { (phase : Phase) → Standing T.stands phase self.old.core (T.view stores.old.stores) (S.disk stores.old.shelf) →
-            (t : Topic) × IsLearnt (learnt self.old.core who consumer_id) t × DispatchStep t who consumer_id result.said self.new.core }
-        ensures message { SendsTo consumer_id result.said }
-        ensures goes_on { GoesOn self.old.core self.new.core }
-        ensures number { self.new.number ≡ self.old.number }
-        ensures counts { CountsStay self.old.core self.new.core }
-        ensures refused { IsErr result.said → IsLearnt (learnt self.old.core who consumer_id) self.new.core }
-        ensures works { IsErr result.said → self.old.core.failed ≡ false }
-        ensures stores { stores.new.stores ≡ stores.old.stores }
-        ensures cause { (T.view stores.old.stores).failed ≡ false → IsErrOf result.said Device → Failed (S.disk stores.old.shelf) (S.disk stores.new.shelf) }
-        ensures any_moment { (S.disk stores.old.shelf).honest → Leaves (S.disk stores.old.shelf).may_leave (S.disk stores.old.shelf) (S.disk stores.new.shelf) }
-        ensures kept { Kept (S.disk stores.old.shelf) (S.disk stores.new.shelf) }
-    {
-        let topic = self.number;
-        let said = self.dispatch(stores, who, consumer_id);
-        Heard {
-            topic,
-            who,
-            asked: Snapshot::of(&consumer_id),
-            said,
-        }
-    }
-
     /// The session leaves. What it sent stays.
     pub fn leave(&mut self, who: u64) -> Heard<(), ()>
         ensures about { (result.topic ≡ self.old.number) × (result.who ≡ who) }
@@ -469,18 +363,6 @@ impl<K: Tallies> CountedTopic<K> {
             committed,
             behind,
         }
-    }
-}
-
-/// What a topic gives a consumer, where that isn't to be read.
-fn sent_of(at_hand: Result<AtHand, AllocError>) -> Option<Sent>
-    ensures { result ≡ sent_of at_hand }
-{
-    match at_hand {
-        Ok(AtHand::Message(outgoing)) => Some(Ok(Some(outgoing))),
-        Ok(AtHand::Nothing) => Some(Ok(None)),
-        Ok(AtHand::Unread) => None,
-        Err(AllocError) => Some(Err(ReadError::NoMemory)),
     }
 }
 

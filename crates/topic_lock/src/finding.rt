@@ -1,9 +1,9 @@
 // Topics are found by their names, and made, under the catalog's lock.
-ghost use Rattle.std.specs.Prelude.{◌≡◌, ◌≢◌, ◌⊎◌, ◌+◌, ◌<◌, ◌≤◌, ◌++◌, [], ◌∷◌, Some, false, true, length, slice_get, vec_capacity, IfOk, IfSome, OnOk, IsErr, IfErr};
+ghost use Rattle.std.specs.Prelude.{◌≡◌, ◌≢◌, ◌⊎◌, ◌+◌, ◌<◌, ◌≤◌, ◌++◌, [], ◌∷◌, Some, false, true, length, slice_get, vec_capacity, Ok, IfOk, IfSome, OnOk, IsErr, IfErr};
 ghost use Rattle.gated_log.specs.declared.refusal.Refusal.TheVariants.{NoMemory};
 ghost use Rattle.catalog.specs.Catalogs.{remembered, failed, Follows};
 ghost use Rattle.catalog.specs.Names.{has_name, number_of};
-ghost use Rattle.session.specs.declared.port.Found.TheVariants.{Topic};
+ghost use Rattle.session.specs.declared.port.Found.TheVariants.{Topic, TooMany};
 ghost use Rattle.session.specs.Broker.{IfFound};
 ghost use Rattle.topic_lock.specs.Finding.{IsNumberOf};
 
@@ -34,6 +34,7 @@ impl<'a, T: TopicStore, S: Shelf + Drop, K: Tallies> SharedCatalog<'a, T, S, K> 
         ensures there { IfFound result.0 (λ number. number < length self.new.known.items) }
         ensures named { IfFound result.0 (λ number. IsNumberOf name.now number (remembered self.new.catalog)) }
         ensures known { IfSome (number_of (remembered self.old.catalog) name.now) (λ number. (result ≡ (Topic number, None)) × (self.new ≡ self.old)) }
+        ensures full { result.0 ≡ TooMany → 64 ≤ length (remembered self.new.catalog) }
         ensures grows { length self.old.known.items ≤ length self.new.known.items }
     {
         if let Some(number) = self.catalog.number(name) {
@@ -54,6 +55,7 @@ impl<'a, T: TopicStore, S: Shelf + Drop, K: Tallies> SharedCatalog<'a, T, S, K> 
     ) -> Result<Found, Refusal>
         ensures there { IfOk result (λ found. IfFound found (λ number. number < length self.new.known.items)) }
         ensures named { IfOk result (λ found. IfFound found (λ number. IsNumberOf name.now number (remembered self.new.catalog))) }
+        ensures full { result ≡ Ok TooMany → 64 ≤ length (remembered self.new.catalog) }
         ensures grows { length self.old.known.items ≤ length self.new.known.items }
     {
         self.settle(rt, tally)?;

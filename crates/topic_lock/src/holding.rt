@@ -1,27 +1,25 @@
 // A topic's lock, as a port holds it.
-ghost use Rattle.std.specs.Prelude.{◌≡◌, ◌+◌, ◌<◌, IfSome};
+ghost use Rattle.std.specs.Prelude.{◌≡◌, ◌+◌, ◌<◌};
 ghost use Rattle.std.specs.Sync.Mutex.{mutex_guard_value};
 ghost use Rattle.session.specs.Broker.{SendsTo};
 ghost use Rattle.topic_core.specs.Steps.{Fits};
 ghost use Rattle.topic_lock.specs.Counting.{sends_of};
+ghost use Rattle.topic_lock.specs.Hearing.{IfHeard};
 
-use crate::counted::{AcceptedTally, CountedTopic, Heard, Sent};
-use crate::stores::CountedStores;
+use crate::counted::reading::{Next, StoresRead};
+use crate::counted::{AcceptedTally, CountedTopic, Heard};
 use crate::tally::{AcceptedByPorts, Tallies};
 use bells::{Bells, Marks};
 use commands::Reply;
-use disk::Shelf;
 use permits::Granter;
 use std::sync::ledger::Share;
 use std::sync::{MutexGuard, Wait};
-use topic_core::{Answer, TopicCommand, TopicStore};
+use topic_core::{Answer, TopicCommand};
 
 /// A topic's lock that a port has, and who is to be woken once it lets it go.
 #[derive(Drop)]
-pub(crate) struct Hold<'t, T: TopicStore, S: Shelf + Drop, K: Tallies> {
+pub(crate) struct Hold<'t, K: Tallies> {
     pub(crate) topic: MutexGuard<'t, CountedTopic<K>>,
-    /// The lock of its stores, where entries are read. It was taken before the topic's.
-    stores: Option<MutexGuard<'t, CountedStores<T, S, K>>>,
     /// Others may wait for room, since the port did until it was let in.
     pub(crate) calls_reader: bool,
     /// The topic's flusher has something to do of which it wasn't told: a reply is owed, or the topic has failed.
@@ -30,26 +28,17 @@ pub(crate) struct Hold<'t, T: TopicStore, S: Shelf + Drop, K: Tallies> {
     gives_back: bool,
 }
 
-impl<'t, T: TopicStore, S: Shelf + Drop, K: Tallies> Hold<'t, T, S, K> {
-    /// The lock of a topic, which was just taken, and that of its stores, where an entry was read.
-    pub(crate) fn new(
-        stores: Option<MutexGuard<'t, CountedStores<T, S, K>>>,
-        topic: MutexGuard<'t, CountedTopic<K>>,
-    ) -> Hold<'t, T, S, K>
+impl<'t, K: Tallies> Hold<'t, K> {
+    /// The lock of a topic, which was just taken.
+    pub(crate) fn new(topic: MutexGuard<'t, CountedTopic<K>>) -> Hold<'t, K>
         ensures { (mutex_guard_value result.topic).number ≡ (mutex_guard_value topic.entry).number }
     {
         Hold {
             topic,
-            stores,
             calls_reader: false,
             rings_flusher: false,
             gives_back: false,
         }
-    }
-
-    /// Whether it has the lock of the stores, too, so that an entry was read.
-    pub(crate) fn has_stores(&self) -> bool {
-        self.stores.is_some()
     }
 
     /// The topic's step, for the connection at this place, as `CountedTopic::command` says.
@@ -110,23 +99,25 @@ impl<'t, T: TopicStore, S: Shelf + Drop, K: Tallies> Hold<'t, T, S, K> {
         heard
     }
 
-    /// What the topic has at hand for a consumer of the connection at this place, whose writer is woken when there may be a message where
-    /// there is none. None where an entry has to be read.
-    pub(crate) fn next_at_hand(
+    /// What the topic has for a consumer of the connection at this place, by what was read of its stores before. Where it has no message
+    /// the connection's writer is woken when there may be one.
+    pub(crate) fn next(
         &mut self,
         place: u8,
         who: u64,
         consumer_id: u64,
-    ) -> Option<Heard<u64, Sent>>
-        ensures about { IfSome result (λ heard. (heard.topic ≡ (mutex_guard_value self.old.topic).number) × (heard.who ≡ who) × (heard.asked.value ≡ consumer_id)) }
-        ensures message { IfSome result (λ heard. SendsTo consumer_id heard.said) }
+        read: Option<StoresRead>,
+    ) -> Next
+        ensures about { IfHeard result (λ heard. (heard.topic ≡ (mutex_guard_value self.old.topic).number) × (heard.who ≡ who) × (heard.asked.value ≡ consumer_id)) }
+        ensures message { IfHeard result (λ heard. SendsTo consumer_id heard.said) }
+        ensures number { (mutex_guard_value self.new.topic).number ≡ (mutex_guard_value self.old.topic).number }
     {
         let Hold { topic, .. } = self;
-        let heard = topic.next_at_hand(who, consumer_id)?;
-        if !is_message(heard.said()) {
+        let next = topic.next(who, consumer_id, read);
+        if is_none(&next) {
             topic.waiting.starve(place);
         }
-        Some(heard)
+        next
     }
 
     /// Lets the lock go, and wakes the topic's flusher where it has something to do, the next reader that waits for room where
@@ -134,7 +125,6 @@ impl<'t, T: TopicStore, S: Shelf + Drop, K: Tallies> Hold<'t, T, S, K> {
     pub(crate) fn release(self, bells: &Bells) {
         let Hold {
             topic,
-            stores,
             calls_reader,
             rings_flusher,
             gives_back,
@@ -152,7 +142,6 @@ impl<'t, T: TopicStore, S: Shelf + Drop, K: Tallies> Hold<'t, T, S, K> {
             Marks::new()
         };
         drop(topic);
-        drop(stores);
         if rings_flusher {
             bells.ring_flusher(number);
         }
@@ -168,9 +157,12 @@ pub(crate) fn ring_reader(bells: &Bells, reader: Option<u8>) {
     }
 }
 
-/// Whether a consumer was given a message.
-pub(crate) fn is_message(sent: &Sent) -> bool {
-    matches!(sent, Ok(Some(_)))
+/// Whether there is no message for a consumer, or none that could be read.
+fn is_none(next: &Next) -> bool {
+    match next {
+        Next::Heard(heard) => !matches!(heard.said(), Ok(Some(_))),
+        Next::Unread(_) => false,
+    }
 }
 
 /// Whether a command asks for a producer or a consumer.

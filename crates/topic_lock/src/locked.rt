@@ -51,7 +51,7 @@ pub struct LockedPort<'p, 'a, T: TopicStore, S: Shelf + Drop, K: Tallies, R: Wai
     handed: Share<HandedByPorts<K>>,
     /// Of the consumer that the last command attached, until it is taken.
     lent: Option<Granter>,
-    held: Cell<Option<Hold<'a, T, S, K>>>,
+    held: Cell<Option<Hold<'a, K>>>,
     is_in_turn: bool,
     portion: Portion,
     troubles: Troubles,
@@ -146,7 +146,7 @@ impl<'p, 'a, T: TopicStore, S: Shelf + Drop, K: Tallies, R: Wait> LockedPort<'p,
 
     /// The lock of the topic of a number, once there is room for an entry of this length: what is behind it has that number. One that
     /// is kept is kept on where it is of this topic.
-    fn hold(&self, topic: u64, entry_length: Option<usize>) -> Hold<'a, T, S, K>
+    fn hold(&self, topic: u64, entry_length: Option<usize>) -> Hold<'a, K>
         requires { topic < length self.now.known.items }
         ensures { (mutex_guard_value result.topic).number ≡ topic }
     {
@@ -162,10 +162,9 @@ impl<'p, 'a, T: TopicStore, S: Shelf + Drop, K: Tallies, R: Wait> LockedPort<'p,
         )
     }
 
-    /// Keeps a lock until the port is asked for something else, where a turn is on. One behind which an entry was read is let go, so
-    /// that others needn't wait for more than one read.
-    fn keep(&self, hold: Hold<'a, T, S, K>) {
-        if self.is_in_turn && !hold.has_stores() {
+    /// Keeps a lock until the port is asked for something else, where a turn is on.
+    fn keep(&self, hold: Hold<'a, K>) {
+        if self.is_in_turn {
             self.held.set(Some(hold));
         } else {
             hold.release(&self.broker.bells);

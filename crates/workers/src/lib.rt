@@ -5,7 +5,6 @@
 
 mod connection;
 mod flushing;
-mod listing;
 mod loops;
 mod numbered;
 mod outgoing;
@@ -13,8 +12,8 @@ mod resting;
 
 pub use connection::{Ends, Served, serve_connection};
 pub use flushing::flush_loop;
-pub use listing::{Listing, Pumped};
 pub use loops::{Point, Turnstile, read_loop, write_loop};
-pub use numbered::{Ended, Numbered, Piece};
+pub use numbered::listing::Listing;
+pub use numbered::{Ended, Numbered, Piece, Pumped, Unwritten};
 pub use outgoing::{Outgoing, Output};
 pub use resting::PortAtRest;

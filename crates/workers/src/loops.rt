@@ -3,8 +3,8 @@ ghost use Rattle.std.specs.Prelude.{◌≡◌, ◌<◌, ◌≤◌, ◌++◌, [],
 ghost use Rattle.rtrb.specs.Ring.{known_free, known_items, SameConsumer};
 ghost use Rattle.workers.specs.Writes.{Wrote, Extends, FinishesAfter};
 
-use crate::listing::{Listing, Pumped};
-use crate::numbered::{Ended, NUMBERS, Numbered, Piece};
+use crate::numbered::listing::Listing;
+use crate::numbered::{Ended, NUMBERS, Numbered, Piece, Pumped};
 use crate::outgoing::{Outgoing, Output};
 use rtrb::{Finished, Producer};
 use session::Port;
@@ -146,7 +146,7 @@ fn serve<P: Port + Turns>(listing: Listing, port: &mut P) -> Pumped {
     pumped
 }
 
-// Serves and writes once. The session's lock is held for its list, and then to tell it of the answer, and not in between. Answers
+// Serves, and writes once its session was told. The session's lock is held for its list, and then to tell it, and not in between. Answers
 // whether the session has ended; what stood in the ring is then written.
 fn write_turn<W: Write, P: Port + Turns, R: Wait>(
     rt: &R,
@@ -164,8 +164,8 @@ fn write_turn<W: Write, P: Port + Turns, R: Wait>(
         return Ok(true);
     };
     let pumped = serve(listing, port);
-    let ended = session.lock(rt).served(pumped.answer());
-    pumped.write(outgoing)?;
+    let unwritten = session.lock(rt).served(pumped);
+    let ended = unwritten.write(outgoing)?;
     outgoing.write_below(NUMBERS)?;
     Ok(ended)
 }

@@ -1,4 +1,6 @@
 // A session and the numbers of its outputs, which stand together behind its lock.
+pub(crate) mod listing;
+
 ghost use Rattle.std.specs.Prelude.{◌≡◌, ◌+◌, ◌<◌, ◌^◌, ◌++◌, ◌||◌, [], List, ℕ, true, false, is_none, is_some, IfSome, IfNone};
 ghost use Rattle.rtrb.specs.Ring.{known_free, SameProducer};
 ghost use Rattle.workers.specs.Outputs.{AreFrames};
@@ -8,12 +10,13 @@ ghost use Rattle.session.specs.Working.{FeedStep, feed_result};
 ghost use Rattle.workers.specs.Numbers.{is_over, has_room, is_more, IsOutput, Numbers, Feeds, Lists, without_memory, as_served, bytes_of_replies};
 ghost use Rattle.workers.specs.Writes.{pushed};
 
-use crate::listing::Listing;
-use crate::outgoing::Output;
+use crate::numbered::listing::Listing;
+use crate::outgoing::{Outgoing, Output};
 use rtrb::Producer;
 use session::{Fault, More, Port, PumpFault, Session};
 use std::alloc::Global;
-use std::io::Read;
+use std::io;
+use std::io::{Read, Write};
 
 /// The loops end at this number.
 pub(crate) const NUMBERS: u64 = 1 << 62;
@@ -51,6 +54,50 @@ pub struct Piece<'b> {
 #[derive(Drop)]
 pub struct Ended {
     is_sealed: (),
+}
+
+/// What a turn of the writer served, of which the session isn't told yet. Nobody may let it go: its session is told.
+pub struct Pumped {
+    /// The number that the turn got.
+    number: u64,
+    /// The output of that number, where there is one.
+    output: Option<Output>,
+    /// Whether the turn stopped at a bound of its own, or why it stopped.
+    answer: Result<More, PumpFault>,
+    ghost small: { number < 2 ^ 62 },
+}
+
+/// What a turn of the writer served, of which its session was told. Nobody may let it go: it is written.
+pub struct Unwritten {
+    number: u64,
+    output: Option<Output>,
+    has_ended: bool,
+    ghost small: { number < 2 ^ 62 },
+}
+
+impl Unwritten {
+    ghost use Rattle.std.specs.Prelude.{OnOk, IfOk};
+    ghost use Rattle.rtrb.specs.Ring.{SameConsumer};
+    ghost use Rattle.workers.specs.Writes.{Wrote, WroteServed};
+
+    /// Writes what was served, or passes its number over. Answers whether the session has ended.
+    pub fn write<W: Write>(self, outgoing: &mut Outgoing<W>) -> io::Result<bool>
+        ensures ring { SameConsumer outgoing.old.replies outgoing.new.replies }
+        ensures wrote { OnOk result (Wrote W.contents outgoing.old outgoing.new) }
+        ensures served { OnOk result (IfSome self.output (λ o. WroteServed W.contents outgoing.old outgoing.new o.number o.bytes.items)) }
+        ensures ended { IfOk result (λ ended. ended ≡ self.has_ended) }
+    {
+        let Unwritten {
+            number,
+            output,
+            has_ended,
+        } = self;
+        match &output {
+            Some(output) => outgoing.write_pumped(output)?,
+            None => outgoing.pass_over(number)?,
+        }
+        Ok(has_ended)
+    }
 }
 
 impl<'b> Piece<'b> {
@@ -184,7 +231,7 @@ impl Numbered {
         ensures same { IfSome result (λ _. P.sole port.old → P.broker port.new ≡ P.broker port.old) }
     {
         let Ok(list) = self.session.list() else {
-            self.served(&Err(PumpFault::Ended(Fault::NoMemory)));
+            self.take_answer(&Err(PumpFault::Ended(Fault::NoMemory)));
             self.session.end(port);
             return None;
         };
@@ -197,9 +244,29 @@ impl Numbered {
         })
     }
 
-    /// Takes in what the serving of its list answered. Answers whether the session has ended, by that or since it was listed.
+    /// Takes in what the serving of its list answered, and gives what is to be written.
+    pub fn served(&mut self, pumped: Pumped) -> Unwritten
+        ensures served { self.new ≡ as_served self.old pumped.answer }
+        ensures ended { result.has_ended ≡ self.new.ended }
+        ensures same { (result.number ≡ pumped.number) × (result.output ≡ pumped.output) }
+    {
+        let Pumped {
+            number,
+            output,
+            answer,
+        } = pumped;
+        let has_ended = self.take_answer(&answer);
+        drop(answer);
+        Unwritten {
+            number,
+            output,
+            has_ended,
+        }
+    }
+
+    /// The session's answer to a serving. Tells whether it has ended, by that or since it was listed.
     #[tactic(auto, using(crate::proofs::Serving::client_is))]
-    pub fn served(&mut self, answer: &Result<More, PumpFault>) -> bool
+    fn take_answer(&mut self, answer: &Result<More, PumpFault>) -> bool
         ensures served { self.new ≡ as_served self.old answer.now }
         ensures ended { result ≡ self.new.ended }
     {

@@ -5,24 +5,24 @@ use super::{PLAIN, Topic, position_in, producer, send, subscribe};
 use disk::CrashShelf;
 use gated_log::Refusal;
 use permits::BothEnds;
-use std::alloc::{AllocError, Global};
+use std::alloc::Global;
 use std::test::Fail;
-use topic_core::{AtHand, TopicCore};
+use topic_core::{AtHand, ReadAt, ReadError, TopicCore};
 
-// Whether an entry has to be read, and the position of a message that is at hand.
-type Told = (bool, Option<u64>);
+// The position of an entry that has to be read, and that of a message.
+type Told = (Option<u64>, Option<u64>);
 
-// What is at hand for session 1's consumer 5, which gets a permit.
-fn at_hand(core: &mut TopicCore<BothEnds>) -> Result<Told, AllocError> {
+// What session 1's consumer 5, which gets a permit, is told, by what was read.
+fn next(core: &mut TopicCore<BothEnds>, read: Option<ReadAt>) -> Result<Told, ReadError> {
     if core.grant(1, 5, 1).is_err() {
-        return Ok((false, None));
+        return Ok((None, None));
     }
-    match core.dispatch_at_hand(1, 5)? {
+    match core.dispatch_at_hand(1, 5, read)? {
         AtHand::Message(outgoing) if outgoing.entry.as_slice() == PLAIN => {
-            Ok((false, position_in(&outgoing.reply)))
+            Ok((None, position_in(&outgoing.reply)))
         }
-        AtHand::Unread => Ok((true, None)),
-        _ => Ok((false, None)),
+        AtHand::Unread(position) => Ok((Some(position), None)),
+        _ => Ok((None, None)),
     }
 }
 
@@ -52,21 +52,29 @@ fn fall_behind(topic: &mut Topic, alloc: Global) -> Result<(), Refusal>
     commit(topic, alloc, 13)
 }
 
-// What is told of an entry that is then read.
-fn read(topic: &mut Topic) -> Result<(Told, Option<u64>), Refusal> {
-    Ok((at_hand(&mut topic.core)?, topic.next(1)?))
+// What is told where nothing was read, where another entry was, and where the entry was read.
+fn read(topic: &mut Topic) -> Result<[Told; 3], ReadError> {
+    let Topic {
+        core,
+        stores,
+        shelf,
+    } = topic;
+    let unread = next(core, None)?;
+    let other = next(core, Some(ReadAt::read(stores, shelf, 1)))?;
+    let given = next(core, Some(ReadAt::read(stores, shelf, 0)))?;
+    Ok([unread, other, given])
 }
 
 // The position of a message whose entry is at hand. One that has to be read had no place, for want of memory.
-fn next_at_hand(core: &mut TopicCore<BothEnds>) -> Result<Option<u64>, AllocError> {
-    match at_hand(core)? {
-        (false, position) => Ok(position),
-        (true, _) => Err(AllocError),
+fn next_at_hand(core: &mut TopicCore<BothEnds>) -> Result<Option<u64>, ReadError> {
+    match next(core, None)? {
+        (None, position) => Ok(position),
+        (Some(_), _) => Err(ReadError::NoMemory),
     }
 }
 
 // What is told of an entry that is read, and the messages behind it.
-fn catch_up(topic: &mut Topic) -> Result<((Told, Option<u64>), [Option<u64>; 4]), Refusal> {
+fn catch_up(topic: &mut Topic) -> Result<([Told; 3], [Option<u64>; 4]), ReadError> {
     let first = read(topic)?;
     let second = next_at_hand(&mut topic.core)?;
     let third = next_at_hand(&mut topic.core)?;
@@ -75,7 +83,7 @@ fn catch_up(topic: &mut Topic) -> Result<((Told, Option<u64>), [Option<u64>; 4])
     Ok((first, [second, third, fourth, none]))
 }
 
-// The entries that were committed since the opening are at hand.
+// The entries that were committed since the opening are at hand; the one before it is given once it was read.
 #[test]
 fn entries_committed_since_an_opening_are_at_hand(rt: HostRuntime) -> Result<(), Fail> {
     let mut topic = Topic::new(rt.alloc())?;
@@ -83,7 +91,8 @@ fn entries_committed_since_an_opening_are_at_hand(rt: HostRuntime) -> Result<(),
     let seen = catch_up(&mut topic);
     drop(topic);
     behind?;
-    let wanted = (((true, None), Some(0)), [Some(1), Some(2), Some(3), None]);
+    let read = [(Some(0), None), (Some(0), None), (None, Some(0))];
+    let wanted = (read, [Some(1), Some(2), Some(3), None]);
     assert_eq!(rt; seen?, wanted);
     Ok(())
 }

@@ -11,7 +11,7 @@ ghost use Rattle.topic_core.specs.Flush.{TakeStep, awaits};
 ghost use Rattle.topic_core.specs.Standing.{IsFor};
 ghost use Rattle.topic_lock.specs.declared.fault.FlushFault.TheVariants.{Device, NoMemory, Apart};
 ghost use Rattle.topic_lock.specs.Ends.{end_of, fault_of, may_have_added};
-ghost use Rattle.topic_lock.specs.Flushing.{FinishStep, Writes, told_of, taken_of, IfNothing};
+ghost use Rattle.topic_lock.specs.Flushing.{FinishStep, Writes, told_of, taken_of, IfNothing, IfBatch};
 
 use crate::counted::CountedTopic;
 use crate::durable::{DurableByTopics, DurableTally};
@@ -45,8 +45,9 @@ pub enum Taken {
     Batch(TakenBatch),
 }
 
-/// A batch that a flusher took of a topic. Nobody may let it go: it is written.
+/// A batch that a flusher took of the topic of a number. Nobody may let it go: it is written.
 pub struct TakenBatch {
+    topic: u64,
     batch: Batch,
 }
 
@@ -91,11 +92,13 @@ impl<K: Tallies> CountedTopic<K> {
         ensures step { TakeStep self.old.core (taken_of result) self.new.core }
         ensures batch { IfOk (taken_of result) (λ taken. IfSome taken (λ batch. IsFor self.new.core batch)) }
         ensures nothing { IfNothing result (λ flushed. IfOk flushed.count (λ n. n ≡ 0)) }
+        ensures topic { IfBatch result (λ taken. taken.topic ≡ self.old.number) }
         ensures number { self.new.number ≡ self.old.number }
     {
-        let CountedTopic { core, .. } = self;
+        let CountedTopic { core, number, .. } = self;
+        let topic = *number;
         match core.take_batch() {
-            Ok(Some(batch)) => Taken::Batch(TakenBatch { batch }),
+            Ok(Some(batch)) => Taken::Batch(TakenBatch { topic, batch }),
             Ok(None) => Taken::Nothing(Flushed { count: Ok(0) }),
             Err(WriteError::NoMemory) => Taken::Nothing(Flushed {
                 count: Err(FlushFault::NoMemory),
@@ -150,7 +153,7 @@ impl<K: Tallies> CountedTopic<K> {
 
 impl<T: TopicStore, S: Shelf + Drop, K: Tallies> CountedStores<T, S, K> {
     /// Writes a batch, which a flusher took of the stores' topic, and counts what became durable for the stores and for the flusher.
-    /// A batch that doesn't fit what the stores remember isn't written.
+    /// A batch of another topic, or one that doesn't fit what the stores remember, isn't written.
     pub fn write<R: Wait>(
         &mut self,
         rt: &R,
@@ -159,7 +162,7 @@ impl<T: TopicStore, S: Shelf + Drop, K: Tallies> CountedStores<T, S, K> {
         taken: TakenBatch,
     ) -> Written<K>
         ensures batch { result.batch ≡ taken.batch }
-        ensures remembers { Writes (T.view self.old.stores) taken.batch result.end (T.view self.new.stores) }
+        ensures remembers { Writes (T.view self.old.stores) taken.topic taken.batch result.end (T.view self.new.stores) }
         ensures counted { (T.view self.new.stores).count ≡ (T.view self.old.stores).count + result.added }
         ensures apart { IsErrOf result.end Apart → (self.new.stores ≡ self.old.stores) × (self.new.shelf ≡ self.old.shelf) }
         ensures written { (ledger : Entries) (kept : KeptSubscriptions) → Settled (T.view self.old.stores) (S.disk self.old.shelf) ledger kept →
@@ -184,9 +187,9 @@ impl<T: TopicStore, S: Shelf + Drop, K: Tallies> CountedStores<T, S, K> {
             shelf,
             durable,
         } = self;
-        let TakenBatch { batch } = taken;
+        let TakenBatch { topic, batch } = taken;
         let Flusher { mut share } = flusher;
-        if !stores.fits(&batch) {
+        if topic != u64::from(stores.topic()) || !stores.fits(&batch) {
             let end = Err(FlushFault::Apart);
             return Written {
                 batch,

@@ -1,4 +1,4 @@
-// A write that is held holds nobody's SEND, and no message whose entry was just committed.
+// A write that is held holds nobody's SEND, and no message whose entry was just committed; and a topic's lock holds nobody's FLOW.
 ghost use Rattle.std.specs.Prelude.{◌≡◌};
 ghost use Rattle.topic_lock.specs.Ledgers.{IsOf};
 
@@ -28,7 +28,39 @@ type MemPort<'p, 'a, K, R> = RestingPort<'p, 'a, FileStores, MemShelf, K, R>;
 #[derive(Drop)]
 struct Gate {
     is_held: AtomicBool,
+    is_subscribed: AtomicBool,
+    is_locked: AtomicBool,
+    is_permitted: AtomicBool,
     may_go_on: AtomicBool,
+}
+
+impl Gate {
+    // Nothing is held yet.
+    fn new() -> Gate {
+        Gate {
+            is_held: AtomicBool::new(false),
+            is_subscribed: AtomicBool::new(false),
+            is_locked: AtomicBool::new(false),
+            is_permitted: AtomicBool::new(false),
+            may_go_on: AtomicBool::new(false),
+        }
+    }
+}
+
+// Has the topic's lock from when the other session has subscribed until its FLOW was fed. Answers whether it was.
+fn lock_for_a_flow<K: Tallies, R: Wait>(
+    rt: &R,
+    shared: &SharedTopic<FileStores, MemShelf, K>,
+    gate: &Gate,
+) -> bool {
+    if !waits_for(&gate.is_subscribed) {
+        return false;
+    }
+    let topic = shared.topic.lock(rt);
+    gate.is_locked.store(true, Ordering::SeqCst);
+    let is_permitted = waits_for(&gate.is_permitted);
+    drop(topic);
+    is_permitted
 }
 
 // Flushes the topic; the write is held, with the stores' lock, until another session has sent and received. Answers whether it did, and
@@ -47,7 +79,7 @@ fn flush_held<K: Tallies, R: Wait>(
     };
     let mut stores = shared.stores.lock(rt);
     gate.is_held.store(true, Ordering::SeqCst);
-    let went_on = waits_for(&gate.may_go_on);
+    let went_on = lock_for_a_flow(rt, shared, gate) && waits_for(&gate.may_go_on);
     let written = stores.write(rt, tally, flusher, batch);
     drop(stores);
     match shared.topic.lock(rt).finish(written) {
@@ -104,9 +136,13 @@ fn send_and_flush<'p, 'a, K: Tallies, R: Wait + Log>(
     flush_held(rt, &broker.totals.durable, shared, flusher, gate)
 }
 
-// Sends in the other session, and subscribes from the first entry on. Answers whether the SEND was refused nothing, and whether the entry
-// that was committed is there at once.
-fn send_and_receive<P: Port>(alloc: Global, port: &mut P) -> Result<(bool, bool), Refusal> {
+// Sends in the other session, subscribes from the first entry on, and permits a message while somebody has the topic's lock. Answers
+// whether the SEND was refused nothing, and whether the entry that was committed is there at once.
+fn send_and_receive<P: Port>(
+    alloc: Global,
+    port: &mut P,
+    gate: &Gate,
+) -> Result<(bool, bool), Refusal> {
     let mut session = Session::new(alloc, 1);
     let mut out = Vec::new(alloc);
     greet(&mut session, port, &mut out)?;
@@ -114,11 +150,14 @@ fn send_and_receive<P: Port>(alloc: Global, port: &mut P) -> Result<(bool, bool)
     feed(&mut session, SEND, port, &mut out)?;
     let is_sent = out.len() == greeted;
     feed(&mut session, SUBSCRIBE, port, &mut out)?;
+    gate.is_subscribed.store(true, Ordering::SeqCst);
+    let is_locked = waits_for(&gate.is_locked);
     feed(&mut session, FLOW, port, &mut out)?;
+    gate.is_permitted.store(true, Ordering::SeqCst);
     if session.pump(port, &mut out).is_err() {
         return Err(Refusal::NoMemory);
     }
-    Ok((is_sent, out.ends_with(FIRST_MESSAGE)))
+    Ok((is_sent && is_locked, out.ends_with(FIRST_MESSAGE)))
 }
 
 // Sends and receives in the other session while the write is held.
@@ -131,7 +170,7 @@ fn go_on_meanwhile<'p, 'a, K: Tallies, R: Wait + Log>(
         return Ok((false, false));
     }
     let mut port = resting.begin();
-    let seen = send_and_receive(alloc, &mut port);
+    let seen = send_and_receive(alloc, &mut port, gate);
     drop(port.rest());
     gate.may_go_on.store(true, Ordering::SeqCst);
     seen
@@ -161,10 +200,7 @@ fn run<K: Tallies + Send + Sync, R: Threads + Wait + Log + Sync>(
     let seats = (Seat::new(0), Seat::new(1));
     let first = RestingPort::new(rt, alloc, &broker, &seats.0, one);
     let second = RestingPort::new(rt, alloc, &broker, &seats.1, other);
-    let gate = Gate {
-        is_held: AtomicBool::new(false),
-        may_go_on: AtomicBool::new(false),
-    };
+    let gate = Gate::new();
     let (gate, broker) = (&gate, &broker);
     let (flushed, seen) = thread::join(
         rt,
@@ -178,10 +214,10 @@ fn run<K: Tallies + Send + Sync, R: Threads + Wait + Log + Sync>(
     Ok((flushed?, seen?))
 }
 
-// The write ends only after the other session's SEND was accepted and its consumer got the entry of the flush before, and commits the
-// one entry that it was taken of.
+// The write ends only after the other session's SEND was accepted, its FLOW was fed beside the topic's lock and its consumer got the entry
+// of the flush before, and commits the one entry that it was taken of.
 #[test]
-fn a_write_holds_no_send(rt: HostRuntime) -> Result<(), Fail> {
+fn a_write_holds_no_send_and_a_lock_no_flow(rt: HostRuntime) -> Result<(), Fail> {
     let seen = run::<Brand, _>(&rt, rt.alloc(), Blanks::new(2))?;
     assert_eq!(rt; seen, ((true, 1), (true, true)));
     Ok(())

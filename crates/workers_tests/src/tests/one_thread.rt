@@ -8,7 +8,7 @@ use std::io;
 use std::sync::atomic::AtomicU64;
 use std::sync::{Mutex, Wait};
 use std::test::Fail;
-use workers::{Listing, Numbered, Outgoing, Output, Piece, Pumped, read_loop};
+use workers::{Listing, Numbered, Outgoing, Output, Piece, Unwritten, read_loop};
 
 // Above each number of an output.
 const ABOVE: u64 = 1 << 62;
@@ -97,11 +97,10 @@ impl Feeder {
         self.numbered.list(&mut self.desk)
     }
 
-    // What that gives. Tells, too, whether the session has ended.
-    fn serve(&mut self, listing: Listing) -> (Pumped, bool) {
+    // What that gives, once the session was told.
+    fn serve(&mut self, listing: Listing) -> Unwritten {
         let pumped = listing.serve(&mut self.desk);
-        let ended = self.numbered.served(pumped.answer());
-        (pumped, ended)
+        self.numbered.served(pumped)
     }
 
     // Whether the session goes on behind these bytes.
@@ -128,9 +127,9 @@ fn write_between(bench: &mut Bench, due: u32) -> io::Result<usize> {
     let Some(listing) = feeder.list(due) else {
         return Ok(0);
     };
-    let (pumped, _) = feeder.serve(listing);
+    let unwritten = feeder.serve(listing);
     feeder.feed(PING);
-    pumped.write(outgoing)?;
+    unwritten.write(outgoing)?;
     let written = outgoing.writer.len();
     outgoing.write_below(ABOVE)?;
     Ok(written)
@@ -174,9 +173,7 @@ fn ends_meanwhile(bench: &mut Bench, by_a_fault: bool) -> Option<bool> {
     } else {
         feeder.numbered.end(&mut feeder.desk);
     }
-    let (pumped, ended) = feeder.serve(listing);
-    pumped.write(outgoing).ok()?;
-    Some(ended)
+    feeder.serve(listing).write(outgoing).ok()
 }
 
 // A session that its reader ended while it was served doesn't go on.

@@ -22,13 +22,13 @@ invariant_of-self-in-Ok g c =
     let t : Subscriptions = record { subs = c.self.inside.subs.items; changes = c.self.inside.changes.items; slots = c.self.inside.slots.items } in
     let at : position (is_named c.args.name.now) c.self.inside.subs.items ≡ Some c.in-Some.place = search rules in
     let low = (is_place (is_named c.args.name.now) c.self.inside.subs.items c.in-Some.place c.index_mut-sub.result.now at).within in
-    let new : set c.self.inside.subs.items c.in-Some.place c.attach.new.self ≡ first_changed (is_named c.args.name.now) (attached_to c.args.mode c.args.seat) c.self.inside.subs.items =
-    changes (is_named c.args.name.now) (attached_to c.args.mode c.args.seat) c.self.inside.subs.items c.in-Some.place c.index_mut-sub.result.now c.attach.new.self at c.index_mut-sub.ensures.value c.in-Ok.ensures.ok in (
-      rw new (limits_changed t (is_named c.args.name.now) (attached_to c.args.mode c.args.seat) (λ _. refl) c.self.invariant.0),
-      hints_joined t c.self.inside.hints.items c.args.mode c.args.seat c.in-Some.place c.index_mut-sub.result.now c.attach.new.self c.index_mut-hints.result.now c.forget.new.self c.self.invariant.1 low
+    let new : set c.self.inside.subs.items c.in-Some.place c.attach.new.self ≡ first_changed (is_named c.args.name.now) (attached_to c.args.mode c.args.seat (g.G.Gauge.word c.args.gauge)) c.self.inside.subs.items =
+    changes (is_named c.args.name.now) (attached_to c.args.mode c.args.seat (g.G.Gauge.word c.args.gauge)) c.self.inside.subs.items c.in-Some.place c.index_mut-sub.result.now c.attach.new.self at c.index_mut-sub.ensures.value c.in-Ok.ensures.ok in (
+      rw new (limits_changed t (is_named c.args.name.now) (attached_to c.args.mode c.args.seat (g.G.Gauge.word c.args.gauge)) (λ _. refl) c.self.invariant.0),
+      hints_joined t c.self.inside.hints.items c.args.mode c.args.seat (g.G.Gauge.word c.args.gauge) c.in-Some.place c.index_mut-sub.result.now c.attach.new.self c.index_mut-hints.result.now c.forget.new.self c.self.invariant.1 low
           c.index_mut-sub.ensures.value c.index_mut-hints.ensures.value c.in-Ok.ensures.ok c.forget.ensures,
-      rw new (places_joined t.subs c.self.inside.directory c.add.new.self c.args.name.now c.args.mode c.args.seat c.in-Some.place at c.in_default-add.ensures.ok c.self.invariant.2),
-      rw new (notes_joined t.subs c.self.inside.quiet c.args.name.now c.args.mode c.args.seat c.self.invariant.3),
+      rw new (places_joined t.subs c.self.inside.directory c.add.new.self c.args.name.now c.args.mode c.args.seat (g.G.Gauge.word c.args.gauge) c.in-Some.place at c.in_default-add.ensures.ok c.self.invariant.2),
+      rw new (notes_joined t.subs c.self.inside.quiet c.args.name.now c.args.mode c.args.seat (g.G.Gauge.word c.args.gauge) c.self.invariant.3),
     )
 
 pub returns-in-Ok-clause-ok : goal.returns-in-Ok-clause-ok
@@ -36,8 +36,8 @@ returns-in-Ok-clause-ok g c =
     let t : Subscriptions = record { subs = c.self.inside.subs.items; changes = c.self.inside.changes.items; slots = c.self.inside.slots.items } in
     let at : position (is_named c.args.name.now) c.self.inside.subs.items ≡ Some c.in-Some.place = search rules in
     let start = start_of c.args.initial c.args.committed in
-    attaches_some t c.args.name.now c.args.mode c.args.seat start c.in-Some.place c.index_mut-sub.result.now c.attach.new.self at c.index_mut-sub.ensures.value c.in-Ok.ensures.ok
-    ∙ ap (λ (x : Subscriptions). attached x c.args.name.now c.args.mode c.args.seat start) c.self.view_is
+    attaches_some t c.args.name.now c.args.mode c.args.seat (g.G.Gauge.word c.args.gauge) start c.in-Some.place c.index_mut-sub.result.now c.attach.new.self at c.index_mut-sub.ensures.value c.in-Ok.ensures.ok
+    ∙ ap (λ (x : Subscriptions). attached x c.args.name.now c.args.mode c.args.seat (g.G.Gauge.word c.args.gauge) start) c.self.view_is
 
 pub invariant_of-self-in-Err-attach : goal.invariant_of-self-in-Err-attach
 invariant_of-self-in-Err-attach g c =

@@ -1,5 +1,5 @@
 use Rattle.workers.proofs.Serving.{output_is, ended_as_listed, served_step}
-use Rattle.workers.proofs.listing.Listing.serve.Goals as goal
+use Rattle.workers.proofs.numbered.listing.Listing.serve.Goals as goal
 
 pub returns-clause-output : goal.returns-clause-output
 returns-clause-output g c = output_is c.args.self.number c.serve-answer.new.out.items c.output_of-output.result c.output_of-output.ensures

@@ -1,4 +1,4 @@
-use Rattle.topic_lock_tests.proofs.tests.held.a_write_holds_no_send.Given as goal
+use Rattle.topic_lock_tests.proofs.tests.held.a_write_holds_no_send_and_a_lock_no_flow.Given as goal
 
 abbrev pub ghosts-run : goal.ghosts-run
 ghosts-run g a = record {
