@@ -1,5 +1,5 @@
 -- What a command leaves of a topic, by its answer.
-use Rattle.std.proofs.Common.{◌≡◌, ◌⊎◌, inl, inr, ⊎_elim, ◌∙◌, ℕ, Bool, true, false, cond, Option, Some, None, Result, Ok, Err, List, refl, sym, ap, subst}
+use Rattle.std.proofs.Common.{◌≡◌, ◌⊎◌, inl, inr, ⊎_elim, ℕ, Bool, true, false, cond, Option, Some, None, Result, Ok, Err, List, [], refl, sym, ap, subst}
 use Rattle.commands.specs.declared.reply.Reply.{Reply}
 use Rattle.commands.specs.declared.reply.Reply.TheVariants.{ProducerSuccess, SendError, Success, Error, AckResponse}
 use Rattle.commands.specs.declared.server_error.ServerError.{ServerError}
@@ -29,6 +29,7 @@ use Rattle.topic_core.proofs.Sends.{takes_entry}
 use Rattle.topic_core.proofs.Subscribing.{accepts}
 use Rattle.topic_core.proofs.Closings.{close-works, unsubscribe-works}
 use Rattle.node.specs.Telling.{IsAtOnce}
+use Rattle.node.specs.Finding.{sent_by}
 
 producer_cases : (o : Option ServerError) (t : Topic) (who id request : ℕ) (name : List ℕ) (u : Topic)
     → u ≡ (refused_or o (λ error. Now (Error request error)) t (record { answer = Now (ProducerSuccess request name); topic = with_producer t who id name })).topic
@@ -161,23 +162,33 @@ granted_topic (Err why) t who id permits u step = subst (λ (x : Topic). Awaits 
 pub sent_topic : (who : ℕ) (t : Topic) (key : ConsumerKey) (i : ℕ) (u : Topic) → u ≡ sent t key i → Awaits who t u
 sent_topic who t key i u is = subst (λ (x : Topic). Awaits who t x) (sym is) (record { per_ledger = refl; committed = refl; ledger = refl; waiting = refl; doubt = refl; handed = refl; failed = refl; queues = inl refl })
 
--- no command touches the ledger
-same_ledger : (t u v : Topic) → u ≡ v → v.ledger ≡ t.ledger → u.ledger ≡ t.ledger
-same_ledger t u v is same = ap (λ (x : Topic). x.ledger) is ∙ same
-
-pub command_ledger : (t : Topic) (who : ℕ) (c : TopicCommand) (a : Answer) (u : Topic) → TopicStep t who c a u → u.ledger ≡ t.ledger
-command_ledger t who (asked.Producer id request name) a u step = ⊎_elim
-    (λ same. same_ledger t u t same refl)
-    (λ more. same_ledger t u (with_producer t who id name) more refl)
+-- a producer that is attached, or not
+attach_topic : (a : Answer) (t : Topic) (who id request : ℕ) (name : List ℕ) (u : Topic) → TopicStep t who (asked.Producer id request name) a u → Awaits who t u
+attach_topic a t who id request name u step = ⊎_elim
+    (λ same. subst (λ (x : Topic). Awaits who t x) (sym same) (awaits_nothing who t))
+    (λ more. subst (λ (x : Topic). Awaits who t x) (sym more) (record { per_ledger = refl; committed = refl; ledger = refl; waiting = refl; doubt = refl; handed = refl; failed = refl; queues = inl refl }))
     (producer_topic a t who id request name u step)
-command_ledger t who (asked.Send send) (Now r) u step = same_ledger t u t (refused_topic t who send r u step) refl
-command_ledger t who (asked.Send send) Later u step =
-    same_ledger t u (accepted t who send.producer_id send.sequence_id (bytes_of send.entry)) (accepted_topic t who send u step).1 refl
-command_ledger t who (asked.Send send) Nothing u step = same_ledger t u t (silent_topic t who send u step) refl
-command_ledger t who (asked.Send send) NoMemory u step = same_ledger t u t step.0 refl
-command_ledger t who (asked.Subscribe subscribe) a u step = (subscribe_topic a t who subscribe u step).ledger
-command_ledger t who (asked.Ack ack) a u step = (ack_topic a t who ack u step).ledger
-command_ledger t who (asked.CloseProducer close) a u step = (close_topic a t who close u step).ledger
-command_ledger t who (asked.Unsubscribe unsubscribe) a u step = (unsubscribe_topic a t who unsubscribe u step).ledger
-command_ledger t who (asked.CloseConsumer close) a u step = (detach_topic a t who close u step).ledger
-command_ledger t who (asked.Redeliver redeliver) a u step = (redeliver_topic a t who redeliver u step).ledger
+
+-- What a SEND that is accepted has, and any other command, has each command.
+module _ (t : Topic) (who : ℕ) (R : TopicCommand → Answer → Topic → Type 0)
+    (other : (c : TopicCommand) (a : Answer) (u : Topic) → ((per_ledger position : ℕ) → sent_by per_ledger position who c a ≡ []) → Awaits who t u → R c a u)
+    (sends : (send : Send) (u : Topic) → t.failed ≡ false → u ≡ accepted t who send.producer_id send.sequence_id (bytes_of send.entry) → R (asked.Send send) Later u) where
+  same : (c : TopicCommand) (a : Answer) (u : Topic) → ((per_ledger position : ℕ) → sent_by per_ledger position who c a ≡ []) → u ≡ t → R c a u
+  same c a u none is = other c a u none (subst (λ (x : Topic). Awaits who t x) (sym is) (awaits_nothing who t))
+
+  pub by_command : (c : TopicCommand) (a : Answer) (u : Topic) → TopicStep t who c a u → R c a u
+  by_command (asked.Producer id request name) a u step = other (asked.Producer id request name) a u (λ n p. refl) (attach_topic a t who id request name u step)
+  by_command (asked.Send send) (Now r) u step = same (asked.Send send) (Now r) u (λ n p. refl) (refused_topic t who send r u step)
+  by_command (asked.Send send) Later u step = let is = accepted_topic t who send u step in sends send u is.0 is.1
+  by_command (asked.Send send) Nothing u step = same (asked.Send send) Nothing u (λ n p. refl) (silent_topic t who send u step)
+  by_command (asked.Send send) NoMemory u step = same (asked.Send send) NoMemory u (λ n p. refl) step.0
+  by_command (asked.Subscribe subscribe) a u step = other (asked.Subscribe subscribe) a u (λ n p. refl) (subscribe_topic a t who subscribe u step)
+  by_command (asked.Ack ack) a u step = other (asked.Ack ack) a u (λ n p. refl) (ack_topic a t who ack u step)
+  by_command (asked.CloseProducer close) a u step = other (asked.CloseProducer close) a u (λ n p. refl) (close_topic a t who close u step)
+  by_command (asked.Unsubscribe unsubscribe) a u step = other (asked.Unsubscribe unsubscribe) a u (λ n p. refl) (unsubscribe_topic a t who unsubscribe u step)
+  by_command (asked.CloseConsumer close) a u step = other (asked.CloseConsumer close) a u (λ n p. refl) (detach_topic a t who close u step)
+  by_command (asked.Redeliver redeliver) a u step = other (asked.Redeliver redeliver) a u (λ n p. refl) (redeliver_topic a t who redeliver u step)
+
+-- no command touches the ledger
+pub command_ledger : (t : Topic) (who : ℕ) (c : TopicCommand) (a : Answer) (u : Topic) → TopicStep t who c a u → u.ledger ≡ t.ledger
+command_ledger t who c a u step = by_command t who (λ c a u. u.ledger ≡ t.ledger) (λ c a u none awaits. awaits.ledger) (λ send u works is. ap (λ (x : Topic). x.ledger) is) c a u step

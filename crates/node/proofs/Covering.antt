@@ -1,11 +1,9 @@
 -- Between two crashes receipts never outnumber the committed entries.
-use Rattle.std.proofs.Common.{◌≡◌, ⊎_elim, ◌∙◌, ℕ, ◌+◌, ◌≤◌, true, false, Result, List, [], ◌∷◌, ◌++◌, length, refl, sym, ap, subst, arith}
+use Rattle.std.proofs.Common.{◌≡◌, ⊎_elim, ◌∙◌, ℕ, ◌+◌, ◌≤◌, true, false, Result, List, [], ◌∷◌, ◌++◌, length, refl, ap, arith}
 use Rattle.std.specs.List.{AllByRecursion}
 use Rattle.commands.specs.declared.reply.Reply.{Reply}
 use Rattle.topic_core.specs.declared.command.Answer.{Answer}
-use Rattle.topic_core.specs.declared.command.Answer.TheVariants.{Now, Later, Nothing, NoMemory}
 use Rattle.topic_core.specs.declared.command.TopicCommand.{TopicCommand}
-use Rattle.topic_core.specs.declared.command.TopicCommand.TheVariants as asked
 use Rattle.gated_log.specs.declared.refusal.Refusal.{Refusal}
 use Rattle.topic_core.specs.State.{Topic, receipts_due}
 use Rattle.topic_core.specs.Steps.{TopicStep, receipts_of}
@@ -14,7 +12,7 @@ use Rattle.topic_core.specs.Crashes.{ReopenStep}
 use Rattle.node.specs.Moves.{Handed, Move, Command, Tell, Lose, Grant, Deliver, Miss, Leave, Flush, Take, Finish, Reopen, Crash, Cut, MoveStep, Moves, Takes, Sends, told_on, told_by, is_crash}
 use Rattle.node.specs.Telling.{receipts_told}
 use Rattle.node.proofs.Carrying.{Respected, respects}
-use Rattle.node.proofs.Commands.{producer_topic, refused_topic, silent_topic, accepted_topic, subscribe_topic, ack_topic, close_topic, unsubscribe_topic, detach_topic, redeliver_topic, granted_topic}
+use Rattle.node.proofs.Commands.{by_command, granted_topic}
 use Rattle.node.proofs.Endings.{RespectedByFlushes, taking, finishing, flushing, reopen_cases, cutting}
 use Rattle.node.proofs.Sound.{moves_sound}
 
@@ -26,24 +24,8 @@ told-append : (xs ys : List Handed) → receipts_told (xs ++ ys) ≡ receipts_to
 told-append [] ys = omega arith
 told-append (x ∷ xs) ys = omega (arith, told-append xs ys)
 
-handed_same : (t u : Topic) → u ≡ t → 0 + t.handed ≤ u.handed
-handed_same t u is = subst (λ (x : Topic). 0 + t.handed ≤ x.handed) (sym is) (omega arith)
-
 command_counts : (t : Topic) (who : ℕ) (c : TopicCommand) (a : Answer) (u : Topic) → TopicStep t who c a u → 0 + t.handed ≤ u.handed
-command_counts t who (asked.Producer id request name) a u step = ⊎_elim
-    (λ same. handed_same t u same)
-    (λ more. subst (λ (x : Topic). 0 + t.handed ≤ x.handed) (sym more) (omega arith))
-    (producer_topic a t who id request name u step)
-command_counts t who (asked.Send send) (Now r) u step = handed_same t u (refused_topic t who send r u step)
-command_counts t who (asked.Send send) Later u step = subst (λ (x : Topic). 0 + t.handed ≤ x.handed) (sym (accepted_topic t who send u step).1) (omega arith)
-command_counts t who (asked.Send send) Nothing u step = handed_same t u (silent_topic t who send u step)
-command_counts t who (asked.Send send) NoMemory u step = handed_same t u step.0
-command_counts t who (asked.Subscribe subscribe) a u step = omega (arith, (subscribe_topic a t who subscribe u step).handed)
-command_counts t who (asked.Ack ack) a u step = omega (arith, (ack_topic a t who ack u step).handed)
-command_counts t who (asked.CloseProducer close) a u step = omega (arith, (close_topic a t who close u step).handed)
-command_counts t who (asked.Unsubscribe unsubscribe) a u step = omega (arith, (unsubscribe_topic a t who unsubscribe u step).handed)
-command_counts t who (asked.CloseConsumer close) a u step = omega (arith, (detach_topic a t who close u step).handed)
-command_counts t who (asked.Redeliver redeliver) a u step = omega (arith, (redeliver_topic a t who redeliver u step).handed)
+command_counts t who c a u step = by_command t who (λ c a u. 0 + t.handed ≤ u.handed) (λ c a u none awaits. omega (arith, awaits.handed)) (λ send u works is. omega (arith, ap (λ (x : Topic). x.handed) is)) c a u step
 
 takes_counts : (t u : Topic) (h : Handed) → Takes t h u → u.handed ≡ t.handed + receipts_of h.reply
 takes_counts t u h takes = ap (λ (x : Topic). x.handed) takes.taken

@@ -4,9 +4,7 @@ use Rattle.std.specs.List.{AllByRecursion}
 use Rattle.commands.specs.declared.reply.Reply.{Reply}
 use Rattle.commands.specs.declared.reply.Reply.TheVariants.{Message}
 use Rattle.topic_core.specs.declared.command.Answer.{Answer}
-use Rattle.topic_core.specs.declared.command.Answer.TheVariants.{Now, Later, Nothing, NoMemory}
 use Rattle.topic_core.specs.declared.command.TopicCommand.{TopicCommand}
-use Rattle.topic_core.specs.declared.command.TopicCommand.TheVariants as asked
 use Rattle.topic_core.specs.State.{Topic}
 use Rattle.reply_queues.specs.Replies.{SessionReplies, is_for, due_to, queued, hand_on, make_due, take_back, refused, refuse_pending}
 use Rattle.topic_core.specs.Steps.{TopicStep, receipt}
@@ -18,7 +16,7 @@ use Rattle.node.specs.Moves.{Handed, outgoing, Move, Command, Tell, Lose, Grant,
 use Rattle.node.specs.Telling.{is_message}
 use Rattle.node.specs.Finding.{IsQuiet}
 use Rattle.node.specs.Delivering.{Delivers, DeliversEach}
-use Rattle.node.proofs.Commands.{Awaits, producer_topic, refused_topic, silent_topic, accepted_topic, subscribe_topic, ack_topic, close_topic, unsubscribe_topic, detach_topic, redeliver_topic, granted_topic, sent_topic}
+use Rattle.node.proofs.Commands.{Awaits, by_command, granted_topic, sent_topic}
 use Rattle.node.proofs.Endings.{RespectedByFlushes, taking, finishing, flushing, reopen_cases, moves_grow, cutting}
 use Rattle.node.proofs.Finding.{stays}
 
@@ -70,21 +68,8 @@ awaits who t u a none = ⊎_elim
     a.queues
 
 commanded : (t : Topic) (who : ℕ) (c : TopicCommand) (a : Answer) (u : Topic) → TopicStep t who c a u → OwesNoMessage t → OwesNoMessage u
-commanded t who (asked.Producer id request name) a u s none = ⊎_elim
-    (λ same. same_topic t u same none)
-    (λ more. subst OwesNoMessage (sym more) none)
-    (producer_topic a t who id request name u s)
-commanded t who (asked.Send send) (Now r) u s none = same_topic t u (refused_topic t who send r u s) none
-commanded t who (asked.Send send) Later u s none =
-    subst OwesNoMessage (sym (accepted_topic t who send u s).1) (queued_none who (receipt t send.producer_id send.sequence_id) t.queues refl none)
-commanded t who (asked.Send send) Nothing u s none = same_topic t u (silent_topic t who send u s) none
-commanded t who (asked.Send send) NoMemory u s none = same_topic t u s.0 none
-commanded t who (asked.Subscribe subscribe) a u s none = awaits who t u (subscribe_topic a t who subscribe u s) none
-commanded t who (asked.Ack ack) a u s none = awaits who t u (ack_topic a t who ack u s) none
-commanded t who (asked.CloseProducer close) a u s none = awaits who t u (close_topic a t who close u s) none
-commanded t who (asked.Unsubscribe unsubscribe) a u s none = awaits who t u (unsubscribe_topic a t who unsubscribe u s) none
-commanded t who (asked.CloseConsumer close) a u s none = awaits who t u (detach_topic a t who close u s) none
-commanded t who (asked.Redeliver redeliver) a u s none = awaits who t u (redeliver_topic a t who redeliver u s) none
+commanded t who c a u s none = by_command t who (λ c a u. OwesNoMessage u) (λ c a u unsent more. awaits who t u more none)
+    (λ send u works is. subst OwesNoMessage (sym is) (queued_none who (receipt t send.producer_id send.sequence_id) t.queues refl none)) c a u s
 
 takes : (t u : Topic) (h : Handed) → Takes t h u → OwesNoMessage t → OwesNoMessage u
 takes t u h s none =

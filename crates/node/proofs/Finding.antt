@@ -6,21 +6,19 @@ use Rattle.std.specs.List.{AllByRecursion}
 use Rattle.commands.specs.declared.reply.Reply.{Reply}
 use Rattle.commands.specs.declared.reply.Reply.TheVariants.{Connected}
 use Rattle.topic_core.specs.declared.command.Answer.{Answer}
-use Rattle.topic_core.specs.declared.command.Answer.TheVariants.{Now, Later, Nothing, NoMemory}
 use Rattle.topic_core.specs.declared.command.Send.{Send}
 use Rattle.topic_core.specs.declared.command.TopicCommand.{TopicCommand}
-use Rattle.topic_core.specs.declared.command.TopicCommand.TheVariants as asked
 use Rattle.topic_core.specs.Slots.{slot_of_entry}
 use Rattle.topic_core.specs.State.{Topic, next_position, opened, entries_of, entries_in_doubt}
 use Rattle.reply_queues.specs.Replies.{SessionReplies, is_receipt, due_to, hand_on, make_due, take_back, refused, refuse_pending}
-use Rattle.topic_core.specs.Steps.{TopicStep, bytes_of, accepted, receipt, with_producer, collected, left}
+use Rattle.topic_core.specs.Steps.{TopicStep, bytes_of, accepted, receipt, collected, left}
 use Rattle.topic_core.specs.Flush.{handed_on, finished, taken_back, failed}
 use Rattle.topic_core.specs.Crashes.{TopicCrash, reopened}
 use Rattle.topic_core.proofs.Keeps.{moved as moved_on}
 use Rattle.topic_core.proofs.Receipts.{all-append}
 use Rattle.node.specs.Moves.{Handed, Move, Command, Tell, Lose, Grant, Deliver, Miss, Leave, Flush, Take, Finish, Reopen, Crash, Cut, MoveStep, Moves, Takes, told_on, told_by}
 use Rattle.node.specs.Finding.{Sent, sent_at, sent_by, sends_on, sends_by, IsLatest, Finds, FindsEach, IsPublished, IsQuiet}
-use Rattle.node.proofs.Commands.{Awaits, producer_topic, refused_topic, silent_topic, accepted_topic, subscribe_topic, ack_topic, close_topic, unsubscribe_topic, detach_topic, redeliver_topic, granted_topic, sent_topic}
+use Rattle.node.proofs.Commands.{Awaits, by_command, granted_topic, sent_topic}
 use Rattle.node.proofs.Endings.{RespectedByFlushes, taking, finishing, flushing, reopen_cases, Reopened, Front, left_front, moves_grow, cutting}
 use Rattle.node.proofs.Queues.{Debt, Due, HandedOn, Pending, hands_on, makes_due, takes_back, refuses, debts_to, AreWithin, within-queued, within-collected, within-left, within-mapped, debts-handed_on, debts-made_due, debts-taken_back, debts-refused}
 use Rattle.node.proofs.Owed.{handed, same_handed, AllOwed, each_owed, queued_owed, due_owed, collected_owed, left_owed, turned_owed}
@@ -228,32 +226,16 @@ module _ (base : ℕ) (before : List Sent) where
         a.queues);
   }) a.ledger
 
-  -- after a SEND that wasn't accepted, or another command
+  -- after no SEND
   none_sent : (t u : Topic) → KeepsOn t u → Keeps base before (before ++ []) t u
   none_sent t u k = subst (λ (l : List Sent). Keeps base before l t u) (sym (append-nil before)) k
 
-  sends : (t : Topic) (who : ℕ) (send : Send) (u : Topic) → (t.failed ≡ false) × (u ≡ accepted t who send.producer_id send.sequence_id (bytes_of send.entry)) → Owes base before t
-      → Keeps base before (before ++ sent_at t.per_ledger (next_position t) who send ∷ []) t u
-  sends t who send u went o =
-      subst (λ (x : Topic). Keeps base before (before ++ sent_at t.per_ledger (next_position t) who send ∷ []) t x) (sym went.1) (accepts t who send went.0 o)
-
   commanded : (t : Topic) (who : ℕ) (c : TopicCommand) (a : Answer) (u : Topic) → TopicStep t who c a u → Owes base before t
       → Keeps base before (before ++ sent_by t.per_ledger (next_position t) who c a) t u
-  commanded t who (asked.Producer id request name) a u s o = none_sent t u (⊎_elim
-      (λ same. same_topic t u same o)
-      (λ more. subst (λ (x : Topic). KeepsOn t x) (sym more)
-      (still t (with_producer t who id name) (record { counted = o.counted; fits = o.fits; within = o.within; entries = o.entries; queues = o.queues }) refl))
-      (producer_topic a t who id request name u s))
-  commanded t who (asked.Send send) (Now r) u s o = none_sent t u (same_topic t u (refused_topic t who send r u s) o)
-  commanded t who (asked.Send send) Later u s o = sends t who send u (accepted_topic t who send u s) o
-  commanded t who (asked.Send send) Nothing u s o = none_sent t u (same_topic t u (silent_topic t who send u s) o)
-  commanded t who (asked.Send send) NoMemory u s o = none_sent t u (same_topic t u s.0 o)
-  commanded t who (asked.Subscribe subscribe) a u s o = none_sent t u (awaits t u who (subscribe_topic a t who subscribe u s) o)
-  commanded t who (asked.Ack ack) a u s o = none_sent t u (awaits t u who (ack_topic a t who ack u s) o)
-  commanded t who (asked.CloseProducer close) a u s o = none_sent t u (awaits t u who (close_topic a t who close u s) o)
-  commanded t who (asked.Unsubscribe unsubscribe) a u s o = none_sent t u (awaits t u who (unsubscribe_topic a t who unsubscribe u s) o)
-  commanded t who (asked.CloseConsumer close) a u s o = none_sent t u (awaits t u who (detach_topic a t who close u s) o)
-  commanded t who (asked.Redeliver redeliver) a u s o = none_sent t u (awaits t u who (redeliver_topic a t who redeliver u s) o)
+  commanded t who c a u s o = by_command t who (λ c a u. Keeps base before (before ++ sent_by t.per_ledger (next_position t) who c a) t u)
+      (λ c a u none more. subst (λ (l : List Sent). Keeps base before l t u) (sym (ap (λ (l : List Sent). before ++ l) (none t.per_ledger (next_position t)) ∙ append-nil before)) (awaits t u who more o))
+      (λ send u works is. subst (λ (x : Topic). Keeps base before (before ++ sent_at t.per_ledger (next_position t) who send ∷ []) t x) (sym is) (accepts t who send works o))
+      c a u s
 
   -- ---- sessions
 

@@ -4,6 +4,7 @@ use Rattle.std.proofs.lemmas.Bool.Decides.{nat_tests}
 use Rattle.std.proofs.lemmas.List.{set-get_or, length-map, length-set, get_or-set_other}
 use Rattle.std.specs.FinMap as map_of
 use Rattle.disk.specs.Disk.{Disk, Image, Leaves, Undisturbed}
+use Rattle.disk.specs.declared.file_id.FileId.{FileId}
 use Rattle.disk.specs.Contents.{Settled}
 use Rattle.disk.specs.Moments.{weaken}
 use Rattle.disk.specs.Areas.{OfTopic, Agree, Within, apart}
@@ -35,11 +36,13 @@ use Rattle.node.specs.Flights.{stage_of, phase_at, IsUnderWay}
 use Rattle.node.specs.Parts.{TakesPart, FinishesPart}
 use Rattle.node.proofs.UnderWay.{works, fits, takes_before, untaken}
 use Rattle.node.specs.State.{Stage, Resting, Taken, Written, stage_in, stage_after, place_in, over}
-use Rattle.node.specs.Standing.{StandsForBroker, StandsForSome, NamesLeft, view_in, phase_in, HeldStands, broker_of, TopicsStand}
+use Rattle.node.specs.Standing.{StandsForBroker, StandsForSome, NamesLeft, view_in, spot_of, phase_in, HeldStands, broker_of, TopicsStand}
 use Rattle.node.specs.Passing.{each_with, count_is, untouched, names_as, formed_of}
 use Rattle.node.specs.Naming.{IsFormed}
 use Rattle.node.specs.Brokers.{set_at}
-use Rattle.node.specs.Steps.{in_flush, flushing}
+use Rattle.node.specs.Steps.{Spot, flushing, amid_work}
+use Rattle.node.specs.declared.event.TopicEvent.{TopicEvent}
+use Rattle.node.specs.declared.event.TopicEvent.TheVariants as on_topic
 use Rattle.node.specs.Numbers.{IsNumbered, AreNumbered, StaysNumbered}
 use Rattle.node.specs.Lists.{get_set, get_map, map_set, at_map, got_set, set_beyond}
 
@@ -49,13 +52,17 @@ here stands b old new leaves = weaken _ _ old new leaves (λ files is. (b, refl,
 
 -- ---- another topic
 
--- a call on the files of one topic leaves those of another alone
-pub elsewhere : (number other : ℕ) (P : Image → Type 0) (old new : Disk) → other ≢ number → new.honest → Within (OfTopic number) P old new → Undisturbed (OfTopic other) old new
-elsewhere number other P old new differ honest w = record {
+-- a call on other files leaves these alone
+pub undisturbed_else : (area other : FileId → Type 0) (P : Image → Type 0) (old new : Disk) → new.honest → ((f : FileId) → other f → ¬ area f) → Within area P old new → Undisturbed other old new
+undisturbed_else area other P old new honest differ w = record {
   honest = λ h. honest;
-  seen = λ f own. w.seen f (apart number other (λ e. differ (sym e)) f own);
-  left = λ c may. let out = w.any_moment.now c may in (out.from, out.left, λ f own. out.elsewhere f (apart number other (λ e. differ (sym e)) f own));
+  seen = λ f own. w.seen f (differ f own);
+  left = λ c may. let out = w.any_moment.now c may in (out.from, out.left, λ f own. out.elsewhere f (differ f own));
 }
+
+-- a call on the files of one topic leaves those of another alone
+elsewhere : (number other : ℕ) (P : Image → Type 0) (old new : Disk) → other ≢ number → new.honest → Within (OfTopic number) P old new → Undisturbed (OfTopic other) old new
+elsewhere number other P old new differ honest w = undisturbed_else (OfTopic number) (OfTopic other) P old new honest (λ f own. apart number other (λ e. differ (sym e)) f own) w
 
 module _ (stands : ℕ → Image → Entries → Kept → Type 0) (local : (t : ℕ) (a b : Image) (ledger : Entries) (k : Kept) → Agree (OfTopic t) a b → stands t a ledger k → stands t b ledger k) where
   -- files that agree stand for the same
@@ -86,12 +93,6 @@ place_there length' number low = ap (λ b. cond b (Some number) None) (let is : 
 -- the number of a topic that is there
 pub placed : (topics : List Topic) (number : ℕ) → number < length topics → place_in topics number ≡ Some number
 placed topics number low = place_there (length topics) number low
-
-not_placed' : (length' number : ℕ) → ¬ (number < length') → cond (nat_lt number length') (Some number) None ≡ None
-not_placed' length' number high = ap (λ b. cond b (Some number) None) (let is : nat_lt number length' ≡ false = grind (arith, nat_tests) in is)
-
-pub unplaced : (topics : List Topic) (number : ℕ) → ¬ (number < length topics) → place_in topics number ≡ None
-unplaced topics number high = not_placed' (length topics) number high
 
 -- a broker with the topic that it has
 pub same_topic : (b : Broker) (number : ℕ) → with_topic b number (topic_at b number) ≡ b
@@ -165,12 +166,12 @@ module _ {T : Type 0} {store : StoreMembers T} (b : Broker) (items : List (Held 
       ap (λ (l : List Stage). stage_in l other) stages ∙ get_or-set_other (map (λ (x : Held T store). stage_of x.flight) items) number other (stage_of next.flight) Resting differ
 
   -- the topic and its flush are as before
-  pub unchanged : next.core ≡ h.core → next.flight ≡ h.flight
+  pub unchanged : next.core ≡ h.core → stage_of next.flight ≡ stage_of h.flight
       → (over b (map (λ (x : Held T store). x.core) (slice_set items number next)) ≡ over b (map (λ (x : Held T store). x.core) items))
       × (map (λ (x : Held T store). stage_of x.flight) (slice_set items number next) ≡ map (λ (x : Held T store). stage_of x.flight) items)
-  unchanged core flight = (
+  unchanged core stage = (
     becomes ∙ ap (λ x. with_topic (over b (map (λ (x : Held T store). x.core) items)) number x) (core ∙ sym topic_was) ∙ same_topic (over b (map (λ (x : Held T store). x.core) items)) number,
-    stages ∙ ap (λ s. slice_set (map (λ (x : Held T store). stage_of x.flight) items) number s) (ap (λ f. stage_of f) flight ∙ sym stage_was) ∙ set-get_or (map (λ (x : Held T store). stage_of x.flight) items) number Resting,
+    stages ∙ ap (λ s. slice_set (map (λ (x : Held T store). stage_of x.flight) items) number s) (stage ∙ sym stage_was) ∙ set-get_or (map (λ (x : Held T store). stage_of x.flight) items) number Resting,
   )
 
   -- they keep their numbers
@@ -185,11 +186,20 @@ held_same {store = store} h next d stores core flight s =
     (subst (λ f. Standing store.stands (phase_at next.core.failed (stage_of f)) next.core (view_in h) d) (sym flight)
     (subst (λ u. Standing store.stands (phase_at u.failed (stage_of h.flight)) u (view_in h) d) (sym core) s))
 
+pub same_spot : {T : Type 0} {store : StoreMembers T} (h next : Held T store) (f f' : ℕ) → next.core ≡ h.core → next.flight ≡ h.flight → f' ≡ f → spot_of next f' ≡ spot_of h f
+same_spot h next f f' core flight calm =
+    let spot : Topic → Stage → ℕ → Spot = λ t stage faults. record { topic = t; stage = stage; faults = faults } in
+    ap (λ t. spot t (stage_of next.flight) f') core ∙ ap (λ x. spot h.core (stage_of x) f') flight ∙ ap (λ n. spot h.core (stage_of h.flight) n) calm
+
 -- a flush leaves the number of entry ids
 flushing_ledgers : (fails nothing : Bool) (t : Topic) → (flushing fails nothing t).per_ledger ≡ t.per_ledger
 flushing_ledgers true nothing t = refl
 flushing_ledgers false true t = refl
 flushing_ledgers false false t = refl
+
+amid_ledgers : (event : TopicEvent) (t : Topic) → (amid_work event t).per_ledger ≡ t.per_ledger
+amid_ledgers on_topic.Flush t = flushing_ledgers t.failed (has_no_flush t) t
+amid_ledgers _ t = refl
 
 -- a broker of which one topic changes
 formed_changed : (b : Broker) (number : ℕ) (u : Topic) → u.per_ledger ≡ b.per_ledger → IsFormed b → IsFormed (with_topic b number u)
@@ -202,11 +212,7 @@ formed_changed b number u ledgers formed = record {
 
 -- a call on the files of a topic leaves the catalog's alone
 pub names_alone : (number : ℕ) (P : Image → Type 0) (old new : Disk) → new.honest → Within (OfTopic number) P old new → Undisturbed Own old new
-names_alone number P old new honest w = record {
-  honest = λ h. honest;
-  seen = λ f own. w.seen f (subst (λ x. ¬ OfTopic number x) (sym own) (λ no. no));
-  left = λ c may. let out = w.any_moment.now c may in (out.from, out.left, λ f own. out.elsewhere f (subst (λ x. ¬ OfTopic number x) (sym own) (λ no. no)));
-}
+names_alone number P old new honest w = undisturbed_else (OfTopic number) Own P old new honest (λ f own. subst (λ x. ¬ OfTopic number x) (sym own) (λ no. no)) w
 
 pub settled_still : (catalog : Catalog) (names : Names) (old new : Disk) → Undisturbed Own old new → Settled (NamesHeld catalog) old names → Settled (NamesHeld catalog) new names
 settled_still catalog names old new u x = record {
@@ -227,9 +233,6 @@ module _ {T S : Type 0} {store : StoreMembers T} where
   pub there : (t : Topics T S store) (number : ℕ) → number < length t.held.items → place_in (broker_of t).topics number ≡ Some number
   there t number low = placed (broker_of t).topics number (omega (arith, count_is t, low))
 
-  pub not_there : (t : Topics T S store) (number : ℕ) → ¬ (number < length t.held.items) → place_in (broker_of t).topics number ≡ None
-  not_there t number high = unplaced (broker_of t).topics number (λ low. high (omega (arith, count_is t, low)))
-
   -- as the store numbers its files
   pub of_number : (t : Topics T S store) (number : ℕ) (h : Held T store) → slice_get t.held.items number ≡ Some h → (P : ℕ → Type 0) → P (view_in h).topic → P number
   of_number t number h was P is = subst P (t.numbered number h was).0 is
@@ -244,12 +247,6 @@ module _ {T S : Type 0} {store : StoreMembers T} where
   names_beside t number next files is =
       names_as store.stands t.doubtful (broker_of t) (over (broker_of t) (map (λ (x : Held T store). x.core) (slice_set t.held.items number next))) files refl refl
       (length-map (slice_set t.held.items number next) (λ (x : Held T store). x.core) ∙ length-set t.held.items number next ∙ sym (count_is t)) is
-
-  -- each topic stands beside one that stands again, on the same device
-  pub stand_beside : (disk : S → Disk) (t : Topics T S store) (number : ℕ) (h next : Held T store) → slice_get t.held.items number ≡ Some h → TopicsStand disk t → HeldStands next (disk t.shelf)
-      → (j : ℕ) (x : Held T store) → slice_get (slice_set t.held.items number next) j ≡ Some x → HeldStands x (disk t.shelf)
-  stand_beside disk t number h next was s stands =
-      each_with (λ j x. HeldStands x (disk t.shelf)) t.held.items (slice_set t.held.items number next) number next refl stands (λ j x differ is. s.each j x is)
 
   -- an event of a topic that isn't there
   pub beyond_leaves : (disk : S → Disk) (t : Topics T S store) (number : ℕ) → ¬ (number < length t.held.items) → (amid : Topic) → TopicsStand disk t → Leaves (StandsForBroker store.stands (with_topic (broker_of t) number amid)) (disk t.shelf) (disk t.shelf)
@@ -300,15 +297,9 @@ module _ {T S : Type 0} {store : StoreMembers T} where
           (get_set (map (λ (y : Held T store). y.core) t.held.items) number j amid topic is);
     })
 
-    -- where the topic stays what it is to a crash
-    pub leaves_same : (d : Disk) → Within (OfTopic number) (StandsFor (store.stands number) (IsLeft h.core)) (disk t.shelf) d → TopicsStand disk t → Leaves (StandsForBroker store.stands (broker_of t)) (disk t.shelf) d
-    leaves_same d w s =
-        subst (λ b. Leaves (StandsForBroker store.stands b) (disk t.shelf) d) (ap (λ x. with_topic (broker_of t) number x) (sym (topic_was (broker_of t) t.held.items number h next was)) ∙ same_topic (broker_of t) number)
-        (leaves_then h.core refl d w s)
-
-    -- while a flush of it goes on
-    pub flush_leaves : (d : Disk) → Within (OfTopic (view_in h).topic) (StandsFor (store.stands (view_in h).topic) (IsLeft (in_flush h.core))) (disk t.shelf) d → TopicsStand disk t
-        → Leaves (StandsForBroker store.stands (with_topic (broker_of t) number (in_flush (topic_at (broker_of t) number)))) (disk t.shelf) d
-    flush_leaves d w s =
-        subst (λ x. Leaves (StandsForBroker store.stands (with_topic (broker_of t) number (in_flush x))) (disk t.shelf) d) (sym (topic_was (broker_of t) t.held.items number h next was))
-        (leaves_then (in_flush h.core) (flushing_ledgers h.core.failed (has_no_flush h.core) h.core) d (of_number_within t number h was (IsLeft (in_flush h.core)) (disk t.shelf) d w) s)
+    -- while an event of the topic goes on
+    pub work_leaves : (event : TopicEvent) (d : Disk) → Within (OfTopic (view_in h).topic) (StandsFor (store.stands (view_in h).topic) (IsLeft (amid_work event h.core))) (disk t.shelf) d → TopicsStand disk t
+        → Leaves (StandsForBroker store.stands (with_topic (broker_of t) number (amid_work event (topic_at (broker_of t) number)))) (disk t.shelf) d
+    work_leaves event d w s =
+        subst (λ x. Leaves (StandsForBroker store.stands (with_topic (broker_of t) number (amid_work event x))) (disk t.shelf) d) (sym (topic_was (broker_of t) t.held.items number h next was))
+        (leaves_then (amid_work event h.core) (amid_ledgers event h.core) d (of_number_within t number h was (IsLeft (amid_work event h.core)) (disk t.shelf) d w) s)

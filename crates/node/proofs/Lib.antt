@@ -15,6 +15,7 @@ pub mod Lives
 pub mod Carrying
 pub mod Saying
 pub mod Playing
+pub mod Causing
 pub mod Unfolding
 pub mod Sound
 pub mod Endings

@@ -32,7 +32,7 @@ use Rattle.node.specs.Growing.{gains_none, gained_at}
 use Rattle.node.specs.Brokers.{one_more_at}
 use Rattle.node.specs.Lists.{get_push}
 use Rattle.std.proofs.lemmas.Option.{slice_get_within}
-use Rattle.node.proofs.Frames.{standing_still, same_files, names_alone, settled_still}
+use Rattle.node.proofs.Frames.{standing_still, same_files, undisturbed_else, names_alone, settled_still}
 
 -- ---- what brokers become
 
@@ -113,14 +113,6 @@ module _ (stands : ℕ → Image → Entries → Kept → Type 0) (local : (t : 
 -- a call that reads leaves files alone
 pub undisturbed_read : (area : FileId → Type 0) (old new : Disk) → Counted old new → Leaves old.may_leave old new → Agree area old.seen new.seen → Undisturbed area old new
 undisturbed_read area old new kept leaves same = record { honest = kept.honest; seen = same; left = λ c may. (c, leaves.now c may, λ f own. refl) }
-
--- and one that works on other files
-pub undisturbed_else : (area other : FileId → Type 0) (P : Image → Type 0) (old new : Disk) → new.honest → ((f : FileId) → other f → ¬ area f) → Within area P old new → Undisturbed other old new
-undisturbed_else area other P old new honest differ w = record {
-  honest = λ h. honest;
-  seen = λ f own. w.seen f (differ f own);
-  left = λ c may. let out = w.any_moment.now c may in (out.from, out.left, λ f own. out.elsewhere f (differ f own));
-}
 
 -- two calls that read, one after the other
 pub both_kept : (a b c : Disk) → Counted a b → Counted b c → Counted a c

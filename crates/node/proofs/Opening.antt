@@ -4,7 +4,7 @@ use Rattle.std.proofs.lemmas.Bool.{cases_lt}
 use Rattle.std.proofs.lemmas.List.{length-append}
 use Rattle.std.specs.Prelude.{IfErr, OnOk, IsErrOf}
 use Rattle.std.specs.FinMap as map
-use Rattle.disk.specs.Disk.{Disk, Image, Same, Leaves, Failed, Kept as Counted}
+use Rattle.disk.specs.Disk.{Disk, Image, Leaves, Failed, Kept as Counted}
 use Rattle.gated_log.specs.declared.refusal.Refusal.{Refusal}
 use Rattle.gated_log.specs.declared.refusal.Refusal.TheVariants as refusal
 use Rattle.managed_ledger.specs.Entries.{Entries}
@@ -28,8 +28,10 @@ use Rattle.std.proofs.lemmas.List.{get_or_past}
 use Rattle.node.specs.Flights.{stage_of, phase_at}
 use Rattle.node.specs.Standing.{StandsForBroker, NamesLeft, AtRest, HeldStands, phase_in}
 use Rattle.node.specs.declared.held.Held.{Held}
-use Rattle.node.specs.Opening.{ReopenTells, IsJustOpened, IsFirstFault}
+use Rattle.node.specs.Opening.{ReopenTells, TellsOn, IsJustOpened, IsFirstFault}
 use Rattle.node.specs.Runs.{StateCrash}
+use Rattle.node.specs.declared.event.TopicEvent.{TopicEvent}
+use Rattle.node.specs.declared.event.TopicEvent.TheVariants as on_topic
 use Rattle.node.specs.declared.event.Verdict.{Verdict}
 use Rattle.node.specs.declared.event.Verdict.TheVariants as verdict
 
@@ -42,22 +44,10 @@ module _ (stands : ℕ → Image → Entries → Kept → Type 0) (n : ℕ) (t :
   is_kept : t.kept ≡ v.kept
   is_kept = ap (λ (x : Topic). x.kept) as_opened
 
-  pub is_new : t ≡ opened n t.ledger (each slot_of_entry t.ledger) t.kept
-  is_new = as_opened ∙ ap (λ k. opened n t.ledger (each slot_of_entry t.ledger) k) (sym is_kept)
-
   pub opened_standing : (d : Disk) → AreLaws stands v → Settled v d t.ledger v.kept → Match Before t v → Standing stands (resting t.failed) t v d
   opened_standing d laws hold matched =
       subst (λ b. Standing stands (resting b) t v d) (sym (ap (λ (x : Topic). x.failed) as_opened))
       (reopened_standing stands (opened n [] [] map.empty) t v d t.ledger v.kept laws as_opened matched hold)
-
-  -- the files stood for what it has
-  pub opened_stands : (topic : ℕ) (before d : Disk) → AreLaws stands v → v.topic ≡ topic → Same before.seen d.seen → Settled v d t.ledger v.kept → stands topic before.seen t.ledger t.kept
-  opened_stands topic before d laws number same hold =
-      subst (λ (i : Image). stands topic i t.ledger t.kept) same
-      (subst (λ m. stands m d.seen t.ledger t.kept) number (subst (λ k. stands v.topic d.seen t.ledger k) (sym is_kept) (laws.stands d.seen t.ledger v.kept hold.settled.now)))
-
-  pub opened_crash : (was : Topic) → was.per_ledger ≡ n → IsLeft was t.ledger t.kept → TopicCrash was t
-  opened_crash was numbered left = record { left = left; again = is_new ∙ ap (λ m. opened m t.ledger (each slot_of_entry t.ledger) t.kept) (sym numbered) }
 
 -- a topic of a node, at rest over its store
 pub rests_so : {T : Type 0} {store : StoreMembers T} (h : Held T store) (core : Topic) (stores : T) (d : Disk) → (h.core ≡ core) × (h.stores ≡ stores) × (h.flight ≡ None) → Standing store.stands (resting core.failed) core (store.view stores) d → HeldStands h d
@@ -225,8 +215,13 @@ module _ (stands : ℕ → Image → Entries → Kept → Type 0) (faulty : ℕ 
         subst (λ (r : Refusal). (r ≡ refusal.NoMemory) ⊎ ((r ≡ refusal.Device) ⊎ (faulty number before.seen r ⊎ IsShorter stands number old before.seen r))) same (refused honest);
   }
 
+-- an event of a topic that isn't there tells nothing of an opening
+pub unknown_on : (stands : ℕ → Image → Entries → Kept → Type 0) (faulty : ℕ → Image → Refusal → Type 0) (event : TopicEvent) (number : ℕ) (old new : Topic) (before after : Disk) → TellsOn stands faulty event number old new before after verdict.Unknown
+unknown_on stands faulty on_topic.Reopen number old new before after = unknown_tells stands faulty number old new before after
+unknown_on stands faulty _ number old new before after = tt
+
 -- said of the topics of two brokers
-pub tells_at : (stands : ℕ → Image → Entries → Kept → Type 0) (faulty : ℕ → Image → Refusal → Type 0) (number : ℕ) (t u was now : Topic) → was ≡ t → now ≡ u → (before after : Disk) (told : Verdict) → ReopenTells stands faulty number t u before after told
-    → ReopenTells stands faulty number was now before after told
-tells_at stands faulty number t u was now is is_now before after told tells =
-    subst (λ x. ReopenTells stands faulty number x now before after told) (sym is) (subst (λ x. ReopenTells stands faulty number t x before after told) (sym is_now) tells)
+pub tells_at : (stands : ℕ → Image → Entries → Kept → Type 0) (faulty : ℕ → Image → Refusal → Type 0) (event : TopicEvent) (number : ℕ) (t u was now : Topic) → was ≡ t → now ≡ u → (before after : Disk) (told : Verdict)
+    → TellsOn stands faulty event number t u before after told → TellsOn stands faulty event number was now before after told
+tells_at stands faulty event number t u was now is is_now before after told tells =
+    subst (λ x. TellsOn stands faulty event number x now before after told) (sym is) (subst (λ x. TellsOn stands faulty event number t x before after told) (sym is_now) tells)

@@ -326,34 +326,36 @@ takes_due b c at who r s =
     let there : topic_at c at ≡ u = ap (λ (x : Broker). topic_at x at) s.1 ∙ get_or-set_same b.topics at u (fresh b.per_ledger) within in
     record { plain = refl; first = s.0 ∙ ap (λ (x : Topic). r ∷ due_to who x.queues) there; taken = refl }
 
--- the first due reply of a topic goes out, or finds no memory
+abbrev handed_to : Client → Outgoing → Handed
+handed_to client message = record { session = client.number; reply = message.reply; entry = message.entry }
+
+-- what a topic hands to the session goes out, or finds no memory
+hands_out : (at : ℕ) (old new : Play) (message : Outgoing) (u : Topic) → at < length old.broker.topics → Talk (topic_at old.broker at) (handed_to old.client message ∷ []) u → Talk (topic_at old.broker at) [] u
+    → new.broker ≡ with_topic old.broker at u → Says old.client old.out message new.client new.out → Plays old new
+hands_out at old new message u within tells loses is (inl went) = record {
+  number = ap (λ (c : Client). c.number) went.0;
+  bytes = frame_of message;
+  out = went.1;
+  unfolds = becomes old.client.number old.broker (with_topic old.broker at u) new.broker (frame_of message) (frame_of message)
+      (record {
+        said = From at (handed_to old.client message) ∷ [];
+        written = one_frame message;
+        bounded = (went.2, tt);
+        heard = (refl, tt);
+        at_once = tt;
+        each = λ number. told_at old.broker.topics at number u (fresh old.broker.per_ledger) (handed_to old.client message) within tells;
+      }) refl is;
+}
+hands_out at old new message u within tells loses is (inr lost) = stays old new (ap (λ (c : Client). c.number) lost.0) lost.1 (placed old.client.number old.broker new.broker at u loses is)
+
+-- so does the first due reply of a topic
 collects_from : (at : ℕ) (old new : Play) (r : Reply) → CollectedAt old.broker at old.client.number (Some r) new.broker → Says old.client old.out (plain r) new.client new.out → Plays old new
-collects_from at old new r takes (inl went) =
-    let handed : Handed = record { session = old.client.number; reply = r; entry = [] } in
+collects_from at old new r takes says =
+    let handed = handed_to old.client (plain r) in
     let t = topic_at old.broker at in
     let u = collected t old.client.number r in
     let taken : Takes t handed u = takes_due old.broker new.broker at old.client.number r takes in
-    record {
-      number = ap (λ (c : Client). c.number) went.0;
-      bytes = frame_of (plain r);
-      out = went.1;
-      unfolds = becomes old.client.number old.broker (with_topic old.broker at u) new.broker (frame_of (plain r)) (frame_of (plain r))
-          (record {
-            said = From at handed ∷ [];
-            written = one_frame (plain r);
-            bounded = (went.2, tt);
-            heard = (refl, tt);
-            at_once = tt;
-            each = λ number. told_at old.broker.topics at number u (fresh old.broker.per_ledger) handed
-                (is_there old.broker.topics at old.client.number old.broker.per_ledger r _ takes.0) (one_talk t (Tell handed) u taken refl);
-          }) refl takes.1;
-    }
-collects_from at old new r takes (inr lost) =
-    let handed : Handed = record { session = old.client.number; reply = r; entry = [] } in
-    let t = topic_at old.broker at in
-    let u = collected t old.client.number r in
-    let taken : Takes t handed u = takes_due old.broker new.broker at old.client.number r takes in
-    stays old new (ap (λ (c : Client). c.number) lost.0) lost.1 (placed old.client.number old.broker new.broker at u (one_talk t (Lose handed) u taken refl) takes.1)
+    hands_out at old new (plain r) u (is_there old.broker.topics at old.client.number old.broker.per_ledger r _ takes.0) (one_talk t (Tell handed) u taken refl) (one_talk t (Lose handed) u taken refl) takes.1 says
 
 collects : (count : ℕ) (old new : Play) → Collects count old new → Plays old new
 collects zero old new s = still_play old new s
@@ -376,31 +378,15 @@ is_served [] at n key i admits = absurd (admits_none (kept.entries kept.empty) k
 is_served (x ∷ xs) zero n key i admits = omega arith
 is_served (x ∷ xs) (suc at) n key i admits = omega (arith, is_served xs at n key i admits)
 
--- a message goes out, or finds no memory
+-- so does a message
 sends_from : (at id : ℕ) (old new : Play) (message : Outgoing) → DispatchAt old.broker at old.client.number id (Ok (Some message)) new.broker → Says old.client old.out message new.client new.out → Plays old new
-sends_from at id old new message takes (inl went) =
-    let handed : Handed = record { session = old.client.number; reply = message.reply; entry = message.entry } in
+sends_from at id old new message takes says =
+    let handed = handed_to old.client message in
     let t = topic_at old.broker at in
     let u = topic_at new.broker at in
     let sent = takes.step in
-    record {
-      number = ap (λ (c : Client). c.number) went.0;
-      bytes = frame_of message;
-      out = went.1;
-      unfolds = becomes old.client.number old.broker (with_topic old.broker at u) new.broker (frame_of message) (frame_of message)
-          (record {
-            said = From at handed ∷ [];
-            written = one_frame message;
-            bounded = (went.2, tt);
-            heard = (refl, tt);
-            at_once = tt;
-            each = λ number. told_at old.broker.topics at number u (fresh old.broker.per_ledger) handed
-                (is_served old.broker.topics at old.broker.per_ledger (key_of old.client.number id) sent.0 sent.1.admitted) (one_talk t (Deliver id handed) u takes.step refl);
-          }) refl takes.others;
-    }
-sends_from at id old new message takes (inr lost) =
-    let handed : Handed = record { session = old.client.number; reply = message.reply; entry = message.entry } in
-    stays old new (ap (λ (c : Client). c.number) lost.0) lost.1 (placed old.client.number old.broker new.broker at (topic_at new.broker at) (one_talk (topic_at old.broker at) (Miss id handed) (topic_at new.broker at) takes.step refl) takes.others)
+    hands_out at old new message u (is_served old.broker.topics at old.broker.per_ledger (key_of old.client.number id) sent.0 sent.1.admitted)
+    (one_talk t (Deliver id handed) u takes.step refl) (one_talk t (Miss id handed) u takes.step refl) takes.others says
 
 messages : (consumer : Entry) (count : ℕ) (old new : Play) → Sends consumer count old new → Plays old new
 messages consumer zero old new s = still_play old new s

@@ -1,29 +1,16 @@
 -- Runs, one event longer.
-use Rattle.std.proofs.Common.{◌≡◌, inl, inr, List, [], ◌∷◌, ◌++◌, ℕ, suc, length, take, refl, subst, sym, ap, ◌∙◌, append_assoc}
+use Rattle.std.proofs.Common.{◌≡◌, inl, inr, List, [], ◌∷◌, ◌++◌, ℕ, length, take, refl, sym, ap, ◌∙◌, append_assoc}
 use Rattle.std.proofs.Math.Seq.{take-append_seam}
 use Rattle.disk.specs.Disk.{Disk, Image, Leaves}
 use Rattle.disk.specs.Moments.{joins, starts}
 use Rattle.managed_ledger.specs.Entries.{Entries}
 use Rattle.records.specs.Maps.{Kept}
 use Rattle.node.specs.State.{State}
-use Rattle.node.specs.Steps.{BrokerStep, Amid}
+use Rattle.node.specs.Steps.{Amid}
 use Rattle.node.specs.Standing.{StandsForBroker, StandsForSome}
 use Rattle.node.specs.Runs.{Run, Reached}
 use Rattle.node.specs.declared.event.Event.{Event}
 use Rattle.node.specs.declared.event.Output.{Output}
-
-pub Run-push : (a : State) (events : List Event) (outputs : List Output) (m : State) (event : Event) (output : Output) (b : State) → Run a events outputs m → BrokerStep m event output b → Run a (events ++ event ∷ []) (outputs ++ output ∷ []) b
-Run-push a [] [] m event output b h s = let P : State → Type 0 = λ x. BrokerStep x event output b in (b, subst P h s, refl)
-Run-push a (e ∷ es) (o ∷ os) m event output b h s = (h.0, h.1, Run-push h.0 es os m event output b h.2 s)
-Run-push a [] (o ∷ os) m event output b h s = absurd h
-Run-push a (e ∷ es) [] m event output b h s = absurd h
-
--- there are as many outputs as events
-pub run-length : (a : State) (events : List Event) (outputs : List Output) (b : State) → Run a events outputs b → length outputs ≡ length events
-run-length a [] [] b h = refl
-run-length a (e ∷ es) (o ∷ os) b h = ap (λ n. suc n) (run-length h.0 es os b h.2)
-run-length a [] (o ∷ os) b h = absurd h
-run-length a (e ∷ es) [] b h = absurd h
 
 -- one item more of a list
 pub one_more : {A : Type 0} (all done : List A) (x : A) (rest rest' : List A) → all ≡ done ++ rest → rest ≡ x ∷ rest' → all ≡ (done ++ x ∷ []) ++ rest'

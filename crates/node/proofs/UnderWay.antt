@@ -1,5 +1,5 @@
 -- A flush that comes in parts, beside what else its topic does.
-use Rattle.std.proofs.Common.{◌≡◌, ℕ, ◌≤◌, Bool, true, false, ◌&&◌, ◌||◌, not, nat_eq, min, is_some, Option, Some, None, Result, Ok, Err, length, refl, sym, ap, subst, ◌∙◌, arith}
+use Rattle.std.proofs.Common.{◌≡◌, ℕ, ◌≤◌, Bool, true, false, ◌&&◌, ◌||◌, not, nat_eq, min, is_some, Option, Some, None, Result, Err, length, refl, sym, ap, subst, ◌∙◌, arith}
 use Rattle.std.proofs.lemmas.Bool.{true≢false, false≢true}
 use Rattle.std.proofs.lemmas.Bool.Decides.{nat_tests}
 use Rattle.std.proofs.lemmas.List.{length-take}
@@ -8,7 +8,7 @@ use Rattle.topic_stores.specs.declared.batch.Batch.{Batch}
 use Rattle.topic_stores.specs.declared.error.WriteError.{WriteError}
 use Rattle.topic_stores.specs.declared.error.WriteError.TheVariants.{Device, NoMemory}
 use Rattle.topic_core.specs.State.{Topic, entries_of, changes_of}
-use Rattle.topic_core.specs.Flush.{is_idle, has_no_flush, FlushStep, FlushIn, TakeStep, FinishStep}
+use Rattle.topic_core.specs.Flush.{is_idle, has_no_flush, FlushStep, FlushIn, TakeStep}
 use Rattle.topic_core.specs.Standing.{Phase, Before, phase_then, resting, IsFor}
 use Rattle.node.specs.Flights.{stage_of, phase_at, batch_of, IsUnderWay}
 use Rattle.node.specs.declared.flight.Flight.{Flight}
@@ -89,15 +89,3 @@ takes_before t flight u works some = ap (λ f. phase_at t.failed (stage_of f)) (
 pub untaken : (t : Topic) (why : WriteError) (new : Topic) → TakeStep t (Err why) new → new ≡ t
 untaken t Device new step = step.1
 untaken t NoMemory new step = step.2
-
-pub take_numbers : (t : Topic) (result : Result (Option Batch) WriteError) (new : Topic) → TakeStep t result new → new.per_ledger ≡ t.per_ledger
-take_numbers t (Ok None) new step = ap (λ (x : Topic). x.per_ledger) step.2
-take_numbers t (Ok (Some batch)) new step = ap (λ (x : Topic). x.per_ledger) step.2
-take_numbers t (Err why) new step = ap (λ (x : Topic). x.per_ledger) (untaken t why new step)
-
--- ---- Finish
-
-pub finish_numbers : (old : Topic) (written : Result (Unit {0}) WriteError) (result : Result ℕ WriteError) (new : Topic) → FinishStep old written result new → new.per_ledger ≡ old.per_ledger
-finish_numbers old (Ok done) result new step = ap (λ (t : Topic). t.per_ledger) step.1
-finish_numbers old (Err NoMemory) result new step = ap (λ (t : Topic). t.per_ledger) step.1
-finish_numbers old (Err Device) result new step = ap (λ (t : Topic). t.per_ledger) step.1

@@ -1,69 +1,69 @@
 -- An event of one topic of a node, as a step of the node.
-use Rattle.std.proofs.Common.{◌≡◌, ◌≢◌, ℕ, ◌<◌, ◌≤◌, false, Some, Result, Err, List, map, length, slice_get, slice_set, refl, sym, subst, ◌∙◌, arith}
+use Rattle.std.proofs.Common.{◌≡◌, ⊎_elim, inl, inr, ℕ, ◌<◌, ◌≤◌, Some, List, [], map, length, slice_get, slice_set, refl, sym, ap, subst, ◌∙◌, arith}
 use Rattle.std.proofs.lemmas.List.{length-map}
-use Rattle.gated_log.specs.declared.refusal.Refusal.{Refusal}
-use Rattle.gated_log.specs.declared.refusal.Refusal.TheVariants as refusal
+use Rattle.topic_core.specs.State.{Topic}
 use Rattle.topic_stores.specs.declared.store.TopicStore.{Ghosts as StoreMembers}
-use Rattle.topic_stores.specs.declared.error.WriteError.{WriteError}
-use Rattle.topic_stores.specs.declared.error.WriteError.TheVariants.{Device}
-use Rattle.topic_core.specs.Flush as topics
-use Rattle.topic_core.specs.Crashes as topics_again
 use Rattle.session.specs.Client.{Client}
 use Rattle.session.specs.Broker.{Broker}
-use Rattle.node.specs.declared.event.Verdict.TheVariants as verdict
+use Rattle.node.specs.declared.event.Output.{Output}
+use Rattle.node.specs.declared.event.TopicEvent.{TopicEvent}
+use Rattle.node.specs.declared.event.Verdict.{Verdict}
 use Rattle.node.specs.declared.held.Held.{Held}
 use Rattle.node.specs.Flights.{stage_of}
-use Rattle.node.specs.Parts.{TakesPart, FinishesPart}
-use Rattle.node.specs.State.{State, Taken, Written, over, place_in, verdict_for, verdict_of_flush}
-use Rattle.node.specs.Steps.{FlushStep, TakeStep, WriteStep, FinishStep, ReopenStep}
+use Rattle.node.specs.State.{State, Stage, over, place_in, stage_at}
+use Rattle.node.specs.Steps.{Spot, spot_at, WorksAt, IsIdle, HeldStep, WorkStep}
+use Rattle.node.specs.Standing.{spot_of}
 use Rattle.node.proofs.Frames.{placed, topic_was, stage_was, stage_now, becomes, stage_else, unchanged}
-use Rattle.node.proofs.Steps.{state_with, answer, flushes, takes, writes, finishes, reopens, writes_at, finishes_at, unwritten, unfinished, same_state}
+
+-- an answer without bytes
+abbrev answer : Verdict → Output
+answer result = record { bytes = []; result = result }
 
 module _ {T : Type 0} {store : StoreMembers T} (b : Broker) (items : List (Held T store)) (k : ℕ) (h next : Held T store) (was : slice_get items k ≡ Some h) (low : k < length items) (sessions : List Client) (used f : ℕ) where
-  there : place_in (map (λ (x : Held T store). x.core) items) k ≡ Some k
-  there = placed (map (λ (x : Held T store). x.core) items) k (omega (arith, length-map items (λ (x : Held T store). x.core), low))
+  abbrev state_with : Broker → List Stage → ℕ → State
+  state_with broker stages faults = record { broker = broker; stages = stages; sessions = sessions; used = used; faults = faults }
 
   abbrev old : State
-  old = state_with (over b (map (λ (x : Held T store). x.core) items)) (map (λ (x : Held T store). stage_of x.flight) items) sessions used f
+  old = state_with (over b (map (λ (x : Held T store). x.core) items)) (map (λ (x : Held T store). stage_of x.flight) items) f
 
   abbrev new : ℕ → State
-  new f' = state_with (over b (map (λ (x : Held T store). x.core) (slice_set items k next))) (map (λ (x : Held T store). stage_of x.flight) (slice_set items k next)) sessions used f'
+  new f' = state_with (over b (map (λ (x : Held T store). x.core) (slice_set items k next))) (map (λ (x : Held T store). stage_of x.flight) (slice_set items k next)) f'
 
-  pub flushed : (f' : ℕ) → f ≤ f' → (result : Result ℕ WriteError) → topics.FlushStep h.core result next.core → stage_of next.flight ≡ stage_of h.flight → (h.core.failed ≡ false → result ≡ Err Device → f < f')
-      → FlushStep (place_in (map (λ (x : Held T store). x.core) items) k) old (answer (verdict_of_flush result)) (new f')
-  flushed f' more result step same cause = flushes old (new f') k h.core next.core there (topic_was b items k h next was) (becomes b items k h next was) (stage_else b items k h next was) refl refl more
-      result step (stage_now b items k h next was ∙ same ∙ sym (stage_was b items k h next was)) cause
+  within : k < length (map (λ (x : Held T store). x.core) items)
+  within = omega (arith, length-map items (λ (x : Held T store). x.core), low)
 
-  pub taken : (result : Result (Unit {0}) WriteError) → TakesPart h.core (stage_of h.flight) result next.core (stage_of next.flight)
-      → TakeStep (place_in (map (λ (x : Held T store). x.core) items) k) old (answer (verdict_of_flush result)) (new f)
-  taken result part = takes old (new f) k h.core next.core there (topic_was b items k h next was) (becomes b items k h next was) (stage_else b items k h next was) refl refl (omega arith)
-      result (stage_of h.flight) (stage_of next.flight) (stage_was b items k h next was) (stage_now b items k h next was) part
+  -- nothing changed
+  as_before : (f' : ℕ) → spot_of next f' ≡ spot_of h f → new f' ≡ old
+  as_before f' same =
+      let u = unchanged b items k h next was (ap (λ (s : Spot). s.topic) same) (ap (λ (s : Spot). s.stage) same) in
+      ap (λ x. state_with x (map (λ (x : Held T store). stage_of x.flight) (slice_set items k next)) f') u.0 ∙ ap (λ s. state_with old.broker s f') u.1 ∙ ap (λ n. state_with old.broker old.stages n) (ap (λ (s : Spot). s.faults) same)
 
-  pub written : (f' : ℕ) → f ≤ f' → (result : Result (Unit {0}) WriteError) → next.core ≡ h.core → stage_of h.flight ≡ Taken → stage_of next.flight ≡ Written result → (result ≡ Err Device → f < f')
-      → WriteStep (place_in (map (λ (x : Held T store). x.core) items) k) old (answer (verdict_of_flush result)) (new f')
-  written f' more result same before after cause = writes old (new f') k h.core next.core there (topic_was b items k h next was) (becomes b items k h next was) (stage_else b items k h next was) refl refl more
-      result same (stage_was b items k h next was ∙ before) (stage_now b items k h next was ∙ after) cause
+  spot_was : spot_at old k ≡ spot_of h f
+  spot_was =
+      ap (λ (t : Topic). let x : Spot = record { topic = t; stage = stage_at old k; faults = f } in x) (topic_was b items k h next was)
+      ∙ ap (λ (s : Stage). let x : Spot = record { topic = h.core; stage = s; faults = f } in x) (stage_was b items k h next was)
 
-  pub finished : (result : Result ℕ WriteError) → FinishesPart h.core (stage_of h.flight) result next.core (stage_of next.flight)
-      → FinishStep (place_in (map (λ (x : Held T store). x.core) items) k) old (answer (verdict_of_flush result)) (new f)
-  finished result part = finishes old (new f) k h.core next.core there (topic_was b items k h next was) (becomes b items k h next was) (stage_else b items k h next was) refl refl (omega arith)
-      result (stage_of h.flight) (stage_of next.flight) (stage_was b items k h next was) (stage_now b items k h next was) part
-
-  pub reopened : (f' : ℕ) → f ≤ f' → (result : Result (Unit {0}) Refusal) → topics_again.ReopenStep h.core result next.core → stage_of next.flight ≡ stage_of h.flight → (result ≡ Err refusal.Device → f < f')
-      → ReopenStep (place_in (map (λ (x : Held T store). x.core) items) k) old (answer (verdict_for result)) (new f')
-  reopened f' more result step same cause = reopens old (new f') k h.core next.core there (topic_was b items k h next was) (becomes b items k h next was) (stage_else b items k h next was) refl refl more
-      result step (stage_now b items k h next was ∙ same ∙ sym (stage_was b items k h next was)) cause
-
-  -- nothing of the topic changed
-  as_before : next.core ≡ h.core → next.flight ≡ h.flight → (f' : ℕ) → f' ≡ f → new f' ≡ old
-  as_before core flight f' calm = let u = unchanged b items k h next was core flight in same_state _ _ _ _ sessions used f f' u.0 u.1 calm
-
-  pub none_written : stage_of h.flight ≢ Taken → next.core ≡ h.core → next.flight ≡ h.flight → (f' : ℕ) → f' ≡ f → WriteStep (place_in (map (λ (x : Held T store). x.core) items) k) old (answer verdict.Unknown) (new f')
-  none_written none core flight f' calm =
-      subst (λ s. WriteStep (place_in (map (λ (x : Held T store). x.core) items) k) old (answer verdict.Unknown) s) (sym (as_before core flight f' calm))
-      (writes_at old old k there verdict.Unknown (stage_of h.flight) (stage_was b items k h next was) (unwritten old k (stage_of h.flight) none))
-
-  pub none_finished : ((result : Result (Unit {0}) WriteError) → stage_of h.flight ≢ Written result) → next.core ≡ h.core → next.flight ≡ h.flight → FinishStep (place_in (map (λ (x : Held T store). x.core) items) k) old (answer verdict.Unknown) (new f)
-  none_finished none core flight =
-      subst (λ s. FinishStep (place_in (map (λ (x : Held T store). x.core) items) k) old (answer verdict.Unknown) s) (sym (as_before core flight f refl))
-      (finishes_at old old k there verdict.Unknown (stage_of h.flight) (stage_was b items k h next was) (unfinished old k (stage_of h.flight) none))
+  pub worked : (event : TopicEvent) (f' : ℕ) → f ≤ f' → (told : Verdict) → HeldStep event (spot_of h f) told (spot_of next f') → WorkStep event (place_in (map (λ (x : Held T store). x.core) items) k) old (answer told) (new f')
+  worked event f' more told step =
+      subst (λ o. WorkStep event o old (answer told) (new f')) (sym (placed (map (λ (x : Held T store). x.core) items) k within))
+      (⊎_elim
+      (λ works. inl (
+        within,
+        record {
+          told = told;
+          answer = refl;
+          next = next.core;
+          reached = stage_of next.flight;
+          moves = record {
+            broker = becomes b items k h next was;
+            stage = stage_now b items k h next was;
+            others = stage_else b items k h next was;
+            sessions = refl;
+            used = refl;
+            faults = more;
+          };
+          step = subst (λ (s : Spot). WorksAt event s told (spot_of next f')) (sym spot_was) works;
+        },
+      ))
+      (λ idle. inr (subst (λ (s : Stage). IsIdle event s) (sym (stage_was b items k h next was)) idle.0, (ap answer idle.1, as_before f' idle.2)))
+      step)

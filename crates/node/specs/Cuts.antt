@@ -3,7 +3,7 @@ use Rattle.std.specs.Prelude.{◌≡◌, ◌⊎◌, ◌≤◌, ℕ, Bool, true, 
 use Rattle.session.specs.Broker.{Broker}
 use Rattle.node.specs.State.{State}
 use Rattle.node.specs.Steps.{Amid}
-use Rattle.node.specs.Runs.{Life, OpeningStep, HappeningStep, AllowedRun}
+use Rattle.node.specs.Runs.{Chain, Life, OpeningStep, HappeningStep, AllowedRun}
 use Rattle.node.specs.Telling.{hearer_of}
 use Rattle.node.specs.declared.event.Event.{Event}
 use Rattle.node.specs.declared.event.Happening.{Happening}
@@ -33,10 +33,7 @@ TurnStep old (Within event) output new = CutWithin old event output new
 
 -- turns and outputs, one after another
 abbrev pub AllowedLife : Life → List Turn → List Output → Life → Type 0
-AllowedLife old [] [] new = new ≡ old
-AllowedLife old (turn ∷ turns) (output ∷ outputs) new = (between : Life) × TurnStep old turn output between × AllowedLife between turns outputs new
-AllowedLife old [] (output ∷ outputs) new = ⊥
-AllowedLife old (turn ∷ turns) [] new = ⊥
+AllowedLife old turns outputs new = Chain TurnStep old turns outputs new
 
 -- the session whose client a turn's bytes go out to
 abbrev pub hearer_in : Turn → Option ℕ

@@ -19,7 +19,9 @@ use Rattle.node.specs.Standing.{disk_of, HeldStands}
 use Rattle.node.specs.declared.held.Held.{Held}
 use Rattle.node.specs.declared.site.Site.{Site}
 use Rattle.node.specs.declared.event.Event.{Event}
-use Rattle.node.specs.declared.event.Event.TheVariants.{Open, Bytes, Pump, Close, Flush, Take, Write, Finish, Reopen}
+use Rattle.node.specs.declared.event.Event.TheVariants.{Open, Bytes, Pump, Close, OnTopic}
+use Rattle.node.specs.declared.event.TopicEvent.{TopicEvent}
+use Rattle.node.specs.declared.event.TopicEvent.TheVariants.{Flush, Take, Write, Finish, Reopen}
 use Rattle.node.specs.declared.event.Verdict.{Verdict}
 use Rattle.node.specs.declared.event.Verdict.TheVariants as verdict
 use Rattle.node.specs.declared.node.Node.{Node}
@@ -91,13 +93,16 @@ pub record ReopenTells (files_stand : ℕ → Image → Entries → Kept → Typ
       → (why ≡ refusal.NoMemory) ⊎ ((why ≡ refusal.Device) ⊎ (faulty number before.seen why ⊎ IsShorter files_stand number old before.seen why))
 
 -- of an event that opens no topic it says nothing
+abbrev pub TellsOn : (ℕ → Image → Entries → Kept → Type 0) → (ℕ → Image → Refusal → Type 0) → TopicEvent → ℕ → Topic → Topic → Disk → Disk → Verdict → Type 0
+TellsOn files_stand faulty Flush number old new before after told = Unit {0}
+TellsOn files_stand faulty Take number old new before after told = Unit {0}
+TellsOn files_stand faulty Write number old new before after told = Unit {0}
+TellsOn files_stand faulty Finish number old new before after told = Unit {0}
+TellsOn files_stand faulty Reopen number old new before after told = ReopenTells files_stand faulty number old new before after told
+
 abbrev pub TellsIn : (ℕ → Image → Entries → Kept → Type 0) → (ℕ → Image → Refusal → Type 0) → Event → Broker → Broker → Disk → Disk → Verdict → Type 0
-TellsIn files_stand faulty (Reopen topic) old new before after told = ReopenTells files_stand faulty topic (topic_at old topic) (topic_at new topic) before after told
 TellsIn files_stand faulty Open old new before after told = Unit {0}
 TellsIn files_stand faulty (Bytes who bytes) old new before after told = Unit {0}
 TellsIn files_stand faulty (Pump who) old new before after told = Unit {0}
 TellsIn files_stand faulty (Close who) old new before after told = Unit {0}
-TellsIn files_stand faulty (Flush topic) old new before after told = Unit {0}
-TellsIn files_stand faulty (Take topic) old new before after told = Unit {0}
-TellsIn files_stand faulty (Write topic) old new before after told = Unit {0}
-TellsIn files_stand faulty (Finish topic) old new before after told = Unit {0}
+TellsIn files_stand faulty (OnTopic topic event) old new before after told = TellsOn files_stand faulty event topic (topic_at old topic) (topic_at new topic) before after told

@@ -13,12 +13,16 @@ use Rattle.node.specs.declared.event.Output.{Output}
 use Rattle.node.specs.declared.event.Happening.{Happening}
 use Rattle.node.specs.declared.event.Happening.TheVariants as happening
 
+-- steps, each of one thing that comes and with one output, one after another
+abbrev pub Chain : {S X : Type 0} → (S → X → Output → S → Type 0) → S → List X → List Output → S → Type 0
+Chain Step old [] [] new = new ≡ old
+Chain Step old (x ∷ xs) (output ∷ outputs) new = (between : _) × Step old x output between × Chain Step between xs outputs new
+Chain Step old [] (output ∷ outputs) new = ⊥
+Chain Step old (x ∷ xs) [] new = ⊥
+
 -- events and outputs, one after another
 abbrev pub Run : State → List Event → List Output → State → Type 0
-Run old [] [] new = new ≡ old
-Run old (event ∷ events) (output ∷ outputs) new = (between : State) × BrokerStep old event output between × Run between events outputs new
-Run old [] (output ∷ outputs) new = ⊥
-Run old (event ∷ events) [] new = ⊥
+Run old events outputs new = Chain BrokerStep old events outputs new
 
 -- a front of the events was worked, as long as the outputs that were added; all of them where no memory was refused
 pub record Ran (old : State) (events : List Event) (before : List Output) (result : Result (Unit {0}) AllocError) (after : List Output) (new : State) : Type 0 where
@@ -96,7 +100,4 @@ HappeningStep old (happening.Crash) output new = OpeningStep old.state output ne
 
 -- happenings and outputs, one after another
 abbrev pub AllowedRun : Life → List Happening → List Output → Life → Type 0
-AllowedRun old [] [] new = new ≡ old
-AllowedRun old (happening ∷ happenings) (output ∷ outputs) new = (between : Life) × HappeningStep old happening output between × AllowedRun between happenings outputs new
-AllowedRun old [] (output ∷ outputs) new = ⊥
-AllowedRun old (happening ∷ happenings) [] new = ⊥
+AllowedRun old happenings outputs new = Chain HappeningStep old happenings outputs new

@@ -16,6 +16,7 @@ use Rattle.topic_core.specs.State.{Topic}
 use Rattle.session.specs.Broker.{Broker, topic_at}
 use Rattle.node.specs.State.{State, Stage, MayRefuse, stage_in}
 use Rattle.node.specs.Naming.{IsFormed, Gains, Grows}
+use Rattle.node.specs.Steps.{Spot}
 use Rattle.node.specs.Flights.{stage_of, phase_at}
 use Rattle.node.specs.declared.held.Held.{Held}
 use Rattle.node.specs.declared.topics.Topics.{Topics}
@@ -44,6 +45,10 @@ module _ {T : Type 0} {store : StoreMembers T} where
   -- what the store remembers and holds
   abbrev pub view_in : Held T store → StoreView
   view_in h = store.view h.stores
+
+  -- the topic with its flush, and how often the device has failed
+  abbrev pub spot_of : Held T store → ℕ → Spot
+  spot_of h faults = record { topic = h.core; stage = stage_of h.flight; faults = faults }
 
   -- how far the store is, beside the topic
   abbrev pub phase_in : Held T store → Phase

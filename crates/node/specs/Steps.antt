@@ -1,5 +1,5 @@
 -- What each event does to the abstract node.
-use Rattle.std.specs.Prelude.{◌≡◌, ◌≢◌, ◌<◌, ◌≤◌, ℕ, Option, Some, None, is_some, Result, Err, Bool, true, false, List, [], slice_get, slice_set, remove}
+use Rattle.std.specs.Prelude.{◌≡◌, ◌≢◌, ◌⊎◌, ◌<◌, ◌≤◌, ℕ, Option, Some, None, is_some, Result, Err, Bool, true, false, List, [], length, slice_get, slice_set, remove}
 use Rattle.gated_log.specs.declared.refusal.Refusal.{Refusal}
 use Rattle.gated_log.specs.declared.refusal.Refusal.TheVariants as refusal
 use Rattle.topic_stores.specs.declared.batch.Batch.{Batch}
@@ -18,7 +18,9 @@ use Rattle.session.specs.Pumping as pumping
 use Rattle.node.specs.State.{State, MayRefuse, Stage, Resting, Taken, Written, stage_at, place_in, place_of, is_full, with_session, verdict_of, verdict_of_pump, verdict_for, verdict_of_flush, stage_after, settled}
 use Rattle.node.specs.Naming.{Gains}
 use Rattle.node.specs.declared.event.Event.{Event}
-use Rattle.node.specs.declared.event.Event.TheVariants.{Open, Bytes, Pump, Close, Flush, Take, Write, Finish, Reopen}
+use Rattle.node.specs.declared.event.Event.TheVariants.{Open, Bytes, Pump, Close, OnTopic}
+use Rattle.node.specs.declared.event.TopicEvent.{TopicEvent}
+use Rattle.node.specs.declared.event.TopicEvent.TheVariants.{Flush, Take, Write, Finish, Reopen}
 use Rattle.node.specs.declared.event.Verdict.{Verdict}
 use Rattle.node.specs.declared.event.Verdict.TheVariants as verdict
 use Rattle.node.specs.declared.event.Output.{Output}
@@ -82,6 +84,76 @@ pub record Closes (old : State) (place : ℕ) (output : Output) (new : State) : 
   pub used : new.used ≡ old.used
   pub faults : old.faults ≤ new.faults
 
+-- a topic of a node, how far its flush is that comes in parts, and how often the device has failed
+pub record Spot : Type 0 where
+  pub topic : Topic
+  pub stage : Stage
+  pub faults : ℕ
+
+abbrev pub spot_at : State → ℕ → Spot
+spot_at s number = record { topic = topic_at s.broker number; stage = stage_at s number; faults = s.faults }
+
+-- it is flushed; a failure of one that worked is told only where the device failed
+pub record FlushesAt (old : Spot) (told : Verdict) (new : Spot) : Type 0 where
+  pub result : Result ℕ WriteError
+  pub step : topics.FlushStep old.topic result new.topic
+  pub ends : told ≡ verdict_of_flush result
+  pub stage : new.stage ≡ old.stage
+  pub cause : old.topic.failed ≡ false → result ≡ Err Device → old.faults < new.faults
+
+-- a flush in parts begins: a batch is taken of all that waits, where there is something and no flush is under way
+pub record TakesAt (old : Spot) (told : Verdict) (new : Spot) : Type 0 where
+  pub result : Result (Option Batch) WriteError
+  pub step : topics.TakeStep old.topic result new.topic
+  pub ends : told ≡ verdict_of_flush result
+  pub stage : new.stage ≡ stage_after result old.stage
+
+-- the batch that is taken is written, which changes nothing of the topic; a failure is told only where the device failed
+pub record WritesAt (old : Spot) (told : Verdict) (new : Spot) : Type 0 where
+  pub was : old.stage ≡ Taken
+  pub result : Result (Unit {0}) WriteError
+  pub same : new.topic ≡ old.topic
+  pub ends : told ≡ verdict_of_flush result
+  pub stage : new.stage ≡ Written result
+  pub cause : result ≡ Err Device → old.faults < new.faults
+
+-- a flush in parts whose batch was written ends as that write did, of a topic that has handed on the batch
+pub record FinishesAt (old : Spot) (told : Verdict) (new : Spot) : Type 0 where
+  pub written : Result (Unit {0}) WriteError
+  pub was : old.stage ≡ Written written
+  pub handed_on : is_some old.topic.doubt ≡ true
+  pub result : Result ℕ WriteError
+  pub step : topics.FinishStep old.topic written result new.topic
+  pub ends : told ≡ verdict_of_flush result
+  pub stage : new.stage ≡ Resting
+
+-- where it had failed it is opened again; a failure is told only where the device failed
+pub record ReopensAt (old : Spot) (told : Verdict) (new : Spot) : Type 0 where
+  pub result : Result (Unit {0}) Refusal
+  pub step : topics_again.ReopenStep old.topic result new.topic
+  pub ends : told ≡ verdict_for result
+  pub stage : new.stage ≡ old.stage
+  pub cause : result ≡ Err refusal.Device → old.faults < new.faults
+
+abbrev pub WorksAt : TopicEvent → Spot → Verdict → Spot → Type 0
+WorksAt Flush old told new = FlushesAt old told new
+WorksAt Take old told new = TakesAt old told new
+WorksAt Write old told new = WritesAt old told new
+WorksAt Finish old told new = FinishesAt old told new
+WorksAt Reopen old told new = ReopensAt old told new
+
+-- there is nothing to work: only a batch that is taken and not written is written, and only one that is written is finished
+abbrev pub IsIdle : TopicEvent → Stage → Type 0
+IsIdle Flush stage = ⊥
+IsIdle Take stage = ⊥
+IsIdle Write stage = stage ≢ Taken
+IsIdle Finish stage = (written : Result (Unit {0}) WriteError) → stage ≢ Written written
+IsIdle Reopen stage = ⊥
+
+-- an event is worked, or it is unknown, and nothing changes
+abbrev pub HeldStep : TopicEvent → Spot → Verdict → Spot → Type 0
+HeldStep event old told new = WorksAt event old told new ⊎ (IsIdle event old.stage × (told ≡ verdict.Unknown) × (new ≡ old))
+
 -- one topic becomes another, its flush is at this stage, the others stay, and the device may have failed in between
 pub record Moves (old : State) (topic : ℕ) (next : Topic) (reached : Stage) (new : State) : Type 0 where
   pub broker : new.broker ≡ with_topic old.broker topic next
@@ -91,58 +163,20 @@ pub record Moves (old : State) (topic : ℕ) (next : Topic) (reached : Stage) (n
   pub used : new.used ≡ old.used
   pub faults : old.faults ≤ new.faults
 
--- a topic is flushed; a failure of one that worked is told only where the device failed
-pub record Flushes (old : State) (topic : ℕ) (output : Output) (new : State) : Type 0 where
-  pub flushed : Topic
-  pub result : Result ℕ WriteError
-  pub step : topics.FlushStep (topic_at old.broker topic) result flushed
-  pub answer : output ≡ record { bytes = []; result = verdict_of_flush result }
-  pub moves : Moves old topic flushed (stage_at old topic) new
-  pub cause : (topic_at old.broker topic).failed ≡ false → result ≡ Err Device → old.faults < new.faults
+-- one topic works an event, an answer without bytes tells how, and the others stay
+pub record WorksOn (event : TopicEvent) (old : State) (topic : ℕ) (output : Output) (new : State) : Type 0 where
+  pub told : Verdict
+  pub answer : output ≡ record { bytes = []; result = told }
+  pub next : Topic
+  pub reached : Stage
+  pub moves : Moves old topic next reached new
+  pub step : WorksAt event (spot_at old topic) told (record { topic = next; stage = reached; faults = new.faults })
 
--- a flush in parts begins: a batch is taken of all that waits, where there is something and no flush is under way
-pub record Takes (old : State) (topic : ℕ) (output : Output) (new : State) : Type 0 where
-  pub taken : Topic
-  pub result : Result (Option Batch) WriteError
-  pub step : topics.TakeStep (topic_at old.broker topic) result taken
-  pub answer : output ≡ record { bytes = []; result = verdict_of_flush result }
-  pub moves : Moves old topic taken (stage_after result (stage_at old topic)) new
+abbrev pub Flushes : State → ℕ → Output → State → Type 0
+Flushes old topic output new = WorksOn Flush old topic output new
 
--- the batch is written, which changes nothing of the topic; a failure is told only where the device failed
-pub record Writes (old : State) (topic : ℕ) (output : Output) (new : State) : Type 0 where
-  pub result : Result (Unit {0}) WriteError
-  pub answer : output ≡ record { bytes = []; result = verdict_of_flush result }
-  pub moves : Moves old topic (topic_at old.broker topic) (Written result) new
-  pub cause : result ≡ Err Device → old.faults < new.faults
-
--- a flush in parts ends as its write did, of a topic that has handed on the batch
-pub record Finishes (written : Result (Unit {0}) WriteError) (old : State) (topic : ℕ) (output : Output) (new : State) : Type 0 where
-  pub handed_on : is_some (topic_at old.broker topic).doubt ≡ true
-  pub finished : Topic
-  pub result : Result ℕ WriteError
-  pub step : topics.FinishStep (topic_at old.broker topic) written result finished
-  pub answer : output ≡ record { bytes = []; result = verdict_of_flush result }
-  pub moves : Moves old topic finished Resting new
-
--- only a batch that is taken and not written is written, and only one that is written is finished
-abbrev pub WritesIn : Stage → State → ℕ → Output → State → Type 0
-WritesIn Resting old topic output new = Only verdict.Unknown old output new
-WritesIn Taken old topic output new = Writes old topic output new
-WritesIn (Written result) old topic output new = Only verdict.Unknown old output new
-
-abbrev pub FinishesIn : Stage → State → ℕ → Output → State → Type 0
-FinishesIn Resting old topic output new = Only verdict.Unknown old output new
-FinishesIn Taken old topic output new = Only verdict.Unknown old output new
-FinishesIn (Written result) old topic output new = Finishes result old topic output new
-
--- a failed topic is opened again; a failure is told only where the device failed
-pub record Reopens (old : State) (topic : ℕ) (output : Output) (new : State) : Type 0 where
-  pub again : Topic
-  pub result : Result (Unit {0}) Refusal
-  pub step : topics_again.ReopenStep (topic_at old.broker topic) result again
-  pub answer : output ≡ record { bytes = []; result = verdict_for result }
-  pub moves : Moves old topic again (stage_at old topic) new
-  pub cause : result ≡ Err refusal.Device → old.faults < new.faults
+abbrev pub Reopens : State → ℕ → Output → State → Type 0
+Reopens old topic output new = WorksOn Reopen old topic output new
 
 abbrev pub BytesStep : Option ℕ → State → List ℕ → Output → State → Type 0
 BytesStep None old bytes output new = Only verdict.Unknown old output new
@@ -156,25 +190,10 @@ abbrev pub CloseStep : Option ℕ → State → Output → State → Type 0
 CloseStep None old output new = Only verdict.Unknown old output new
 CloseStep (Some place) old output new = Closes old place output new
 
-abbrev pub FlushStep : Option ℕ → State → Output → State → Type 0
-FlushStep None old output new = Only verdict.Unknown old output new
-FlushStep (Some topic) old output new = Flushes old topic output new
-
-abbrev pub TakeStep : Option ℕ → State → Output → State → Type 0
-TakeStep None old output new = Only verdict.Unknown old output new
-TakeStep (Some topic) old output new = Takes old topic output new
-
-abbrev pub WriteStep : Option ℕ → State → Output → State → Type 0
-WriteStep None old output new = Only verdict.Unknown old output new
-WriteStep (Some topic) old output new = WritesIn (stage_at old topic) old topic output new
-
-abbrev pub FinishStep : Option ℕ → State → Output → State → Type 0
-FinishStep None old output new = Only verdict.Unknown old output new
-FinishStep (Some topic) old output new = FinishesIn (stage_at old topic) old topic output new
-
-abbrev pub ReopenStep : Option ℕ → State → Output → State → Type 0
-ReopenStep None old output new = Only verdict.Unknown old output new
-ReopenStep (Some topic) old output new = Reopens old topic output new
+-- where there is nothing to work nothing changes
+abbrev pub WorkStep : TopicEvent → Option ℕ → State → Output → State → Type 0
+WorkStep event None old output new = Only verdict.Unknown old output new
+WorkStep event (Some topic) old output new = ((topic < length old.broker.topics) × WorksOn event old topic output new) ⊎ (IsIdle event (stage_at old topic) × Only verdict.Unknown old output new)
 
 -- one event
 abbrev pub BrokerStep : State → Event → Output → State → Type 0
@@ -182,11 +201,7 @@ BrokerStep old Open output new = OpenStep (is_full old) old output new
 BrokerStep old (Bytes who bytes) output new = BytesStep (place_of old.sessions who) old bytes output new
 BrokerStep old (Pump who) output new = PumpStep (place_of old.sessions who) old output new
 BrokerStep old (Close who) output new = CloseStep (place_of old.sessions who) old output new
-BrokerStep old (Flush topic) output new = FlushStep (place_in old.broker.topics topic) old output new
-BrokerStep old (Take topic) output new = TakeStep (place_in old.broker.topics topic) old output new
-BrokerStep old (Write topic) output new = WriteStep (place_in old.broker.topics topic) old output new
-BrokerStep old (Finish topic) output new = FinishStep (place_in old.broker.topics topic) old output new
-BrokerStep old (Reopen topic) output new = ReopenStep (place_in old.broker.topics topic) old output new
+BrokerStep old (OnTopic topic event) output new = WorkStep event (place_in old.broker.topics topic) old output new
 
 -- a topic while a flush of it goes on: all that waits is in doubt, where the flush has something to do; one that has failed isn't written
 abbrev pub flushing : Bool → Bool → Topic → Topic
@@ -197,14 +212,18 @@ flushing false false t = topics.handed_on t
 abbrev pub in_flush : Topic → Topic
 in_flush t = flushing t.failed (topics.has_no_flush t) t
 
+-- a topic while an event of it goes on
+abbrev pub amid_work : TopicEvent → Topic → Topic
+amid_work Flush t = in_flush t
+amid_work Take t = t
+amid_work Write t = t
+amid_work Finish t = t
+amid_work Reopen t = t
+
 -- A broker while an event goes on: bytes may make topics, and in a flush all that waits is in doubt.
 abbrev pub Amid : Broker → Event → Broker → Type 0
 Amid old Open new = new ≡ old
 Amid old (Bytes who bytes) new = Gains old new
 Amid old (Pump who) new = new ≡ old
 Amid old (Close who) new = new ≡ old
-Amid old (Flush topic) new = new ≡ with_topic old topic (in_flush (topic_at old topic))
-Amid old (Take topic) new = new ≡ old
-Amid old (Write topic) new = new ≡ old
-Amid old (Finish topic) new = new ≡ old
-Amid old (Reopen topic) new = new ≡ old
+Amid old (OnTopic topic event) new = new ≡ with_topic old topic (amid_work event (topic_at old topic))

@@ -11,7 +11,7 @@ use Rattle.session.specs.Broker.{Broker, topic_at}
 use Rattle.session.specs.Client.{plain, frames_of, AreBounded}
 use Rattle.node.specs.Moves.{Handed, outgoing, Move, Moves, told_by, is_of_session}
 use Rattle.node.specs.declared.event.Event.{Event}
-use Rattle.node.specs.declared.event.Event.TheVariants.{Open, Bytes, Pump, Close, Flush, Take, Write, Finish, Reopen}
+use Rattle.node.specs.declared.event.Event.TheVariants.{Open, Bytes, Pump, Close, OnTopic}
 use Rattle.node.specs.declared.event.Happening.{Happening}
 use Rattle.node.specs.declared.event.Happening.TheVariants as happening
 use Rattle.node.specs.declared.event.Output.{Output}
@@ -83,11 +83,7 @@ hearer Open = None
 hearer (Bytes who bytes) = Some who
 hearer (Pump who) = Some who
 hearer (Close who) = None
-hearer (Flush topic) = None
-hearer (Take topic) = None
-hearer (Write topic) = None
-hearer (Finish topic) = None
-hearer (Reopen topic) = None
+hearer (OnTopic topic event) = None
 
 abbrev pub hearer_of : Happening → Option ℕ
 hearer_of (happening.Event event) = hearer event

@@ -13,16 +13,23 @@ pub enum Event {
     Pump(u64),
     /// A session's client is gone.
     Close(u64),
-    /// What waits on a topic is to be committed.
-    Flush(u64),
-    /// A flush in parts begins: a batch of what waits on a topic is taken, where no flush of it is under way.
-    Take(u64),
-    /// The batch that was taken of a topic is to be written.
-    Write(u64),
-    /// The flush of a topic whose batch was written ends as its write did.
-    Finish(u64),
-    /// A failed topic is to be opened again.
-    Reopen(u64),
+    /// An event of one topic comes.
+    OnTopic(u64, TopicEvent),
+}
+
+/// What comes to one topic.
+#[derive(Clone, Copy)]
+pub enum TopicEvent {
+    /// What waits is to be committed.
+    Flush,
+    /// A flush in parts begins: a batch of what waits is taken, where no flush is under way.
+    Take,
+    /// The batch that was taken is to be written.
+    Write,
+    /// The flush whose batch was written ends as its write did.
+    Finish,
+    /// Where the topic failed it is to be opened again.
+    Reopen,
 }
 
 /// How an event went.

@@ -22,7 +22,7 @@ mod topics;
 
 pub use catalog::EntriesPerLedger;
 pub use commands::ReplyText;
-pub use event::{Event, Happening, Output, Verdict};
+pub use event::{Event, Happening, Output, TopicEvent, Verdict};
 pub use gated_log::Refusal;
 pub use laws::{
     cuts_are_turns, frames_are_accounted_for, lives_account, lives_unfold, messages_are_admitted,

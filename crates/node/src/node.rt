@@ -1,21 +1,21 @@
 ghost use Rattle.std.specs.Prelude.{◌≡◌, ◌<◌, ◌≤◌, [], length, IfSome, vec_len};
 ghost use Rattle.disk.specs.Disk.{Leaves};
 ghost use Rattle.session.specs.Broker.{topic_at};
-ghost use Rattle.node.specs.State.{is_full, place_in, place_of, verdict_of, verdict_of_pump, verdict_for, verdict_of_flush, settled};
-ghost use Rattle.node.specs.Standing.{state_of, disk_of, broker_of, Stands, StandsForBroker, StandsForSome, Passes, Works};
-ghost use Rattle.node.specs.Steps.{OpenStep, BytesStep, PumpStep, CloseStep, FlushStep, TakeStep, WriteStep, FinishStep, ReopenStep, BrokerStep, Amid};
-ghost use Rattle.node.specs.Opening.{ReopenTells, TellsIn};
+ghost use Rattle.node.specs.State.{is_full, place_in, place_of, verdict_of, verdict_of_pump, settled};
+ghost use Rattle.node.specs.Standing.{state_of, disk_of, broker_of, Stands, StandsForSome, Passes, Works};
+ghost use Rattle.node.specs.Steps.{OpenStep, BytesStep, PumpStep, CloseStep, WorkStep, BrokerStep, Amid};
+ghost use Rattle.node.specs.Opening.{TellsOn, TellsIn};
 ghost use Rattle.node.specs.Runs.{Ran, Reached};
-ghost use Rattle.node.specs.declared.event.Event.TheVariants as event;
+ghost use Rattle.node.specs.declared.event.Event.TheVariants as asked;
 
-use crate::event::{Event, Output, Verdict};
+use crate::event::{Event, Output, TopicEvent, Verdict};
 use crate::octets::Octets;
 use crate::topics::Topics;
 use disk::Shelf;
 use gated_log::Refusal;
 use session::{Fault, More, PumpFault, Session};
 use std::alloc::{AllocError, Global};
-use topic_core::{TopicStore, WriteError};
+use topic_core::TopicStore;
 
 /// The most sessions that are open. Our own rule.
 pub(crate) const MOST_SESSIONS: usize = 256;
@@ -56,24 +56,6 @@ fn verdict_of(fault: Option<Fault>) -> Verdict
     match fault {
         None => Verdict::Done,
         Some(why) => Verdict::Ended(why),
-    }
-}
-
-fn verdict_for(reopened: Result<(), Refusal>) -> Verdict
-    ensures { result ≡ verdict_for reopened }
-{
-    match reopened {
-        Ok(()) => Verdict::Done,
-        Err(why) => Verdict::Refused(why),
-    }
-}
-
-fn verdict_of_flush<A: Drop>(ended: &Result<A, WriteError>) -> Verdict
-    ensures { result ≡ verdict_of_flush ended.now }
-{
-    match ended {
-        Ok(_) => Verdict::Done,
-        Err(why) => Verdict::Refused((*why).into()),
     }
 }
 
@@ -170,80 +152,20 @@ impl<T: TopicStore, S: Shelf> Node<T, S> {
         only(self.alloc, Verdict::Done)
     }
 
-    fn flush(&mut self, topic: u64) -> Output
+    fn on_topic(&mut self, topic: u64, event: TopicEvent) -> Output
         ensures step { Stands S.disk self.old →
-            FlushStep (place_in (state_of S.disk self.old).broker.topics topic) (state_of S.disk self.old) result (state_of S.disk self.new) }
+            WorkStep event (place_in (state_of S.disk self.old).broker.topics topic) (state_of S.disk self.old) result (state_of S.disk self.new) }
         ensures stands { Stands S.disk self.old → Stands S.disk self.new }
+        ensures tells { TellsOn T.stands T.faulty event topic (topic_at (broker_of self.old.topics) topic) (topic_at (broker_of self.new.topics) topic) (disk_of S.disk self.old) (disk_of S.disk self.new) result.result }
         ensures any_moment { Stands S.disk self.old →
-            Leaves (StandsForSome T.stands (λ broker. Amid (state_of S.disk self.old).broker (event.Flush topic) broker)) (disk_of S.disk self.old) (disk_of S.disk self.new) }
+            Leaves (StandsForSome T.stands (λ broker. Amid (state_of S.disk self.old).broker (asked.OnTopic topic event) broker)) (disk_of S.disk self.old) (disk_of S.disk self.new) }
     {
         if topic >= self.topics.count() {
             return only(self.alloc, Verdict::Unknown);
         }
         let Topics { held, shelf, .. } = &mut self.topics;
-        let flushed = held[topic as usize].flush(shelf);
-        only(self.alloc, verdict_of_flush(&flushed))
-    }
-
-    fn take(&mut self, topic: u64) -> Output
-        ensures step { Stands S.disk self.old →
-            TakeStep (place_in (state_of S.disk self.old).broker.topics topic) (state_of S.disk self.old) result (state_of S.disk self.new) }
-        ensures stands { Stands S.disk self.old → Stands S.disk self.new }
-        ensures shelf { self.new.topics.shelf ≡ self.old.topics.shelf }
-    {
-        if topic >= self.topics.count() {
-            return only(self.alloc, Verdict::Unknown);
-        }
-        let taken = self.topics.held[topic as usize].take();
-        only(self.alloc, verdict_of_flush(&taken))
-    }
-
-    fn write(&mut self, topic: u64) -> Output
-        ensures step { Stands S.disk self.old →
-            WriteStep (place_in (state_of S.disk self.old).broker.topics topic) (state_of S.disk self.old) result (state_of S.disk self.new) }
-        ensures stands { Stands S.disk self.old → Stands S.disk self.new }
-        ensures any_moment { Stands S.disk self.old →
-            Leaves (StandsForBroker T.stands (state_of S.disk self.old).broker) (disk_of S.disk self.old) (disk_of S.disk self.new) }
-    {
-        if topic >= self.topics.count() {
-            return only(self.alloc, Verdict::Unknown);
-        }
-        let Topics { held, shelf, .. } = &mut self.topics;
-        match held[topic as usize].write(shelf) {
-            Some(written) => only(self.alloc, verdict_of_flush(&written)),
-            None => only(self.alloc, Verdict::Unknown),
-        }
-    }
-
-    fn finish(&mut self, topic: u64) -> Output
-        ensures step { Stands S.disk self.old →
-            FinishStep (place_in (state_of S.disk self.old).broker.topics topic) (state_of S.disk self.old) result (state_of S.disk self.new) }
-        ensures stands { Stands S.disk self.old → Stands S.disk self.new }
-        ensures shelf { self.new.topics.shelf ≡ self.old.topics.shelf }
-    {
-        if topic >= self.topics.count() {
-            return only(self.alloc, Verdict::Unknown);
-        }
-        match self.topics.held[topic as usize].finish() {
-            Some(finished) => only(self.alloc, verdict_of_flush(&finished)),
-            None => only(self.alloc, Verdict::Unknown),
-        }
-    }
-
-    fn reopen(&mut self, topic: u64) -> Output
-        ensures step { Stands S.disk self.old →
-            ReopenStep (place_in (state_of S.disk self.old).broker.topics topic) (state_of S.disk self.old) result (state_of S.disk self.new) }
-        ensures stands { Stands S.disk self.old → Stands S.disk self.new }
-        ensures tells { ReopenTells T.stands T.faulty topic (topic_at (broker_of self.old.topics) topic) (topic_at (broker_of self.new.topics) topic) (disk_of S.disk self.old) (disk_of S.disk self.new) result.result }
-        ensures any_moment { Stands S.disk self.old →
-            Leaves (StandsForBroker T.stands (state_of S.disk self.old).broker) (disk_of S.disk self.old) (disk_of S.disk self.new) }
-    {
-        if topic >= self.topics.count() {
-            return only(self.alloc, Verdict::Unknown);
-        }
-        let Topics { held, shelf, .. } = &mut self.topics;
-        let reopened = held[topic as usize].reopen(shelf);
-        only(self.alloc, verdict_for(reopened))
+        let verdict = held[topic as usize].work(shelf, event);
+        only(self.alloc, verdict)
     }
 
     /// Works one event. A crash at any moment of it leaves what a crash leaves of the broker; within a flush all that waits is
@@ -262,11 +184,7 @@ impl<T: TopicStore, S: Shelf> Node<T, S> {
             Event::Bytes(who, bytes) => self.bytes(who, bytes.as_slice()),
             Event::Pump(who) => self.pump(who),
             Event::Close(who) => self.close(who),
-            Event::Flush(topic) => self.flush(topic),
-            Event::Take(topic) => self.take(topic),
-            Event::Write(topic) => self.write(topic),
-            Event::Finish(topic) => self.finish(topic),
-            Event::Reopen(topic) => self.reopen(topic),
+            Event::OnTopic(topic, event) => self.on_topic(topic, event),
         }
     }
 

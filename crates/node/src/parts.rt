@@ -1,5 +1,5 @@
 // One topic of a node.
-ghost use Rattle.std.specs.Prelude.{◌≡◌, ◌≢◌, false, Result, None, Some, Err, IfSome, IsErrOf};
+ghost use Rattle.std.specs.Prelude.{◌≡◌, ◌≢◌, ◌≤◌, false, Result, None, Some, Err, IfSome, IsErrOf};
 ghost use Rattle.disk.specs.Disk.{Kept, Failed};
 ghost use Rattle.disk.specs.Areas.{OfTopic, Within};
 ghost use Rattle.gated_log.specs.declared.refusal.Refusal.TheVariants as refusal;
@@ -11,20 +11,74 @@ ghost use Rattle.topic_core.specs.Flush.{FlushStep, FinishStep};
 ghost use Rattle.node.specs.Flights.{stage_of};
 ghost use Rattle.node.specs.Numbers.{StaysNumbered};
 ghost use Rattle.node.specs.Parts.{TakesPart, FinishesPart};
-ghost use Rattle.node.specs.State.{Taken, Written, verdict_for};
-ghost use Rattle.node.specs.Standing.{HeldStands};
-ghost use Rattle.node.specs.Steps.{in_flush};
-ghost use Rattle.node.specs.Opening.{ReopenTells};
+ghost use Rattle.node.specs.State.{Taken, Written, verdict_for, verdict_of_flush};
+ghost use Rattle.node.specs.Standing.{HeldStands, spot_of};
+ghost use Rattle.node.specs.Steps.{HeldStep, in_flush, amid_work};
+ghost use Rattle.node.specs.Opening.{ReopenTells, TellsOn};
 
+use crate::event::{TopicEvent, Verdict};
 use crate::flight::Flight;
 use crate::held::Held;
 use disk::Shelf;
 use gated_log::Refusal;
 use topic_core::{TopicStore, WriteError};
 
+fn verdict_for(reopened: Result<(), Refusal>) -> Verdict
+    ensures { result ≡ verdict_for reopened }
+{
+    match reopened {
+        Ok(()) => Verdict::Done,
+        Err(why) => Verdict::Refused(why),
+    }
+}
+
+fn verdict_of_flush<A: Drop>(ended: &Result<A, WriteError>) -> Verdict
+    ensures { result ≡ verdict_of_flush ended.now }
+{
+    match ended {
+        Ok(_) => Verdict::Done,
+        Err(why) => Verdict::Refused((*why).into()),
+    }
+}
+
 impl<T: TopicStore> Held<T> {
+    /// Works an event. Where there is nothing to write, or nothing that is written, it is unknown, and nothing changes.
+    pub(crate) fn work<S: Shelf>(&mut self, shelf: &mut S, event: TopicEvent) -> Verdict
+        ensures step { HeldStands self.old (S.disk shelf.old) → HeldStep event (spot_of self.old (S.disk shelf.old).faults) result (spot_of self.new (S.disk shelf.new).faults) }
+        ensures stands { HeldStands self.old (S.disk shelf.old) → HeldStands self.new (S.disk shelf.new) }
+        ensures tells { TellsOn T.stands T.faulty event (T.view self.old.stores).topic self.old.core self.new.core (S.disk shelf.old) (S.disk shelf.new) result }
+        // A crash at any moment leaves what it leaves of the topic while the event goes on, and other files as they were.
+        ensures within { HeldStands self.old (S.disk shelf.old) →
+            Within (OfTopic (T.view self.old.stores).topic) (StandsFor (T.stands (T.view self.old.stores).topic) (IsLeft (amid_work event self.old.core))) (S.disk shelf.old) (S.disk shelf.new) }
+        ensures numbered { StaysNumbered self.old self.new }
+        ensures faults { (S.disk shelf.old).faults ≤ (S.disk shelf.new).faults }
+    {
+        match event {
+            TopicEvent::Flush => {
+                let flushed = self.flush(shelf);
+                verdict_of_flush(&flushed)
+            }
+            TopicEvent::Take => {
+                let taken = self.take();
+                verdict_of_flush(&taken)
+            }
+            TopicEvent::Write => match self.write(shelf) {
+                Some(written) => verdict_of_flush(&written),
+                None => Verdict::Unknown,
+            },
+            TopicEvent::Finish => match self.finish() {
+                Some(finished) => verdict_of_flush(&finished),
+                None => Verdict::Unknown,
+            },
+            TopicEvent::Reopen => {
+                let reopened = self.reopen(shelf);
+                verdict_for(reopened)
+            }
+        }
+    }
+
     /// Commits what waits, in one call.
-    pub(crate) fn flush<S: Shelf>(&mut self, shelf: &mut S) -> Result<usize, WriteError>
+    fn flush<S: Shelf>(&mut self, shelf: &mut S) -> Result<usize, WriteError>
         ensures step { FlushStep self.old.core result self.new.core }
         ensures stands { HeldStands self.old (S.disk shelf.old) → HeldStands self.new (S.disk shelf.new) }
         // A crash at any moment leaves what it leaves of the topic while all that waits is in doubt, and other files as they were.
@@ -39,7 +93,7 @@ impl<T: TopicStore> Held<T> {
     }
 
     /// Begins a flush in parts, where something waits and none is under way.
-    pub(crate) fn take(&mut self) -> Result<(), WriteError>
+    fn take(&mut self) -> Result<(), WriteError>
         ensures step { TakesPart self.old.core (stage_of self.old.flight) result self.new.core (stage_of self.new.flight) }
         ensures stores { self.new.stores ≡ self.old.stores }
         ensures numbered { StaysNumbered self.old self.new }
@@ -51,7 +105,7 @@ impl<T: TopicStore> Held<T> {
     }
 
     /// Writes the batch that is taken; none where none is, or it is written.
-    pub(crate) fn write<S: Shelf>(&mut self, shelf: &mut S) -> Option<Result<(), WriteError>>
+    fn write<S: Shelf>(&mut self, shelf: &mut S) -> Option<Result<(), WriteError>>
         ensures written { IfSome result (λ (ended : Result (Unit {0}) WriteError). (stage_of self.old.flight ≡ Taken) × (stage_of self.new.flight ≡ Written ended)) }
         ensures unknown { result ≡ None → stage_of self.old.flight ≢ Taken }
         ensures same { result ≡ None → (self.new.flight ≡ self.old.flight) × (shelf.new ≡ shelf.old) }
@@ -78,7 +132,7 @@ impl<T: TopicStore> Held<T> {
     }
 
     /// Ends a flush in parts as its write did; none where nothing is written.
-    pub(crate) fn finish(&mut self) -> Option<Result<usize, WriteError>>
+    fn finish(&mut self) -> Option<Result<usize, WriteError>>
         ensures finished { IfSome result (λ ended. FinishesPart self.old.core (stage_of self.old.flight) ended self.new.core (stage_of self.new.flight)) }
         ensures unknown { result ≡ None → (written : Result (Unit {0}) WriteError) → stage_of self.old.flight ≢ Written written }
         ensures same { result ≡ None → (self.new.core ≡ self.old.core) × (self.new.flight ≡ self.old.flight) }
@@ -95,7 +149,7 @@ impl<T: TopicStore> Held<T> {
     }
 
     /// Opens the topic again where it failed.
-    pub(crate) fn reopen<S: Shelf>(&mut self, shelf: &mut S) -> Result<(), Refusal>
+    fn reopen<S: Shelf>(&mut self, shelf: &mut S) -> Result<(), Refusal>
         ensures step { HeldStands self.old (S.disk shelf.old) → ReopenStep self.old.core result self.new.core }
         ensures tells { ReopenTells T.stands T.faulty (T.view self.old.stores).topic self.old.core self.new.core (S.disk shelf.old) (S.disk shelf.new) (verdict_for result) }
         ensures stands { HeldStands self.old (S.disk shelf.old) → HeldStands self.new (S.disk shelf.new) }

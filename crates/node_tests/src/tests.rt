@@ -3,9 +3,9 @@ use disk::{CursorSlot, DeviceError, FileId, Fuse, Shelf};
 use disk_mem::MemShelf;
 use node::{
     EntriesPerLedger, Event, Fault, Happening, Machine, Node, Octets, Output, Refusal, ReplyText,
-    Site, Verdict, drive, lives_account, lives_unfold, messages_are_admitted, moves_publish,
-    openings_have_one_fault, receipts_are_covered, receipts_are_found, runs_unfold, stays_sound,
-    words_are_kept,
+    Site, TopicEvent, Verdict, drive, lives_account, lives_unfold, messages_are_admitted,
+    moves_publish, openings_have_one_fault, receipts_are_covered, receipts_are_found, runs_unfold,
+    stays_sound, words_are_kept,
 };
 use std::alloc::{AllocError, Global};
 use std::test::Fail;
@@ -196,7 +196,7 @@ fn ran(alloc: Global, steps: &[Step]) -> Result<Vec<Output>, Fail> {
 #[test]
 fn open_never_has_memory(rt: HostRuntime) -> Result<(), Fail> {
     let mut node = opened(rt.alloc())?;
-    let output = node.step(Event::Flush(0));
+    let output = node.step(Event::OnTopic(0, TopicEvent::Flush));
     drop(node);
     assert_eq!(rt; result_of(output)?, Verdict::Unknown);
     Ok(())

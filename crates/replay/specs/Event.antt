@@ -5,6 +5,7 @@ use Rattle.disk.specs.declared.crash_shelf.Fuse.TheVariants as fuse
 use Rattle.gated_log.specs.declared.refusal.Refusal.{Refusal}
 use Rattle.gated_log.specs.declared.refusal.Refusal.TheVariants as refusal
 use Rattle.node.specs.declared.event.Event.TheVariants as event
+use Rattle.node.specs.declared.event.TopicEvent.TheVariants as topic_event
 use Rattle.session.specs.declared.fault.Fault.{Fault}
 use Rattle.session.specs.declared.fault.Fault.TheVariants as fault
 use Rattle.node.specs.declared.event.Verdict.{Verdict}
@@ -34,11 +35,11 @@ task_of line.Open = task.Event event.Open
 task_of (line.Bytes session bytes) = task.Event (event.Bytes session bytes)
 task_of (line.Pump session) = task.Event (event.Pump session)
 task_of (line.Close session) = task.Event (event.Close session)
-task_of (line.Flush topic) = task.Event (event.Flush topic)
-task_of (line.Take topic) = task.Event (event.Take topic)
-task_of (line.Write topic) = task.Event (event.Write topic)
-task_of (line.Finish topic) = task.Event (event.Finish topic)
-task_of (line.Reopen topic) = task.Event (event.Reopen topic)
+task_of (line.Flush topic) = task.Event (event.OnTopic topic topic_event.Flush)
+task_of (line.Take topic) = task.Event (event.OnTopic topic topic_event.Take)
+task_of (line.Write topic) = task.Event (event.OnTopic topic topic_event.Write)
+task_of (line.Finish topic) = task.Event (event.OnTopic topic topic_event.Finish)
+task_of (line.Reopen topic) = task.Event (event.OnTopic topic topic_event.Reopen)
 task_of (line.Fail k) = task.Arm (fuse.Fail k)
 task_of (line.Stop k) = task.Arm (fuse.Stop k)
 task_of (line.FailRead k) = task.Arm (fuse.FailRead k)

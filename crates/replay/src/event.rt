@@ -2,7 +2,7 @@ ghost use Rattle.std.specs.Prelude.{◌≡◌};
 ghost use Rattle.replay.specs.Event.{form_of, task_of, outcome_of, fault_of, refusal_of};
 
 use disk::{CrashForm, Fuse};
-use node::{Event, Octets, Refusal, Verdict};
+use node::{Event, Octets, Refusal, TopicEvent, Verdict};
 use script::{CrashAs, Line, Outcome, SessionFault, StorageRefusal};
 use session::Fault;
 
@@ -30,11 +30,11 @@ pub(crate) fn task_of(line: Line) -> Task
         }
         Line::Pump(session) => Task::Event(Event::Pump(session)),
         Line::Close(session) => Task::Event(Event::Close(session)),
-        Line::Flush(topic) => Task::Event(Event::Flush(topic)),
-        Line::Take(topic) => Task::Event(Event::Take(topic)),
-        Line::Write(topic) => Task::Event(Event::Write(topic)),
-        Line::Finish(topic) => Task::Event(Event::Finish(topic)),
-        Line::Reopen(topic) => Task::Event(Event::Reopen(topic)),
+        Line::Flush(topic) => Task::Event(Event::OnTopic(topic, TopicEvent::Flush)),
+        Line::Take(topic) => Task::Event(Event::OnTopic(topic, TopicEvent::Take)),
+        Line::Write(topic) => Task::Event(Event::OnTopic(topic, TopicEvent::Write)),
+        Line::Finish(topic) => Task::Event(Event::OnTopic(topic, TopicEvent::Finish)),
+        Line::Reopen(topic) => Task::Event(Event::OnTopic(topic, TopicEvent::Reopen)),
         Line::Fail(call) => Task::Arm(Fuse::Fail(call)),
         Line::Stop(call) => Task::Arm(Fuse::Stop(call)),
         Line::FailRead(read) => Task::Arm(Fuse::FailRead(read)),

@@ -1,6 +1,6 @@
 // What comes to a node of one session and one topic, and what happens to its machine, as data.
 use super::octets;
-use node::{Event, Happening};
+use node::{Event, Happening, TopicEvent};
 use std::alloc::{AllocError, Global};
 
 /// An event of session 0 and topic 0, or that the power is cut and comes back.
@@ -22,8 +22,8 @@ fn happening(alloc: Global, step: Step) -> Result<Happening, AllocError> {
         Step::Bytes(bytes) => Ok(Happening::Event(Event::Bytes(0, octets(alloc, bytes)?))),
         Step::Pump => Ok(Happening::Event(Event::Pump(0))),
         Step::Close => Ok(Happening::Event(Event::Close(0))),
-        Step::Flush => Ok(Happening::Event(Event::Flush(0))),
-        Step::Reopen(topic) => Ok(Happening::Event(Event::Reopen(topic))),
+        Step::Flush => Ok(Happening::Event(Event::OnTopic(0, TopicEvent::Flush))),
+        Step::Reopen(topic) => Ok(Happening::Event(Event::OnTopic(topic, TopicEvent::Reopen))),
         Step::Crash => Ok(Happening::Crash),
     }
 }

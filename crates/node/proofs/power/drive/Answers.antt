@@ -1,11 +1,12 @@
 use Rattle.std.proofs.Common.{◌≡◌, ◌++◌, [], ◌∷◌, List, ap, sym, refl, rules, false, length, ℕ, arith}
-use Rattle.node.specs.Runs.{Life}
+use Rattle.node.specs.Runs.{Life, HappeningStep}
 use Rattle.node.specs.declared.event.Happening.{Happening}
 use Rattle.node.specs.declared.event.Happening.TheVariants as happening
 use Rattle.node.specs.Driving.{disk_in}
 use Rattle.node.proofs.Cutting.{short_first, short_more}
 use Rattle.node.proofs.Accounts.{life_accounts}
-use Rattle.node.proofs.Lives.{AllowedRun-push, front_run, none_added, one_added, none_more, all_worked, worked_length}
+use Rattle.node.proofs.Carrying.{chain-push}
+use Rattle.node.proofs.Lives.{front_run, none_added, one_added, none_more, all_worked, worked_length}
 use Rattle.node.proofs.Reaching.{one_more}
 use Rattle.node.proofs.power.drive.Goals as goal
 
@@ -40,7 +41,7 @@ loop-happening-preserved g c =
             r.0 ++ c.happen-next.result.1 ∷ [],
             s.0,
             one_added c.args.outputs.now.items c.loop-happening.outputs.items _ r.0 c.happen-next.result.1 r.2 pushed,
-            AllowedRun-push start (happening.Crash ∷ c.loop-happening.yielded) r.0 r.1 c.in-Some.happening c.happen-next.result.1 s.0 r.3 s.1,
+            chain-push HappeningStep start (happening.Crash ∷ c.loop-happening.yielded) r.0 r.1 c.in-Some.happening c.happen-next.result.1 s.0 r.3 s.1,
             s.2,
             moments,
           );

@@ -5,7 +5,9 @@ use Rattle.node.specs.Standing.{state_of, disk_of}
 use Rattle.node.specs.Passing.{stands_so}
 use Rattle.node.specs.declared.event.Event.{Event}
 use Rattle.node.specs.declared.event.Output.{Output}
-use Rattle.node.proofs.Reaching.{Run-push, run-length, one_more, front_of, crash_first, crash_more}
+use Rattle.node.specs.Steps.{BrokerStep}
+use Rattle.node.proofs.Carrying.{chain-push, chain-length}
+use Rattle.node.proofs.Reaching.{one_more, front_of, crash_first, crash_more}
 use Rattle.node.proofs.node.Node.run.Goals as goal
 
 length_nil : (xs : List Event) {n : ℕ} → n ≡ length xs → n ≡ 0 → xs ≡ []
@@ -15,7 +17,7 @@ length_nil (x ∷ xs) is none = absurd (omega (arith, is, none))
 -- what was worked is a front of the events, as long as the outputs
 worked : (old : State) (events done rest : List Event) (answers : List Output) (new : State) → events ≡ done ++ rest → Run old done answers new → Run old (take (length answers) events) answers new
 worked old events done rest answers new is run =
-    subst (λ (es : List Event). Run old es answers new) (sym (front_of events done rest answers is (run-length old done answers new run))) run
+    subst (λ (es : List Event). Run old es answers new) (sym (front_of events done rest answers is (chain-length BrokerStep old done answers new run))) run
 
 pub loop-event-init : goal.loop-event-init
 loop-event-init g c =
@@ -43,7 +45,7 @@ loop-event-preserved g c =
           let r = i.run s in (
             r.0 ++ c.step-output.result ∷ [],
             pushed ∙ ap (λ (os : List Output). os ++ c.step-output.result ∷ []) r.1 ∙ append_assoc c.args.outputs.now.items r.0 (c.step-output.result ∷ []),
-            Run-push _ _ _ _ _ _ _ r.2 (s'.step (i.stands s)),
+            chain-push BrokerStep _ _ _ _ _ _ _ r.2 (s'.step (i.stands s)),
           );
       any_moment = λ s.
           let r = i.run s in
@@ -80,7 +82,7 @@ returns g c =
         answers = r.0;
         added = r.1;
         run = worked old c.args.events.items c.loop-event.yielded rest.items r.0 mid i.prefix r.2;
-        whole = run-length old c.loop-event.yielded r.0 mid r.2 ∙ ap (λ (es : List Event). length es) (sym all);
+        whole = chain-length BrokerStep old c.loop-event.yielded r.0 mid r.2 ∙ ap (λ (es : List Event). length es) (sym all);
       };
       stands = i.stands;
       any_moment = i.any_moment;

@@ -1,4 +1,3 @@
-use Rattle.node.specs.Passing.{untouched}
 use Rattle.node.proofs.Frames.{here}
 use Rattle.node.proofs.node.Node.step.Goals as goal
 
@@ -13,15 +12,3 @@ returns-in-Pump-clause-any_moment g c = λ h. rw c.in-Pump.is (here g.T.TopicSto
 
 pub returns-in-Close-clause-any_moment : goal.returns-in-Close-clause-any_moment
 returns-in-Close-clause-any_moment g c = λ h. rw c.in-Close.is (here g.T.TopicStore.stands _ _ _ (c.close.ensures.passes.1 h).any_moment)
-
-pub returns-in-Take-clause-any_moment : goal.returns-in-Take-clause-any_moment
-returns-in-Take-clause-any_moment g c = λ h. rw c.in-Take.is (here g.T.TopicStore.stands _ _ _ (untouched g.S.Shelf.disk c.args.self.now.topics c.take.new.self.topics.shelf h c.take.ensures.shelf))
-
-pub returns-in-Write-clause-any_moment : goal.returns-in-Write-clause-any_moment
-returns-in-Write-clause-any_moment g c = λ h. rw c.in-Write.is (here g.T.TopicStore.stands _ _ _ (c.write.ensures.any_moment h))
-
-pub returns-in-Finish-clause-any_moment : goal.returns-in-Finish-clause-any_moment
-returns-in-Finish-clause-any_moment g c = λ h. rw c.in-Finish.is (here g.T.TopicStore.stands _ _ _ (untouched g.S.Shelf.disk c.args.self.now.topics c.finish.new.self.topics.shelf h c.finish.ensures.shelf))
-
-pub returns-in-Reopen-clause-any_moment : goal.returns-in-Reopen-clause-any_moment
-returns-in-Reopen-clause-any_moment g c = λ h. rw c.in-Reopen.is (here g.T.TopicStore.stands _ _ _ (c.reopen.ensures.any_moment h))
