@@ -19,6 +19,7 @@ from errno import EACCES, EISDIR, ENOENT, ENOSPC, ENOTDIR
 sys.dont_write_bytecode = True
 from encoding import entry_of
 from openings import FEW, MANY, MARK, batch, entries, gated
+from server import STAMP
 
 SECONDS = 60
 NOBODY = 65534
@@ -56,8 +57,8 @@ def failed(place, number):
     return "", f"[WARN  {module}] {place}: {os.strerror(number)} (os error {number})\nerror: device\n", 1
 
 
-# How a command ends whose folder another process holds.
-HELD = "", "[ERROR pulsar_node] another process holds the folder\nerror: device\n", 1
+# How a command ends whose folder this process holds.
+HELD = "", f"[ERROR folder::holder] process {os.getpid()} holds the folder\nerror: device\n", 1
 
 # How an `init` ends in a folder that has files of topics, and no open list of them.
 HAS_TOPICS = "", "[ERROR pulsar_node] the folder holds files of topics, but its list of topics isn't open; nothing was made\nerror: not initialised\n", 1
@@ -97,7 +98,8 @@ class Room:
         self.count += 1
         done = subprocess.run([self.program, *words], stdin=subprocess.DEVNULL, stderr=subprocess.PIPE, timeout=SECONDS, check=False,
                               **{"cwd": self.path, "stdout": subprocess.PIPE, **how})
-        return (done.stdout or b"").decode(), done.stderr.decode(), done.returncode
+        errors = "".join(STAMP.sub("", line, count=1) for line in done.stderr.decode().splitlines(keepends=True))
+        return (done.stdout or b"").decode(), errors, done.returncode
 
     def expect(self, wanted, *words, **how):
         """The command ends so: what it prints, what it says on standard error, its status."""

@@ -9,6 +9,7 @@ import subprocess
 SECONDS = 60  # until the program must have answered or ended; a machine that does other things too needs some
 THREADS = 66  # of a broker at rest: a flusher for each of 64 topics, the ringer, and the one that takes connections
 TOPIC_LINE = re.compile(r"T +(\d+) +(\d+) +(\d+) (\S+)")
+STAMP = re.compile(r"\d{4}-\d\d-\d\dT\d\d:\d\d:\d\d\.\d{3}Z ")  # before each line of a served broker's log
 SUBSCRIPTION_LINE = re.compile(r"S +(\d+) +(\d+) +(\d+) (\S+)")
 
 
@@ -65,8 +66,9 @@ class Server:
             return log.read()[-500:]
 
     def log_lines(self):
+        """What the log says, without the times."""
         with open(self.log, encoding="utf-8", errors="replace") as log:
-            return log.read().splitlines()
+            return [STAMP.sub("", line, count=1) for line in log.read().splitlines()]
 
     def status(self, name):
         """A number of the process, as the system tells it: memory in bytes, threads as they are."""

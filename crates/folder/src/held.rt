@@ -5,12 +5,13 @@ ghost use Rattle.gated_log.specs.declared.refusal.Refusal.TheVariants.{NotInitia
 ghost use Rattle.folder.specs.Faults.{IsFaultOf, IsFaultOfHolding};
 
 use crate::fault::{FolderFault, fault_at, fault_of_lock};
+use crate::holder::tell_holder;
 use disk::{FileId, Shelf};
 use disk_fs::FsShelf;
 use gated_log::Refusal;
 use log::Log;
 use std::alloc::{AllocError, Global};
-use std::fs::{File, OpenFile, OpenOptions};
+use std::fs::{File, OpenFile, OpenOptions, TryLockError};
 use std::io::ErrorKind;
 use std::rt::Files;
 use std::{fs, io};
@@ -99,10 +100,17 @@ impl Folder {
     }
 
     // The folder, where the lock of this file is to be had.
-    fn locked<R: AllocGlobal + Log>(rt: &R, path: &str, lock: File) -> Result<Folder, FolderFault>
+    fn locked<R: AllocGlobal + Log + Files>(
+        rt: &R,
+        path: &str,
+        lock: File,
+    ) -> Result<Folder, FolderFault>
         ensures { IfErr result IsFaultOfHolding }
     {
         if let Err(error) = lock.try_lock() {
+            if matches!(error, TryLockError::WouldBlock) {
+                tell_holder(rt, &lock);
+            }
             let place = format_args!("{path}/{LOCK}");
             return Err(fault_of_lock(rt, &place, error));
         }

@@ -5,6 +5,7 @@
 
 mod fault;
 mod held;
+mod holder;
 mod looking;
 mod making;
 

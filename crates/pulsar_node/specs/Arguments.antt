@@ -16,6 +16,19 @@ or_none None = []
 abbrev pub folder_in : ArgMatches → List ℕ
 folder_in words = or_none (first_value (found_of words) (codes "DIR"))
 
+-- the address at which `serve` is to listen
+abbrev pub address_in : ArgMatches → List ℕ
+address_in words = or_none (first_value (found_of words) (codes "ADDR"))
+
+-- the first path, where there is one, or else the second
+abbrev pub or_else : Option (List ℕ) → List ℕ → List ℕ
+or_else (Some path) _ = path
+or_else None other = other
+
+-- where clients of `serve` are told to connect: at the address where it listens, unless another one is named
+abbrev pub advertised_in : ArgMatches → List ℕ
+advertised_in words = or_else (first_value (found_of words) (codes "advertise")) (address_in words)
+
 -- the text that says how many entries a ledger is to have
 abbrev pub entries_in : ArgMatches → Option (List ℕ)
 entries_in words = one_text (found_of words) (codes "entries")

@@ -1,9 +1,10 @@
 ghost use Rattle.std.specs.Prelude.{◌≡◌, ◌*◌, ℕ, List, ◌⊎◌, option_map, IfSome, IfNone};
 ghost use Rattle.std.specs.Duration.{as_nanos};
 ghost use Rattle.clap.specs.Words.{ReadsOne};
-ghost use Rattle.pulsar_node.specs.Arguments.{file_of, folder_in, entries_in, silence_in};
+ghost use Rattle.pulsar_node.specs.Arguments.{file_of, folder_in, address_in, advertised_in, entries_in, silence_in};
 
 use clap::{Arg, ArgMatches, Command, value_parser};
+use log::LevelFilter;
 use node::EntriesPerLedger;
 use std::alloc::{AllocError, Global};
 use std::str::FromStr;
@@ -12,6 +13,9 @@ use std::time::Duration;
 const NAME: &str = "pulsar_node";
 
 const VERSION: &str = "0.1.0";
+
+/// How much the log may tell, from least to most.
+const LEVELS: [&str; 4] = ["error", "warn", "info", "debug"];
 
 /// The command line that the program takes.
 pub(crate) fn command<'a>(alloc: Global) -> Result<Command<'a>, AllocError> {
@@ -49,6 +53,18 @@ fn serve_command<'a>(alloc: Global) -> Result<Command<'a>, AllocError> {
     let address = Arg::new(alloc, "ADDR")
         .required(true)
         .help("Where to listen, as 127.0.0.1:6650");
+    let advertise = Arg::new(alloc, "advertise")
+        .long("advertise")
+        .value_name("HOST:PORT")
+        .help(
+            "Where clients are told to connect when they look a topic up; else ADDR as it stands",
+        );
+    let log = Arg::new(alloc, "log")
+        .long("log")
+        .value_name("LEVEL")
+        .value_parser(LEVELS.as_slice())
+        .default_value("info")
+        .help("How much the log on standard error tells");
     let idle = Arg::new(alloc, "idle")
         .long("idle")
         .value_name("SECONDS")
@@ -59,7 +75,9 @@ fn serve_command<'a>(alloc: Global) -> Result<Command<'a>, AllocError> {
         .about("Serves the broker of a folder to clients, until it is killed")
         .arg(address)?
         .arg(folder_argument(alloc))?
-        .arg(idle)
+        .arg(advertise)?
+        .arg(idle)?
+        .arg(log)
 }
 
 fn inspect_command<'a>(alloc: Global) -> Result<Command<'a>, AllocError> {
@@ -82,8 +100,32 @@ pub(crate) fn folder_of<'a>(words: &ArgMatches<'a>) -> &'a str
 }
 
 /// The address that `serve` names.
-pub(crate) fn address_of<'a>(words: &ArgMatches<'a>) -> &'a str {
+pub(crate) fn address_of<'a>(words: &ArgMatches<'a>) -> &'a str
+    ensures { result.now ≡ address_in words.now }
+{
     words.get_str("ADDR").unwrap_or_default()
+}
+
+/// Where clients of `serve` are told to connect.
+pub(crate) fn advertised_of<'a>(words: &ArgMatches<'a>) -> &'a str
+    ensures { result.now ≡ advertised_in words.now }
+{
+    match words.get_str("advertise") {
+        Some(advertised) => advertised,
+        None => address_of(words),
+    }
+}
+
+/// How much the log of `serve` tells.
+pub(crate) fn level_of(words: &ArgMatches<'_>) -> LevelFilter {
+    match words
+        .get_str("log")
+        .unwrap_or_default()
+        .parse::<LevelFilter>()
+    {
+        Ok(level) => level,
+        Err(_) => LevelFilter::Info,
+    }
 }
 
 /// How long a client of `serve` may say nothing; none, where that is for ever.

@@ -5,7 +5,7 @@ use std::os::fd::AsRawFd;
 use std::rt::Files;
 
 /// The device that gives nothing and takes everything.
-const NULL: &str = "/dev/null";
+pub(crate) const NULL: &str = "/dev/null";
 
 /// Standard error's, the last of the three.
 const LAST: i32 = 2;

@@ -7,21 +7,24 @@ ghost use Rattle.std.specs.Prelude.{◌≡◌, OnOk, OnErr};
 
 mod arguments;
 mod descriptors;
+mod stamped;
 
 use crate::arguments::{
-    address_of, command, entries_per_ledger, folder_of, longest_silence, script_file,
+    address_of, advertised_of, command, entries_per_ledger, folder_of, level_of, longest_silence,
+    script_file,
 };
-use crate::descriptors::StandIns;
+use crate::descriptors::{NULL, StandIns};
+use crate::stamped::Stamped;
 use clap::ArgMatches;
 use clap::error::ErrorKind;
 use folder::FolderFault;
-use log::{Log, error};
+use log::{Log, Logged, error};
 use replay::{FromReader, ProgramFault, ToWriter, exit_status, replay, write_fault};
-use server::ServeFault;
+use server::{ServeFault, Settings};
 use std::fs::File;
 use std::net::{Net, TcpListener, TcpStream};
 use std::process::ExitCode;
-use std::rt::{Env, Files};
+use std::rt::{Clock, Env, Files};
 use std::sync::Wait;
 use std::thread::Threads;
 use std::{env, io};
@@ -47,6 +50,7 @@ where
         + Eprint
         + Input
         + Env
+        + Clock
         + Log
         + Files<File = File>
         + Threads
@@ -55,7 +59,13 @@ where
     R: Net<Stream = TcpStream, Listener = TcpListener>,
     R::Dir: Send + Sync,
 {
-    let stand_ins = StandIns::open(rt).map_err(|_| ProgramFault::Device)?;
+    let stand_ins = match StandIns::open(rt) {
+        Ok(stand_ins) => stand_ins,
+        Err(why) => {
+            error!(rt; "{NULL}: {why}");
+            return Err(ProgramFault::Device);
+        }
+    };
     let done = run(rt);
     drop(stand_ins);
     done
@@ -69,6 +79,7 @@ where
         + Eprint
         + Input
         + Env
+        + Clock
         + Log
         + Files<File = File>
         + Threads
@@ -96,7 +107,8 @@ where
 // Does what the command line says, and answers the status.
 fn work<R>(rt: &R, matches: &ArgMatches<'_>) -> Result<u8, ProgramFault>
 where
-    R: AllocGlobal + Print + Eprint + Input + Log + Files<File = File> + Threads + Wait + Sync,
+    R: AllocGlobal + Print + Eprint + Input + Clock + Log,
+    R: Files<File = File> + Threads + Wait + Sync,
     R: Net<Stream = TcpStream, Listener = TcpListener>,
     R::Dir: Send + Sync,
 {
@@ -125,14 +137,23 @@ fn init<R: AllocGlobal + Print + Eprint + Log + Files<File = File>>(
 // Serves a folder. It comes back only where that can't be done.
 fn serve<R>(rt: &R, words: &ArgMatches<'_>) -> u8
 where
-    R: AllocGlobal + Print + Eprint + Log + Files<File = File> + Threads + Wait + Sync,
+    R: AllocGlobal + Print + Eprint + Clock + Files<File = File> + Threads + Wait + Sync,
     R: Net<Stream = TcpStream, Listener = TcpListener>,
     R::Dir: Send + Sync,
 {
-    let idle = longest_silence(words);
-    match server::serve(rt, address_of(words), folder_of(words), idle) {
+    let logged = Logged::new(rt, level_of(words), Stamped(rt));
+    let settings = Settings {
+        address: address_of(words),
+        advertised: advertised_of(words),
+        idle: longest_silence(words),
+    };
+    let served = match server::bind(&logged, rt, settings.address) {
+        Ok(listener) => server::serve(&logged, &listener, folder_of(words), &settings),
+        Err(fault) => Err(fault),
+    };
+    match served {
         Ok(()) => 0,
-        Err(ServeFault::Folder(fault)) => status_of(rt, Err(fault)),
+        Err(ServeFault::Folder(fault)) => status_of(&logged, Err(fault)),
         Err(fault) => {
             // Where standard error fails too, the status alone tells.
             let _ = eprintln!(rt; "error: {fault}");
@@ -158,11 +179,10 @@ fn status_of<R: Eprint + Log>(rt: &R, done: Result<(), FolderFault>) -> u8
         return 0;
     };
     match fault {
-        FolderFault::InUse => error!(rt; "another process holds the folder"),
         FolderFault::HoldsTopics => {
             error!(rt; "the folder holds files of topics, but its list of topics isn't open; nothing was made")
         }
-        FolderFault::Refused(_) | FolderFault::AlreadyInitialised => {}
+        FolderFault::Refused(_) | FolderFault::AlreadyInitialised | FolderFault::InUse => {}
     }
     // Where standard error fails too, the status alone tells.
     let _ = eprintln!(rt; "error: {fault}");

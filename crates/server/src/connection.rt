@@ -3,7 +3,7 @@ use crate::pool::Free;
 use crate::threads::{Hall, tell_once};
 use disk::Shelf;
 use gates::{Parting, ReaderGate, WriterGate};
-use log::{Log, warn};
+use log::{Log, debug, warn};
 use session::{Fault, Session};
 use std::alloc::Global;
 use std::net::TcpStream;
@@ -39,11 +39,15 @@ where
     };
     hall.is_told.store(false, Ordering::SeqCst);
     let peer = stream.peer_addr().ok();
+    if let Some(peer) = peer {
+        debug!(rt; "session {number} begins, of the client at {peer}");
+    }
     let (free, ended, fault) = talk(rt, alloc, hall, number, stream, free);
     hall.pool.lock(rt).give(free, ended);
     if let (Some(peer), Some(fault)) = (peer, fault) {
         warn!(rt; "the client at {peer} is cut off: {fault}");
     }
+    debug!(rt; "session {number} has ended");
 }
 
 // Serves a socket at a place, and hands the place back with what its ports were told, that the session has ended, and the fault that

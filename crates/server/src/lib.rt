@@ -3,14 +3,19 @@
 //! loops; the counts of all ports and topics are cut before any thread starts. At most 256 connections are served at a time.
 #![tactic(auto)]
 
+mod advertised;
+mod binding;
 mod connection;
 mod fault;
 mod parts;
 mod pool;
 mod serving;
+mod settings;
 mod threads;
 
+pub use binding::bind;
 pub use fault::{ServeFault, exit_status};
 pub use pool::{Free, Pool};
 pub use serving::{Shelves, serve, serve_shelves};
+pub use settings::Settings;
 pub use threads::{Hall, serve_connections};

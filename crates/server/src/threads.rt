@@ -5,7 +5,7 @@ use crate::pool::Pool;
 use bells::Bells;
 use disk::Shelf;
 use gates::FlusherGate;
-use log::{Log, warn};
+use log::{Log, error, warn};
 use std::alloc::Global;
 use std::fmt::Display;
 use std::net::TcpListener;
@@ -66,6 +66,7 @@ where
         if is_well {
             Ok(())
         } else {
+            error!(rt; "a thread can't be made");
             Err(ServeFault::Device)
         }
     })

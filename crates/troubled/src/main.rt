@@ -10,7 +10,7 @@ use anyhow::{Error, bail};
 use disk_fs::FsShelf;
 use folder::Folder;
 use log::Log;
-use server::{ServeFault, Shelves, serve_shelves};
+use server::{ServeFault, Settings, Shelves, bind, serve_shelves};
 use std::alloc::AllocError;
 use std::fs::File;
 use std::net::{Net, TcpListener, TcpStream};
@@ -90,6 +90,12 @@ where
     R::Dir: Send + Sync,
     R::Reader: Send + Sync,
 {
+    let listener = bind(rt, rt, address)?;
+    let settings = Settings {
+        address,
+        advertised: address,
+        idle: None,
+    };
     thread::scope(thread::scope_env(), rt, |scope| {
         if scope
             .spawn(move || take_orders(rt, shelves.orders))
@@ -97,7 +103,7 @@ where
         {
             return Err(ServeFault::Device);
         }
-        serve_shelves(rt, address, shelves, None)
+        serve_shelves(rt, &listener, shelves, &settings)
     })
 }
 

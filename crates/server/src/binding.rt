@@ -1,0 +1,20 @@
+// Where a server listens.
+use crate::fault::ServeFault;
+use log::{Log, error};
+use std::net::{Net, TcpListener, TcpStream};
+
+/// Listens at an address, as `127.0.0.1:6650`; a host's name is looked up. Why that can't be done stands in the log, by the
+/// system's words.
+pub fn bind<N: Net<Stream = TcpStream, Listener = TcpListener>, R: Log>(
+    rt: &R,
+    net: &N,
+    address: &str,
+) -> Result<TcpListener, ServeFault> {
+    match TcpListener::bind(net, address) {
+        Ok(listener) => Ok(listener),
+        Err(why) => {
+            error!(rt; "{address}: {why}");
+            Err(ServeFault::CannotBind)
+        }
+    }
+}
