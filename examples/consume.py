@@ -5,14 +5,16 @@ Usage: examples/consume.py HOST:PORT TOPIC SUBSCRIPTION [--type exclusive|failov
 
 A subscription remembers what was acknowledged, so each run goes on behind the one before. A new one begins behind the messages that are there;
 with --earliest it begins at the first one. Ends behind N messages, once all are acknowledged for good; else with the connection. A fault, such
-as that end, is told on standard error, with exit status 1.
+as that end, is told on standard error, with exit status 1. Once nobody reads standard output it ends quietly, with exit status 141, as other programs
+do in a pipe, and what it couldn't print comes again; and so it does at Ctrl-C, with 130.
 """
 import argparse
 import os
 import sys
 
 sys.dont_write_bytecode = True
-from frames import ACK, ACK_RESPONSE, FLOW, MESSAGE, SUBSCRIBE, SUCCESS, Connection, Failed, number, payload_of, text, told_id  # noqa: E402
+from command_line import parser_of, run  # noqa: E402
+from frames import ACK, ACK_RESPONSE, FLOW, MESSAGE, SUBSCRIBE, SUCCESS, Connection, number, payload_of, text, told_id  # noqa: E402
 
 CONSUMER_ID = 1  # the client's own choice; one connection may have several consumers
 TYPES = {"exclusive": 0, "shared": 1, "failover": 2}
@@ -60,23 +62,21 @@ def consume(words):
             acknowledged += 1
 
 
+def count(word):
+    if not word.isdecimal() or int(word) == 0:
+        raise argparse.ArgumentTypeError(f"{word!r} isn't a whole number from 1 on")
+    return int(word)
+
+
 def main():
-    parser = argparse.ArgumentParser(usage=__doc__.split("Usage: ")[1].split("\n")[0])
-    parser.add_argument("address", metavar="HOST:PORT")
-    parser.add_argument("topic")
-    parser.add_argument("subscription")
-    parser.add_argument("--type", choices=TYPES, default="exclusive")
-    parser.add_argument("--earliest", action="store_true")
-    parser.add_argument("--count", type=int)
-    try:
-        consume(parser.parse_args())
-    except Failed as why:
-        print(f"error: {why}", file=sys.stderr)
-        return 1
-    except KeyboardInterrupt:
-        return 130
-    return 0
+    parser = parser_of(__doc__)
+    parser.add_argument("subscription", metavar="SUBSCRIPTION", help="its name: letters, digits, -, _ and .")
+    parser.add_argument("--type", choices=TYPES, default="exclusive",
+                        help="exclusive, as without it: one consumer; shared: many; failover: one, for which others stand by")
+    parser.add_argument("--earliest", action="store_true", help="a new subscription begins at the first message")
+    parser.add_argument("--count", metavar="N", type=count, help="how many messages; without it, all that come")
+    run(consume, parser.parse_args())
 
 
 if __name__ == "__main__":
-    sys.exit(main())
+    main()

@@ -12,8 +12,8 @@ Client and broker exchange frames. A frame has one command, and an entry behind 
 Sizes are big-endian. The broker keeps the entry, and hands it out byte for byte. From protocol version 6 on, `0e 01` and four bytes of checksum may
 stand before metadataSize. This broker answers version 5 in its CONNECTED, so there are no checksums here.
 
-A Protocol Buffers message is a list of fields. A field is a varint, which is its number * 8 + its wire type, and a value: a varint (wire type 0), or a
-varint length and so many bytes (wire type 2). A varint has seven bits a byte, the low ones first; the high bit says that another byte follows. In a
+A Protocol Buffers message is a list of fields. A field is a varint, which is its number * 8 + its wire type, and a value: a varint (wire type 0), or
+a varint length and so many bytes (wire type 2). A varint has seven bits a byte, the low ones first; the high bit says that another byte follows. In a
 command field 1 is its type, and what belongs to type k stands in field k, which is a message itself.
 """
 import contextlib
@@ -22,6 +22,7 @@ import threading
 import time
 
 PING_SECONDS = 30  # the broker cuts off a client that says nothing for ten minutes
+ENDED = "the broker ended the connection"
 
 # The types of commands that are used here
 CONNECT, CONNECTED, SUBSCRIBE, PRODUCER, SEND, SEND_RECEIPT, SEND_ERROR, MESSAGE, ACK, FLOW = 2, 3, 4, 5, 6, 7, 8, 9, 10, 11
@@ -90,6 +91,16 @@ def told_id(message_id):
     return f"{fields[1]}:{fields[2]}"
 
 
+def full_name(topic):
+    """A topic's full name, as client libraries complete it: `greetings` is persistent://public/default/greetings, and a/b/c is persistent://a/b/c."""
+    if "://" in topic:
+        return topic
+    parts = topic.split("/")
+    if len(parts) not in (1, 3) or not all(parts):
+        raise ValueError(f"{topic!r} is neither NAME, nor TENANT/NAMESPACE/NAME, nor a full name with ://")
+    return "persistent://" + "/".join(["public", "default", *parts][-3:])
+
+
 class Connection:
     """A connection over which CONNECT was answered. `address` is HOST:PORT."""
 
@@ -115,21 +126,22 @@ class Connection:
         try:
             with self.sending:
                 self.socket.sendall(frame(kind, fields, entry))
+        except ConnectionError:
+            raise Failed(ENDED) from None
         except OSError as why:
             raise Failed(f"the connection failed: {why}") from None
 
     def receive(self):
-        """The type, the fields and the entry of the next frame. What the broker refuses is raised as its text."""
-        content = self.take(int.from_bytes(self.take(4), "big"))
-        end = 4 + int.from_bytes(content[:4], "big")
-        command, entry = fields_of(content[4:end]), content[end:]
-        kind = command[1]
-        fields = fields_of(command[kind])
-        if kind == PING:  # a broker asks so whether the client is still there
-            self.send(PONG, b"")
-            return self.receive()
-        if kind == PONG:
-            return self.receive()
+        """The type, the fields and the entry of the next frame but PING and PONG. What the broker refuses is raised as its text."""
+        kind = PONG
+        while kind in (PING, PONG):
+            content = self.take(int.from_bytes(self.take(4), "big"))
+            end = 4 + int.from_bytes(content[:4], "big")
+            command, entry = fields_of(content[4:end]), content[end:]
+            kind = command[1]
+            fields = fields_of(command[kind])
+            if kind == PING:  # a broker asks so whether the client is still there
+                self.send(PONG, b"")
         if ERROR_TEXT.get(kind) in fields:
             raise Failed(fields[ERROR_TEXT[kind]].decode())
         return kind, fields, entry
@@ -144,8 +156,10 @@ class Connection:
     def take(self, size):
         try:
             content = self.stream.read(size)
+        except ConnectionError:
+            raise Failed(ENDED) from None
         except OSError as why:
             raise Failed(f"the connection failed: {why}") from None
         if len(content) < size:
-            raise Failed("the broker ended the connection")
+            raise Failed(ENDED)
         return content

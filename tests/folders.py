@@ -19,7 +19,7 @@ from errno import EACCES, EISDIR, ENOENT, ENOSPC, ENOTDIR
 sys.dont_write_bytecode = True
 from encoding import entry_of
 from openings import FEW, MANY, MARK, batch, entries, gated
-from server import STAMP
+from server import STAMP, told_holder
 
 SECONDS = 60
 NOBODY = 65534
@@ -57,8 +57,10 @@ def failed(place, number):
     return "", f"[WARN  {module}] {place}: {os.strerror(number)} (os error {number})\nerror: device\n", 1
 
 
-# How a command ends whose folder this process holds.
-HELD = "", f"[ERROR folder::holder] process {os.getpid()} holds the folder\nerror: device\n", 1
+def refused_by_holder(folder):
+    """How a command ends whose folder this process holds."""
+    return "", f"[ERROR folder::holder] {told_holder(folder, os.getpid())}\nerror: device\n", 1
+
 
 # How an `init` ends in a folder that has files of topics, and no open list of them.
 HAS_TOPICS = "", "[ERROR pulsar_node] the folder holds files of topics, but its list of topics isn't open; nothing was made\nerror: not initialised\n", 1
@@ -283,7 +285,7 @@ def one_process_has_it(room):
     for how in (fcntl.LOCK_EX, fcntl.LOCK_SH):
         with held(room.at("held/lock"), how), held(room.at("held_half/lock"), how):
             for words in ("init held", "inspect held", "init held_half", "inspect held_half"):
-                room.expect_kept(HELD, *words.split())
+                room.expect_kept(refused_by_holder(room.path), *words.split())
     room.expect_kept((LINES, "", 0), "inspect", "held")
     room.expect(made(1000), "init", "held_half")
 

@@ -1,10 +1,13 @@
 """A broker's program over a folder: how it is begun, ended, asked, and refused."""
+import fcntl
 import os
 import re
 import selectors
 import signal
 import socket
 import subprocess
+import tempfile
+from contextlib import suppress
 
 SECONDS = 60  # until the program must have answered or ended; a machine that does other things too needs some
 THREADS = 66  # of a broker at rest: a flusher for each of 64 topics, the ringer, and the one that takes connections
@@ -21,6 +24,18 @@ def free_port():
     with socket.socket() as it:
         it.bind(("127.0.0.1", 0))
         return it.getsockname()[1]
+
+
+def told_holder(folder, process):
+    """How the log names a process that holds a folder there: by its number, where the system lists the locks of files in that place."""
+    with tempfile.TemporaryFile(dir=folder) as file:
+        fcntl.flock(file, fcntl.LOCK_EX)
+        at = os.fstat(file.fileno())
+        place = f"{os.major(at.st_dev):02x}:{os.minor(at.st_dev):02x}:{at.st_ino}"
+        with suppress(OSError), open("/proc/locks", encoding="ascii") as locks:
+            if any(line.split()[4:6] == [str(os.getpid()), place] for line in locks):
+                return f"process {process} holds the folder"
+    return "another process holds the folder"
 
 
 class Server:
