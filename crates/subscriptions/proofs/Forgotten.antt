@@ -27,7 +27,7 @@ use Rattle.subscriptions.specs.Steps.{first_changed, first_removed, each_deliver
 use Rattle.subscriptions.proofs.Each.{get_each}
 use Rattle.subscriptions.proofs.Limits.{picked}
 use Rattle.subscriptions.proofs.Settled.{is_in, has_joined, has_through, get_forgotten, get_forgotten_below}
-use Rattle.permits.specs.Ends.{Word}
+use Rattle.permits.specs.Ends.{Seen, Word}
 
 -- ---- deliveries
 
@@ -71,7 +71,7 @@ alike_attached mode seat word s = ap (λ ds. let x : Subscription = record (atta
 alike_granted : (key : ConsumerKey) (permits : ℕ) (s : Subscription) → forgetting (granted_on key permits (forgetting s)) ≡ forgetting (granted_on key permits s)
 alike_granted key permits s = ap (λ ds. let x : Subscription = record (granted_on key permits s) { deliveries = ds } in x) (twice s.acked s.deliveries)
 
-alike_learnt : (key : ConsumerKey) (n : ℕ) (s : Subscription) → forgetting (learnt_on key n (forgetting s)) ≡ forgetting (learnt_on key n s)
+alike_learnt : (key : ConsumerKey) (n : Seen) (s : Subscription) → forgetting (learnt_on key n (forgetting s)) ≡ forgetting (learnt_on key n s)
 alike_learnt key n s = ap (λ ds. let x : Subscription = record (learnt_on key n s) { deliveries = ds } in x) (twice s.acked s.deliveries)
 
 alike_acked : (positions : List ℕ) (s : Subscription) → forgetting (acked_on positions (forgetting s)) ≡ forgetting (acked_on positions s)

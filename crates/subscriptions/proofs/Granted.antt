@@ -1,5 +1,5 @@
 -- What a FLOW does, and how what is learnt of a consumer's permits goes with what else happens to it.
-use Rattle.std.proofs.Common.{◌≡◌, ℕ, ◌≤◌, Bool, true, false, cond, max, ◌||◌, Option, Some, None, Result, Ok, Err, List, [], ◌∷◌, get_or, set, refl, ap, sym, subst, ◌∙◌, arith}
+use Rattle.std.proofs.Common.{◌≡◌, ℕ, ◌+◌, ◌≤◌, Bool, true, false, cond, max, ◌||◌, Option, Some, None, Result, Ok, Err, List, [], ◌∷◌, get_or, set, refl, ap, sym, subst, ◌∙◌, arith}
 use Rattle.std.specs.Prelude.{OnOk, OnErr}
 use Rattle.std.specs.List.{find, list_any, position}
 use Rattle.std.proofs.lemmas.Bool.{true≢false}
@@ -11,7 +11,9 @@ use Rattle.subscriptions.proofs.Numbered.{places_granted_to}
 use Rattle.subscriptions.proofs.Places.{changes, finds, same_at}
 use Rattle.subscriptions.proofs.Sound.{any_changed, any_found}
 use Rattle.subscriptions.proofs.Standing.{on_learnt}
+use Rattle.permits.specs.Ends.{Seen}
 use Rattle.subscriptions.proofs.Learning.{found_changed, changed_twice}
+use Rattle.subscriptions.proofs.Looking.{seen_both, unseen}
 
 -- ---- the consumer at a place is granted permits, unless it would have too many
 
@@ -82,83 +84,98 @@ attached_one t key there =
     let one = found_any (is_consumer key) on.0.consumers on.2 in
     (on.0, on.1, one.0, one.1)
 
--- how many permits a consumer is known to have been granted, none where it isn't attached
-abbrev granted_of : Option Consumer → ℕ
-granted_of None = 0
-granted_of (Some c) = c.granted
+-- what was seen of a consumer's permits, nothing where it isn't attached
+abbrev seen_by : Consumer → Seen
+seen_by c = record { granted = c.granted; looks = c.looks }
 
-abbrev granted_at : ConsumerKey → Option Subscription → ℕ
-granted_at key None = 0
-granted_at key (Some s) = granted_of (find (is_consumer key) s.consumers)
+abbrev seen_of : Option Consumer → Seen
+seen_of None = unseen
+seen_of (Some c) = seen_by c
 
-abbrev granted_count : Subscriptions → ConsumerKey → ℕ
-granted_count t key = granted_at key (find (is_on key) t.subs)
+abbrev seen_at : ConsumerKey → Option Subscription → Seen
+seen_at key None = unseen
+seen_at key (Some s) = seen_of (find (is_consumer key) s.consumers)
 
-granted_one : (t : Subscriptions) (key : ConsumerKey) (s : Subscription) (c : Consumer) → find (is_on key) t.subs ≡ Some s → find (is_consumer key) s.consumers ≡ Some c → granted_count t key ≡ c.granted
-granted_one t key s c on one = ap (granted_at key) on ∙ ap granted_of one
+abbrev seen_in : Subscriptions → ConsumerKey → Seen
+seen_in t key = seen_at key (find (is_on key) t.subs)
+
+seen_one : (t : Subscriptions) (key : ConsumerKey) (s : Subscription) (c : Consumer) → find (is_on key) t.subs ≡ Some s → find (is_consumer key) s.consumers ≡ Some c → seen_in t key ≡ seen_by c
+seen_one t key s c on one = ap (seen_at key) on ∙ ap seen_of one
 
 -- ---- no more than is known
 
-to_known : (n : ℕ) (c : Consumer) → n ≤ c.granted → learnt_to n c ≡ c
-to_known n c low = let same : max c.granted n ≡ c.granted = omega (arith, low) in λ i. record c { granted = same i }
+-- no more was granted than is known, and there was no look
+record IsKnown (n known : Seen) : Type 0 where
+  pub granted : n.granted ≤ known.granted
+  pub looks : n.looks ≡ 0
 
-on_known : (key : ConsumerKey) (n : ℕ) (s : Subscription) → n ≤ granted_of (find (is_consumer key) s.consumers) → learnt_on key n s ≡ s
-on_known key n s low = ap (with_consumers s) (unchanged (is_consumer key) (learnt_to n) s.consumers (λ c is. to_known n c (omega (arith, low, ap granted_of is))))
+to_known : (n : Seen) (c : Consumer) → IsKnown n (seen_by c) → learnt_to n c ≡ c
+to_known n c low =
+    let same : max c.granted n.granted ≡ c.granted = omega (arith, low.granted) in
+    let none : c.looks + n.looks ≡ c.looks = omega (arith, low.looks) in
+    λ i. record c { granted = same i; looks = none i }
 
-learns_none : (t : Subscriptions) (key : ConsumerKey) (n : ℕ) → n ≤ granted_count t key → learnt t key n ≡ t
-learns_none t key n low = ap (with_subs t) (unchanged (is_on key) (learnt_on key n) t.subs (λ s is. on_known key n s (omega (arith, low, ap (granted_at key) is))))
+on_known : (key : ConsumerKey) (n : Seen) (s : Subscription) → IsKnown n (seen_of (find (is_consumer key) s.consumers)) → learnt_on key n s ≡ s
+on_known key n s low = ap (with_consumers s) (unchanged (is_consumer key) (learnt_to n) s.consumers (λ c is. to_known n c (subst (λ o. IsKnown n (seen_of o)) is low)))
+
+learns_none : (t : Subscriptions) (key : ConsumerKey) (n : Seen) → IsKnown n (seen_in t key) → learnt t key n ≡ t
+learns_none t key n low = ap (with_subs t) (unchanged (is_on key) (learnt_on key n) t.subs (λ s is. on_known key n s (subst (λ o. IsKnown n (seen_at key o)) is low)))
 
 -- ---- one thing after another
 
-learns_again : (a b : ℕ) (c : Consumer) → learnt_to b (learnt_to a c) ≡ learnt_to (max a b) c
-learns_again a b c = let more : max (max c.granted a) b ≡ max c.granted (max a b) = omega arith in λ i. record c { granted = more i }
+learns_again : (a b : Seen) (c : Consumer) → learnt_to b (learnt_to a c) ≡ learnt_to (seen_both a b) c
+learns_again a b c =
+    let more : max (max c.granted a.granted) b.granted ≡ max c.granted (max a.granted b.granted) = omega arith in
+    let looks : (c.looks + a.looks) + b.looks ≡ c.looks + (a.looks + b.looks) = omega arith in
+    λ i. record c { granted = more i; looks = looks i }
 
-on_again : (key : ConsumerKey) (a b : ℕ) (s : Subscription) → learnt_on key b (learnt_on key a s) ≡ learnt_on key (max a b) s
+on_again : (key : ConsumerKey) (a b : Seen) (s : Subscription) → learnt_on key b (learnt_on key a s) ≡ learnt_on key (seen_both a b) s
 on_again key a b s =
     ap (with_consumers s) (sym (changed_twice (is_consumer key) (learnt_to b) (learnt_to a) (λ _. refl) s.consumers)
-    ∙ changed_alike (is_consumer key) (λ c. learnt_to b (learnt_to a c)) (learnt_to (max a b)) s.consumers (λ c _. learns_again a b c))
+    ∙ changed_alike (is_consumer key) (λ c. learnt_to b (learnt_to a c)) (learnt_to (seen_both a b)) s.consumers (λ c _. learns_again a b c))
 
 -- what is learnt twice is learnt at once
-pub learnt_again : (t : Subscriptions) (key : ConsumerKey) (a b : ℕ) → learnt (learnt t key a) key b ≡ learnt t key (max a b)
+pub learnt_again : (t : Subscriptions) (key : ConsumerKey) (a b : Seen) → learnt (learnt t key a) key b ≡ learnt t key (seen_both a b)
 learnt_again t key a b =
     ap (with_subs t) (sym (changed_twice (is_on key) (learnt_on key b) (learnt_on key a) (λ s. on_learnt key a key s) t.subs)
-    ∙ changed_alike (is_on key) (λ s. learnt_on key b (learnt_on key a s)) (learnt_on key (max a b)) t.subs (λ s _. on_again key a b s))
+    ∙ changed_alike (is_on key) (λ s. learnt_on key b (learnt_on key a s)) (learnt_on key (seen_both a b)) t.subs (λ s _. on_again key a b s))
 
 on_sent : (key : ConsumerKey) (i : ℕ) (s : Subscription) → is_on key (sent_on key i s) ≡ is_on key s
 on_sent key i s = any_changed (is_consumer key) (λ c. sent_one c) (is_consumer key) (λ _. refl) s.consumers
 
-on_either : (key : ConsumerKey) (i n : ℕ) (s : Subscription) → learnt_on key n (sent_on key i s) ≡ sent_on key i (learnt_on key n s)
+on_either : (key : ConsumerKey) (i : ℕ) (n : Seen) (s : Subscription) → learnt_on key n (sent_on key i s) ≡ sent_on key i (learnt_on key n s)
 on_either key i n s =
     ap (λ (cs : List Consumer). with_consumers (sent_on key i s) cs) (sym (changed_twice (is_consumer key) (learnt_to n) (λ c. sent_one c) (λ _. refl) s.consumers)
     ∙ changed_twice (is_consumer key) (λ c. sent_one c) (learnt_to n) (λ _. refl) s.consumers)
 
 -- what is learnt behind a message might have been learnt before it
-pub learnt_before : (t : Subscriptions) (key : ConsumerKey) (i n : ℕ) → learnt (sent t key i) key n ≡ sent (learnt t key n) key i
+pub learnt_before : (t : Subscriptions) (key : ConsumerKey) (i : ℕ) (n : Seen) → learnt (sent t key i) key n ≡ sent (learnt t key n) key i
 learnt_before t key i n =
     ap (with_subs t) (sym (changed_twice (is_on key) (learnt_on key n) (sent_on key i) (on_sent key i) t.subs)
     ∙ changed_alike (is_on key) (λ s. learnt_on key n (sent_on key i s)) (λ s. sent_on key i (learnt_on key n s)) t.subs (λ s _. on_either key i n s)
     ∙ changed_twice (is_on key) (sent_on key i) (learnt_on key n) (λ s. on_learnt key n key s) t.subs)
 
--- who was attached before a message is known to have as many permits behind it
+-- of who was attached before a message as much was seen behind it
 found_sent : (t : Subscriptions) (key : ConsumerKey) (i : ℕ) (s : Subscription) → find (is_on key) t.subs ≡ Some s → find (is_on key) (sent t key i).subs ≡ Some (sent_on key i s)
 found_sent t key i s is = found_changed (is_on key) (sent_on key i) (on_sent key i) t.subs s is
 
-granted_sent : (t : Subscriptions) (key : ConsumerKey) (i : ℕ) (s : Subscription) (c : Consumer) → find (is_on key) t.subs ≡ Some s → find (is_consumer key) s.consumers ≡ Some c → granted_count (sent t key i) key ≡ c.granted
-granted_sent t key i s c on one =
-    ap (granted_at key) (found_sent t key i s on) ∙ ap granted_of (found_changed (is_consumer key) (λ c. sent_one c) (λ _. refl) s.consumers c one)
+seen_sent : (t : Subscriptions) (key : ConsumerKey) (i : ℕ) (s : Subscription) (c : Consumer) → find (is_on key) t.subs ≡ Some s → find (is_consumer key) s.consumers ≡ Some c → seen_in (sent t key i) key ≡ seen_by c
+seen_sent t key i s c on one =
+    ap (seen_at key) (found_sent t key i s on) ∙ ap seen_of (found_changed (is_consumer key) (λ c. sent_one c) (λ _. refl) s.consumers c one)
 
 -- where nothing was learnt behind a message, nothing was before it
-pub nothing_before : (t : Subscriptions) (key : ConsumerKey) (i n : ℕ) → has_consumer t key ≡ true → sent (learnt t key n) key i ≡ sent t key i → learnt t key n ≡ t
+pub nothing_before : (t : Subscriptions) (key : ConsumerKey) (i : ℕ) (n : Seen) → has_consumer t key ≡ true → sent (learnt t key n) key i ≡ sent t key i → learnt t key n ≡ t
 nothing_before t key i n there same =
     let at = attached_one t key there in
     let s = at.0 in
     let c = at.2 in
     let on = found_changed (is_on key) (learnt_on key n) (λ s. on_learnt key n key s) t.subs s at.1 in
     let one = found_changed (is_consumer key) (learnt_to n) (λ _. refl) s.consumers c at.3 in
-    let after : granted_count (sent (learnt t key n) key i) key ≡ max c.granted n = granted_sent (learnt t key n) key i (learnt_on key n s) (learnt_to n c) on one in
-    let before : granted_count (sent t key i) key ≡ c.granted = granted_sent t key i s c at.1 at.3 in
-    let is : max c.granted n ≡ c.granted = sym after ∙ ap (λ (x : Subscriptions). granted_count x key) same ∙ before in
-    learns_none t key n (omega (arith, is, granted_one t key s c at.1 at.3))
+    let after : seen_in (sent (learnt t key n) key i) key ≡ seen_by (learnt_to n c) = seen_sent (learnt t key n) key i (learnt_on key n s) (learnt_to n c) on one in
+    let before : seen_in (sent t key i) key ≡ seen_by c = seen_sent t key i s c at.1 at.3 in
+    let is : seen_by (learnt_to n c) ≡ seen_by c = sym after ∙ ap (λ (x : Subscriptions). seen_in x key) same ∙ before in
+    let known : IsKnown n (seen_by c) = record { granted = omega (arith, ap (λ (x : Seen). x.granted) is); looks = omega (arith, ap (λ (x : Seen). x.looks) is) } in
+    learns_none t key n (subst (IsKnown n) (sym (seen_one t key s c at.1 at.3)) known)
 
 -- who is admitted is attached
 pub admitted_there : (t : Subscriptions) (key : ConsumerKey) (committed i : ℕ) → Admits t key committed i → has_consumer t key ≡ true
@@ -169,7 +186,7 @@ admitted_there t key committed i a = there (find (is_on key) t.subs) refl a
     there (Some s) is a = any_found (is_on key) t.subs s is
 
 -- what is learnt changes no count of what was sent
-pub before_learnt : (t : Subscriptions) (key : ConsumerKey) (n i : ℕ) → has_consumer t key ≡ true → sent_before (learnt t key n) key i ≡ sent_before t key i
+pub before_learnt : (t : Subscriptions) (key : ConsumerKey) (n : Seen) (i : ℕ) → has_consumer t key ≡ true → sent_before (learnt t key n) key i ≡ sent_before t key i
 before_learnt t key n i there =
     let at = attached_one t key there in
     ap (λ o. times_at o i) (found_changed (is_on key) (learnt_on key n) (λ s. on_learnt key n key s) t.subs at.0 at.1) ∙ sym (ap (λ o. times_at o i) at.1)

@@ -1,5 +1,5 @@
 -- What is learnt where a session's consumers are looked at, from a consumer to the subscriptions of a topic.
-use Rattle.std.proofs.Common.{◌≡◌, ℕ, zero, suc, ◌+◌, ◌<◌, ◌≤◌, ◌^◌, Bool, true, false, cond, max, nat_eq, nat_lt, ◌&&◌, ◌||◌, Option, Some, None, List, [], ◌∷◌, length, take, get_or, set, refl, ap, sym, ◌∙◌, subst, arith, add-one}
+use Rattle.std.proofs.Common.{◌≡◌, inl, inr, ⊎_elim, ℕ, zero, suc, ◌+◌, ◌<◌, ◌≤◌, ◌^◌, Bool, true, false, cond, max, nat_eq, nat_lt, ◌&&◌, ◌||◌, Option, Some, None, List, [], ◌∷◌, length, take, get_or, set, refl, ap, sym, ◌∙◌, subst, arith, add-one}
 use Rattle.std.proofs.lemmas.Bool.{true≢false}
 use Rattle.std.proofs.lemmas.Bool.Decides.{nat_tests}
 use Rattle.std.proofs.lemmas.List.{take_all}
@@ -16,7 +16,8 @@ use Rattle.subscriptions.specs.Hints.{IsHint, AreHints, AreHintsOf, AreHintsOn}
 use Rattle.subscriptions.specs.Quiet.{has_permit_of, has_permits, IsQuietOn, IsQuiet, noted, AreQuiet}
 use Rattle.subscriptions.specs.Soundness.{IsWithinPermits, IsSoundSubscription, HasLimits}
 use Rattle.subscriptions.specs.State.{Consumer, Subscription, Subscriptions}
-use Rattle.subscriptions.specs.Steps.{is_consumer, is_named, is_on, IsLearnt, learnt_to, learnt_of, HaveLearnt, HasLearntOn}
+use Rattle.subscriptions.specs.Steps.{is_consumer, is_named, is_on, IsLearnt, IsLooked, learnt_to, learnt_of, HaveLearnt, HaveLooked, HasLearntOn, HasLookedOn}
+use Rattle.permits.specs.Ends.{Seen}
 use Rattle.subscriptions.proofs.Noted.{none_noted, still_noted}
 use Rattle.subscriptions.proofs.Standing.{behind, step}
 use Rattle.subscriptions.proofs.Told.{zip_each}
@@ -63,6 +64,34 @@ module _ {X : Type 0} (R : X → X → Type 0) where
   zip_both to (x ∷ xs) (y ∷ ys) [] h k = absurd k
   zip_both to (x ∷ xs) (y ∷ ys) (z ∷ zs) h k = (to x y z h.0 k.0, zip_both to xs ys zs h.1 k.1)
 
+  -- what relates the first elements relates one more, which was read, changed and written back
+  pub zip_one : (S : X → X → Type 0) → ((x y z : X) → R x y → S y z → S x z) → (xs ys : List X) (i : ℕ) (y z : X) → AllZip R xs ys → AllZip S (take i xs) (take i ys) → y ≡ get_or ys i y → S y z
+      → AllZip S (take (suc i) xs) (take (suc i) (set ys i z))
+  zip_one S both [] [] zero y z h all read is = tt
+  zip_one S both [] [] (suc i) y z h all read is = tt
+  zip_one S both [] (b ∷ ys) i y z h all read is = absurd h
+  zip_one S both (a ∷ xs) [] i y z h all read is = absurd h
+  zip_one S both (a ∷ xs) (b ∷ ys) zero y z h all read is = (both a b z h.0 (subst (λ (w : X). S w z) read is), tt)
+  zip_one S both (a ∷ xs) (b ∷ ys) (suc i) y z h all read is = (all.0, zip_one S both xs ys i y z h.1 all.1 read is)
+
+  pub zip_more : (S : X → X → Type 0) → ((x y z : X) → R x y → S y z → S x z) → (xs ys : List X) (i : ℕ) (y z : X) → AllZip R xs ys → AllZip S (take i xs) (take i ys) → y ≡ get_or ys i y → S y z
+      → AllZip S (take (i + 1) xs) (take (i + 1) (set ys i z))
+  zip_more S both xs ys i y z h all read is = subst (λ k. AllZip S (take k xs) (take k (set ys i z))) (sym (add-one i)) (zip_one S both xs ys i y z h all read is)
+
+  -- and all of them behind the last one
+  pub zip_of_all : (S : X → X → Type 0) (xs ys : List X) (i : ℕ) → AllZip R xs ys → length ys ≤ i → AllZip S (take i xs) (take i ys) → AllZip S xs ys
+  zip_of_all S xs ys i h many all =
+      let as_many : length xs ≡ length ys = length_all_zip R xs ys h in
+      subst (λ (zs : List X). AllZip S zs ys) (take_all i xs (omega (arith, as_many, many))) (subst (λ (zs : List X). AllZip S (take i xs) zs) (take_all i ys many) all)
+
+  pub zip_behind : (S : X → X → Type 0) → ((x y z : X) → R x y → S y z → S x z) → (xs ys zs : List X) → AllZip R xs ys → AllZip S ys zs → AllZip S xs zs
+  zip_behind S to [] [] [] h k = tt
+  zip_behind S to [] [] (z ∷ zs) h k = absurd k
+  zip_behind S to [] (y ∷ ys) zs h k = absurd h
+  zip_behind S to (x ∷ xs) [] zs h k = absurd h
+  zip_behind S to (x ∷ xs) (y ∷ ys) [] h k = absurd k
+  zip_behind S to (x ∷ xs) (y ∷ ys) (z ∷ zs) h k = (to x y z h.0 k.0, zip_behind S to xs ys zs h.1 k.1)
+
   -- what is read of the first that passes a test
   pub zip_found : {Y : Type 0} (read : X → Y) (test : X → Bool) → ((x y : X) → R x y → test y ≡ test x) → ((x y : X) → R x y → read y ≡ read x) → (xs ys : List X) → AllZip R xs ys
       → option_map read (find test ys) ≡ option_map read (find test xs)
@@ -81,60 +110,107 @@ module _ {X : Type 0} (R : X → X → Type 0) where
 abbrev Learns : ℕ → Consumer → Consumer → Type 0
 Learns who c d = IsLearnt (λ n. learnt_of who n c) d
 
-nothing_more : (b : Bool) (c : Consumer) → c ≡ cond b (learnt_to 0 c) c
-nothing_more true c = let none : c.granted ≡ max c.granted 0 = omega arith in λ i. record c { granted = none i }
+-- nothing was seen, or there was one look, which showed nothing
+abbrev pub unseen : Seen
+unseen = record { granted = 0; looks = 0 }
+
+abbrev pub seen_once : Seen
+seen_once = record { granted = 0; looks = 1 }
+
+pub nothing_to : (c : Consumer) → c ≡ learnt_to unseen c
+nothing_to c =
+    let none : c.granted ≡ max c.granted 0 = omega arith in
+    let never : c.looks ≡ c.looks + 0 = omega arith in
+    λ i. record c { granted = none i; looks = never i }
+
+nothing_more : (b : Bool) (c : Consumer) → c ≡ cond b (learnt_to unseen c) c
+nothing_more true c = nothing_to c
 nothing_more false c = refl
 
 pub learns_nothing_of : (who : ℕ) (c : Consumer) → Learns who c c
-learns_nothing_of who c = record { granted = 0; bound = omega arith; same = nothing_more (nat_eq c.key.session who) c }
+learns_nothing_of who c = record { seen = unseen; bound = omega arith; same = nothing_more (nat_eq c.key.session who) c }
 
-pub learns_itself : (who : ℕ) (c d : Consumer) → nat_eq c.key.session who ≡ true → IsLearnt (λ n. learnt_to n c) d → Learns who c d
-learns_itself who c d its l = record { granted = l.granted; bound = l.bound; same = l.same ∙ sym (ap (λ b. cond b (learnt_to l.granted c) c) its) }
+abbrev Looks : Type 0 → ℕ → Consumer → Consumer → Type 0
+Looks exact who c d = IsLooked exact (λ n. learnt_of who n c) d
 
-abbrev within_session : Bool → ℕ → Consumer → Consumer
+pub looks_itself : (exact : Type 0) (who : ℕ) (c d : Consumer) → nat_eq c.key.session who ≡ true → IsLooked exact (λ n. learnt_to n c) d → Looks exact who c d
+looks_itself exact who c d its l = record {
+  learnt = record { seen = l.learnt.seen; bound = l.learnt.bound; same = l.learnt.same ∙ sym (ap (λ b. cond b (learnt_to l.learnt.seen c) c) its) };
+  once = l.once;
+}
+
+-- whether it is the session's
+pub its_own : (session who : ℕ) → session ≡ who → nat_eq session who ≡ true
+its_own session who is = grind (arith, nat_tests)
+
+pub not_its_own : (session who : ℕ) → (session ≡ who → ⊥) → nat_eq session who ≡ false
+not_its_own session who other = grind (arith, nat_tests)
+
+-- for another session's consumer it needn't be looked
+pub looks_past : (exact : Type 0) (who : ℕ) (c d : Consumer) → nat_eq c.key.session who ≡ false → d ≡ c → Looks exact who c d
+looks_past exact who c d other same = record {
+  learnt = record { seen = seen_once; bound = omega arith; same = same ∙ sym (ap (λ b. cond b (learnt_to seen_once c) c) other) };
+  once = inr (omega arith);
+}
+
+abbrev within_session : Bool → Seen → Consumer → Consumer
 within_session b n c = cond b (learnt_to n c) c
 
-key_kept : (b : Bool) (n : ℕ) (c : Consumer) → (within_session b n c).key ≡ c.key
+key_kept : (b : Bool) (n : Seen) (c : Consumer) → (within_session b n c).key ≡ c.key
 key_kept true n c = refl
 key_kept false n c = refl
 
 pub key_learnt : (who : ℕ) (c d : Consumer) → Learns who c d → d.key ≡ c.key
-key_learnt who c d l = ap (λ (x : Consumer). x.key) l.same ∙ key_kept (nat_eq c.key.session who) l.granted c
+key_learnt who c d l = ap (λ (x : Consumer). x.key) l.same ∙ key_kept (nat_eq c.key.session who) l.seen c
 
 both_known : (a m n : ℕ) → max (max a m) n ≡ max a (max m n)
 both_known a m n = omega arith
 
-both_learnt : (b : Bool) (m n : ℕ) (c : Consumer) → within_session b n (within_session b m c) ≡ within_session b (max m n) c
-both_learnt true m n c = λ i. record c { granted = both_known c.granted m n i }
+-- what was seen at first and then
+abbrev pub seen_both : Seen → Seen → Seen
+seen_both m n = record { granted = max m.granted n.granted; looks = m.looks + n.looks }
+
+both_learnt : (b : Bool) (m n : Seen) (c : Consumer) → within_session b n (within_session b m c) ≡ within_session b (seen_both m n) c
+both_learnt true m n c =
+    let looks : (c.looks + m.looks) + n.looks ≡ c.looks + (m.looks + n.looks) = omega arith in
+    λ i. record c { granted = both_known c.granted m.granted n.granted i; looks = looks i }
 both_learnt false m n c = refl
 
 pub learns_both : (who : ℕ) (c d e : Consumer) → Learns who c d → Learns who d e → Learns who c e
 learns_both who c d e first second = record {
-  granted = max first.granted second.granted;
+  seen = seen_both first.seen second.seen;
   bound = omega (arith, first.bound, second.bound);
   same = second.same
-      ∙ ap (λ (k : ConsumerKey). within_session (nat_eq k.session who) second.granted d) (key_learnt who c d first)
-      ∙ ap (within_session (nat_eq c.key.session who) second.granted) first.same
-      ∙ both_learnt (nat_eq c.key.session who) first.granted second.granted c;
+      ∙ ap (λ (k : ConsumerKey). within_session (nat_eq k.session who) second.seen d) (key_learnt who c d first)
+      ∙ ap (within_session (nat_eq c.key.session who) second.seen) first.same
+      ∙ both_learnt (nat_eq c.key.session who) first.seen second.seen c;
 }
 
-within_kept : (b : Bool) (n : ℕ) (c : Consumer) → n ≤ 2 ^ 62 → IsWithinPermits c → IsWithinPermits (within_session b n c)
+-- what was learnt before a look
+pub looks_both : (exact : Type 0) (who : ℕ) (c d e : Consumer) → Learns who c d → Looks exact who d e → Looks exact who c e
+unfolding learns_both
+looks_both exact who c d e first second = record {
+  learnt = learns_both who c d e first second.learnt;
+  once = ⊎_elim (λ x. inl x) (λ more. inr (omega (arith, more))) second.once;
+}
+
+within_kept : (b : Bool) (n : Seen) (c : Consumer) → n.granted ≤ 2 ^ 62 → IsWithinPermits c → IsWithinPermits (within_session b n c)
 within_kept true n c bound p = record { sent = omega (arith, p.sent); granted = omega (arith, p.granted, bound) }
 within_kept false n c bound p = p
 
 within_learnt : (who : ℕ) (c d : Consumer) → Learns who c d → IsWithinPermits c → IsWithinPermits d
-within_learnt who c d l p = subst IsWithinPermits (sym l.same) (within_kept (nat_eq c.key.session who) l.granted c l.bound p)
+within_learnt who c d l p = subst IsWithinPermits (sym l.same) (within_kept (nat_eq c.key.session who) l.seen c l.bound p)
 
 not_its : (c who q : ℕ) → nat_eq q who ≡ false → nat_eq c who ≡ true → nat_eq c q ≡ false
 not_its c who q other its = grind (arith, nat_tests)
 
-permit_kept : (b : Bool) (q n : ℕ) (c : Consumer) → (b ≡ true → nat_eq c.key.session q ≡ false) → has_permit_of q (within_session b n c) ≡ has_permit_of q c
-permit_kept true q n c other = ap (λ b. b && nat_lt c.sent (max c.granted n)) (other refl) ∙ sym (ap (λ b. b && nat_lt c.sent c.granted) (other refl))
+permit_kept : (b : Bool) (q : ℕ) (n : Seen) (c : Consumer) → (b ≡ true → nat_eq c.key.session q ≡ false) → has_permit_of q (within_session b n c) ≡ has_permit_of q c
+permit_kept true q n c other = ap (λ b. b && nat_lt c.sent (max c.granted n.granted)) (other refl) ∙ sym (ap (λ b. b && nat_lt c.sent c.granted) (other refl))
 permit_kept false q n c other = refl
 
 -- another session's permits stay
 permit_elsewhere : (who q : ℕ) (c d : Consumer) → nat_eq q who ≡ false → Learns who c d → has_permit_of q d ≡ has_permit_of q c
-permit_elsewhere who q c d other l = ap (has_permit_of q) l.same ∙ permit_kept (nat_eq c.key.session who) q l.granted c (not_its c.key.session who q other)
+permit_elsewhere who q c d other l = ap (has_permit_of q) l.same ∙ permit_kept (nat_eq c.key.session who) q l.seen c (not_its c.key.session who q other)
 
 -- ---- a list of consumers
 
@@ -146,6 +222,13 @@ have_nothing who cs = zip_same (Learns who) (learns_nothing_of who) cs
 
 pub have_more : (who : ℕ) (cs ds : List Consumer) (i : ℕ) (d e : Consumer) → HaveLearnt who cs ds → d ≡ get_or ds i d → Learns who d e → HaveLearnt who cs (set ds i e)
 have_more who cs ds i d e have read l = zip_set (Learns who) cs ds i d e have read (λ c first. learns_both who c d e first l)
+
+pub looked_more : (exact : Type 0) (who : ℕ) (cs ds : List Consumer) (i : ℕ) (d e : Consumer) → HaveLearnt who cs ds → HaveLooked exact who (take i cs) (take i ds) → d ≡ get_or ds i d → Looks exact who d e
+    → HaveLooked exact who (take (i + 1) cs) (take (i + 1) (set ds i e))
+looked_more exact who cs ds i d e have all read is = zip_more (Learns who) (Looks exact who) (looks_both exact who) cs ds i d e have all read is
+
+pub looked_all : (exact : Type 0) (who : ℕ) (cs ds : List Consumer) (i : ℕ) → HaveLearnt who cs ds → length ds ≤ i → HaveLooked exact who (take i cs) (take i ds) → HaveLooked exact who cs ds
+looked_all exact who cs ds i have many all = zip_of_all (Learns who) (Looks exact who) cs ds i have many all
 
 on_looked : (who : ℕ) (key : ConsumerKey) (cs ds : List Consumer) → HaveLearnt who cs ds → list_any (is_consumer key) ds ≡ list_any (is_consumer key) cs
 on_looked who key cs ds have = zip_any (Learns who) (is_consumer key) (λ c d l. ap (λ (k : ConsumerKey). is_consumer key (record c { key = k })) (key_learnt who c d l)) cs ds have
@@ -244,6 +327,23 @@ quiet_looked : (who q committed : ℕ) (s s' : Subscription) → nat_eq q who �
 quiet_looked who q committed s s' other h quiet = subst (IsQuietOn q committed) (sym h.same) (quiet_with who q committed s s'.consumers other h.consumers quiet)
 
 -- ---- the subscriptions of a topic
+
+-- where something is open on each of the first subscriptions it was looked, and so it is on one more
+looks_on_both : (exact : Type 0) (who committed : ℕ) (s r u : Subscription) → HasLearntOn who s r → HasLookedOn exact who committed r u → HasLookedOn exact who committed s u
+looks_on_both exact who committed s r u first second =
+    ⊎_elim
+    (λ none. inl (subst (λ (x : Subscription). (i : ℕ) → IsOpenAt committed x.acked x.deliveries i → ⊥) first.same none))
+    (λ have. inr (zip_behind (Learns who) (Looks exact who) (looks_both exact who) s.consumers r.consumers u.consumers first.consumers have))
+    second
+
+pub looked_more_on : (exact : Type 0) (who committed : ℕ) (subs subs' : List Subscription) (i : ℕ) (s s' : Subscription) → AllZip (HasLearntOn who) subs subs' → AllZip (HasLookedOn exact who committed) (take i subs) (take i subs')
+    → s ≡ get_or subs' i s → HasLookedOn exact who committed s s' → AllZip (HasLookedOn exact who committed) (take (i + 1) subs) (take (i + 1) (set subs' i s'))
+looked_more_on exact who committed subs subs' i s s' h all read is =
+    zip_more (HasLearntOn who) (HasLookedOn exact who committed) (looks_on_both exact who committed) subs subs' i s s' h all read is
+
+pub looked_all_on : (exact : Type 0) (who committed : ℕ) (subs subs' : List Subscription) (i : ℕ) → AllZip (HasLearntOn who) subs subs' → length subs' ≤ i → AllZip (HasLookedOn exact who committed) (take i subs) (take i subs')
+    → AllZip (HasLookedOn exact who committed) subs subs'
+looked_all_on exact who committed subs subs' i h many all = zip_of_all (HasLearntOn who) (HasLookedOn exact who committed) subs subs' i h many all
 
 pub nothing_looked : (who : ℕ) (subs : List Subscription) → AllZip (HasLearntOn who) subs subs
 nothing_looked who subs = zip_same (HasLearntOn who) (same_on who) subs

@@ -14,7 +14,7 @@ use Rattle.subscriptions.specs.State.{Consumer, Subscription, Subscriptions}
 use Rattle.subscriptions.specs.Steps.{first_changed, is_on, is_named, is_consumer, has_permit, granted_on, granted_to, learnt_on, learnt_to, acked_on, acked_through_on, sent_on, sent_one, attached_to, made, Admits, AdmitsAt}
 use Rattle.subscriptions.proofs.Passed.{FreesNone, grants, learns, acks, acks_through, sends}
 use Rattle.subscriptions.proofs.Sound.{all_changed, all_pushed, opens_of}
-use Rattle.permits.specs.Ends.{Word}
+use Rattle.permits.specs.Ends.{Seen, Word}
 
 -- ---- a session's permits
 
@@ -42,11 +42,11 @@ neither : (a b c : Bool) → a ≡ false → (a && b) ≡ true → (a && c) ≡ 
 neither true b c off h = absurd (true≢false off)
 neither false b c off h = h
 
-without_permits : (who : ℕ) (cs : List Consumer) (key : ConsumerKey) (word : Word) → has_permits who (cs ++ record { key = key; granted = 0; sent = 0; word = word } ∷ []) ≡ true → has_permits who cs ≡ true
+without_permits : (who : ℕ) (cs : List Consumer) (key : ConsumerKey) (word : Word) → has_permits who (cs ++ record { key = key; granted = 0; sent = 0; word = word; looks = 0 } ∷ []) ≡ true → has_permits who cs ≡ true
 without_permits who [] key word h = elim (nat_eq key.session who) as (λ b. ((b && false) || false) ≡ true → false ≡ true) [ true ↦ λ k. k | false ↦ λ k. k ] h
 without_permits who (c ∷ cs) key word h =
     let it : Bool = nat_eq c.key.session who && nat_lt c.sent c.granted in
-    either it it (has_permits who (cs ++ record { key = key; granted = 0; sent = 0; word = word } ∷ [])) (has_permits who cs) (λ k. k) (without_permits who cs key word) h
+    either it it (has_permits who (cs ++ record { key = key; granted = 0; sent = 0; word = word; looks = 0 } ∷ [])) (has_permits who cs) (λ k. k) (without_permits who cs key word) h
 
 its_session : (c k : ConsumerKey) → same_key c k ≡ true → nat_eq c.session k.session ≡ true
 its_session c k same = grind (arith, nat_tests)
@@ -148,12 +148,12 @@ notes_granted subs notes notes' key permits says are = record {
 }
 
 -- one session learns of permits, and its note goes
-learnt_elsewhere : (key : ConsumerKey) (n who : ℕ) → nat_eq who key.session ≡ false → LeavesQuiet who (learnt_on key n)
+learnt_elsewhere : (key : ConsumerKey) (n : Seen) (who : ℕ) → nat_eq who key.session ≡ false → LeavesQuiet who (learnt_on key n)
 learnt_elsewhere key n who other = leaves who (learnt_on key n) (learns key n)
     (λ s. any_before (has_permit_of who) (is_consumer key) (learnt_to n)
-    (λ c here. neither (nat_eq c.key.session who) (nat_lt c.sent (max c.granted n)) (nat_lt c.sent c.granted) (other_session c.key key who here other)) s.consumers)
+    (λ c here. neither (nat_eq c.key.session who) (nat_lt c.sent (max c.granted n.granted)) (nat_lt c.sent c.granted) (other_session c.key key who here other)) s.consumers)
 
-pub notes_learnt : (subs : List Subscription) (notes notes' : List (Option Note)) (key : ConsumerKey) (n : ℕ) → ((q : ℕ) → noted q notes' ≡ cond (nat_eq q key.session) None (noted q notes))
+pub notes_learnt : (subs : List Subscription) (notes notes' : List (Option Note)) (key : ConsumerKey) (n : Seen) → ((q : ℕ) → noted q notes' ≡ cond (nat_eq q key.session) None (noted q notes))
     → AreQuiet subs notes → AreQuiet (first_changed (is_on key) (learnt_on key n) subs) notes'
 notes_learnt subs notes notes' key n says are = record {
   quiet = λ who committed is.

@@ -23,7 +23,7 @@ use Rattle.subscriptions.specs.State.{Subscription, Subscriptions}
 use Rattle.subscriptions.specs.Steps.{first_changed, is_on, granted, granted_on, learnt, learnt_on, acknowledged, acked_on, acknowledged_through, acked_through_on, sent, sent_on, slotted, attached_to, AdmitsBy, IsLeastIn, is_key_shared}
 use Rattle.subscriptions.proofs.Sound.{all_kept, all_pushed}
 use Rattle.subscriptions.proofs.Settled.{is_in, has_joined, get_forgotten, has_through, get_forgotten_below}
-use Rattle.permits.specs.Ends.{Word}
+use Rattle.permits.specs.Ends.{Seen, Word}
 
 -- ---- hints as a list
 
@@ -211,13 +211,13 @@ pub hints_granted : (t : Subscriptions) (key : ConsumerKey) (permits : ℕ) (hin
 hints_granted t key permits hints all =
     are_hints (granted t key permits) hints (hints_changed t.slots (is_on key) (granted_on key permits) (grants key permits) t.subs hints all.each_one)
 
-pub learns : (key : ConsumerKey) (n : ℕ) → FreesNone (learnt_on key n)
+pub learns : (key : ConsumerKey) (n : Seen) → FreesNone (learnt_on key n)
 learns key n = record {
   seats = λ _. refl;
   opens = λ s i lacks free. (lacks, free);
 }
 
-pub hints_learnt : (t : Subscriptions) (key : ConsumerKey) (n : ℕ) (hints : List (List Hint)) → AreHints t hints → AreHints (learnt t key n) hints
+pub hints_learnt : (t : Subscriptions) (key : ConsumerKey) (n : Seen) (hints : List (List Hint)) → AreHints t hints → AreHints (learnt t key n) hints
 hints_learnt t key n hints all =
     are_hints (learnt t key n) hints (hints_changed t.slots (is_on key) (learnt_on key n) (learns key n) t.subs hints all.each_one)
 

@@ -32,7 +32,7 @@ use Rattle.subscriptions.specs.Soundness.{IsWithinPermits, IsSoundSubscription}
 use Rattle.subscriptions.proofs.Lists.{keys_pushed, keys_kept, keys_changed, keys_length}
 use Rattle.subscriptions.proofs.Each.{get_each, apart_changed}
 use Rattle.subscriptions.proofs.Settled.{is_in, get_forgotten, get_forgotten_below, apart_acked, apart_through, apart_empty, apart_sent, given_back_apart}
-use Rattle.permits.specs.Ends.{Word}
+use Rattle.permits.specs.Ends.{Seen, Word}
 
 -- ---- lists
 
@@ -244,7 +244,7 @@ sound_granted key n s within sound = record {
   held = λ i k h. any_changed (is_consumer key) (granted_to n) (is_consumer k) (λ _. refl) s.consumers ∙ sound.held i k h;
 }
 
-pub sound_learnt : (key : ConsumerKey) (n : ℕ) (s : Subscription) → n ≤ 2 ^ 62 → IsSoundSubscription s → IsSoundSubscription (learnt_on key n s)
+pub sound_learnt : (key : ConsumerKey) (n : Seen) (s : Subscription) → n.granted ≤ 2 ^ 62 → IsSoundSubscription s → IsSoundSubscription (learnt_on key n s)
 sound_learnt key n s within sound = record {
   few = rw length_changed sound.few;
   single = λ is. rw length_changed (sound.single is);

@@ -23,7 +23,7 @@ use Rattle.subscriptions.specs.Steps.{first_changed, is_consumer, is_on, is_name
 use Rattle.subscriptions.proofs.Sound.{any_changed}
 use Rattle.subscriptions.proofs.Passed.{key_is}
 use Rattle.subscriptions.proofs.Places.{is_place, finds}
-use Rattle.permits.specs.Ends.{Word}
+use Rattle.permits.specs.Ends.{Seen, Word}
 
 -- ---- the directory as a list
 
@@ -263,7 +263,7 @@ of_another key k who its other = grind (arith, nat_tests)
 on_granted : (key : ConsumerKey) (permits : ℕ) (k : ConsumerKey) (s : Subscription) → is_on k (granted_on key permits s) ≡ is_on k s
 on_granted key permits k s = any_changed (is_consumer key) (granted_to permits) (is_consumer k) (λ _. refl) s.consumers
 
-pub on_learnt : (key : ConsumerKey) (n : ℕ) (k : ConsumerKey) (s : Subscription) → is_on k (learnt_on key n s) ≡ is_on k s
+pub on_learnt : (key : ConsumerKey) (n : Seen) (k : ConsumerKey) (s : Subscription) → is_on k (learnt_on key n s) ≡ is_on k s
 on_learnt key n k s = any_changed (is_consumer key) (learnt_to n) (is_consumer k) (λ _. refl) s.consumers
 
 on_sent : (key : ConsumerKey) (i : ℕ) (k : ConsumerKey) (s : Subscription) → is_on k (sent_on key i s) ≡ is_on k s
@@ -303,7 +303,7 @@ places_kept subs places test f same are = record { found = λ k. are.found k ∙
 pub places_granted : (subs : List Subscription) (places : List ((ℕ × ℕ) × ℕ)) (key : ConsumerKey) (permits : ℕ) → ArePlaces subs places → ArePlaces (first_changed (is_on key) (granted_on key permits) subs) places
 places_granted subs places key permits are = places_kept subs places (is_on key) (granted_on key permits) (on_granted key permits) are
 
-pub places_learnt : (subs : List Subscription) (places : List ((ℕ × ℕ) × ℕ)) (key : ConsumerKey) (n : ℕ) → ArePlaces subs places → ArePlaces (first_changed (is_on key) (learnt_on key n) subs) places
+pub places_learnt : (subs : List Subscription) (places : List ((ℕ × ℕ) × ℕ)) (key : ConsumerKey) (n : Seen) → ArePlaces subs places → ArePlaces (first_changed (is_on key) (learnt_on key n) subs) places
 places_learnt subs places key n are = places_kept subs places (is_on key) (learnt_on key n) (on_learnt key n) are
 
 pub places_sent : (subs : List Subscription) (places : List ((ℕ × ℕ) × ℕ)) (key : ConsumerKey) (i : ℕ) → ArePlaces subs places → ArePlaces (first_changed (is_on key) (sent_on key i) subs) places
@@ -323,7 +323,7 @@ pub by_key : (key k : ConsumerKey) (a b c : Option ℕ) → (same_key key k ≡ 
 by_key key k a b c its others = elim (same_key key k) as (λ s. same_key key k ≡ s → cond s a b ≡ c) [ true ↦ λ same. its same | false ↦ λ other. others other ] refl
 
 abbrev newcomer : Seat → Word → Consumer
-newcomer seat word = record { key = seat.key; granted = 0; sent = 0; word = word }
+newcomer seat word = record { key = seat.key; granted = 0; sent = 0; word = word; looks = 0 }
 
 -- a consumer is attached to the subscription of a name
 pub places_joined : (subs : List Subscription) (places places' : List ((ℕ × ℕ) × ℕ)) (name : List ℕ) (mode : Mode) (seat : Seat) (word : Word) (p : ℕ) → position (is_named name) subs ≡ Some p

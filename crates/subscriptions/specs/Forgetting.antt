@@ -10,7 +10,7 @@ use Rattle.holds.specs.declared.consumer.SlotRange.{SlotRange}
 use Rattle.subscriptions.specs.declared.consumer.Mode.{Mode}
 use Rattle.subscriptions.specs.State.{Subscription, Subscriptions}
 use Rattle.subscriptions.specs.Steps.{subscribe_refusals, attached, granted, grants_too_many, learnt, HasLearnt, acknowledged, acknowledged_through, unsubscribe_refusals, unsubscribed, sent, sent_before, left, detached, redelivered, settled, slotted, Admits}
-use Rattle.permits.specs.Ends.{Word}
+use Rattle.permits.specs.Ends.{Seen, Word}
 
 -- the deliveries of the positions that aren't acknowledged
 abbrev pub unacknowledged : Positions → Deliveries → Deliveries
@@ -37,7 +37,7 @@ pub record AnswersTheSame (t : Subscriptions) : Type 0 where
 pub record GoesOnTheSame (t : Subscriptions) : Type 0 where
   pub attach : (name : List ℕ) (mode : Mode) (seat : Seat) (word : Word) (start : ℕ) → forgetful (attached (forgetful t) name mode seat word start) ≡ forgetful (attached t name mode seat word start)
   pub grant : (key : ConsumerKey) (permits : ℕ) → forgetful (granted (forgetful t) key permits) ≡ forgetful (granted t key permits)
-  pub learn : (key : ConsumerKey) (granted : ℕ) → forgetful (learnt (forgetful t) key granted) ≡ forgetful (learnt t key granted)
+  pub learn : (key : ConsumerKey) (seen : Seen) → forgetful (learnt (forgetful t) key seen) ≡ forgetful (learnt t key seen)
   pub look : (who : ℕ) (new : Subscriptions) → HasLearnt who t new → HasLearnt who (forgetful t) (forgetful new)
   pub acknowledge : (key : ConsumerKey) (positions : List ℕ) → forgetful (acknowledged (forgetful t) key positions) ≡ forgetful (acknowledged t key positions)
   pub acknowledge_through : (key : ConsumerKey) (position : ℕ) → forgetful (acknowledged_through (forgetful t) key position) ≡ forgetful (acknowledged_through t key position)

@@ -14,7 +14,7 @@ use Rattle.records.specs.Records.{IsThere, AreFormed, after_all}
 use Rattle.subscriptions.specs.State.{Subscription, Subscriptions}
 use Rattle.subscriptions.specs.Steps.{none_yet, opened, first_standing, subscribe_refusals, attached, has_consumer, learnt, HasLearnt, granted, grants_too_many, acknowledged, acknowledged_through, unsubscribe_refusals, unsubscribed, sent, left, detached, redelivered, settled, slotted, Admits, is_named, is_on}
 use Rattle.subscriptions.specs.Soundness.{IsSound, HasLimits, IsCommitted}
-use Rattle.permits.specs.Ends.{Word}
+use Rattle.permits.specs.Ends.{Seen, Word}
 
 -- durable subscriptions that a topic may have: 64 at most, each name of its form
 pub record AreDurable (kept : Kept) : Type 0 where
@@ -38,7 +38,7 @@ pub record StaysSound : Type 0 where
   pub opened : (kept : Kept) → AreDurable kept → IsSound (opened kept)
   pub attach : (t : Subscriptions) (name : List ℕ) (mode : Mode) (seat : Seat) (word : Word) (start : ℕ) → first_standing (subscribe_refusals t name mode seat.ranges) ≡ None → IsSound t → IsSound (attached t name mode seat word start)
   pub grant : (t : Subscriptions) (key : ConsumerKey) (permits : ℕ) → grants_too_many t key permits ≡ false → IsSound t → IsSound (granted t key permits)
-  pub learn : (t : Subscriptions) (key : ConsumerKey) (granted : ℕ) → (has_consumer t key ≡ true → granted ≤ 2 ^ 62) → IsSound t → IsSound (learnt t key granted)
+  pub learn : (t : Subscriptions) (key : ConsumerKey) (seen : Seen) → (has_consumer t key ≡ true → seen.granted ≤ 2 ^ 62) → IsSound t → IsSound (learnt t key seen)
   pub look : (t new : Subscriptions) (who : ℕ) → HasLearnt who t new → IsSound t → IsSound new
   pub acknowledge : (t : Subscriptions) (key : ConsumerKey) (positions : List ℕ) → length t.changes + length positions ≤ 65536 → IsSound t → IsSound (acknowledged t key positions)
   pub acknowledge_through : (t : Subscriptions) (key : ConsumerKey) (position : ℕ) → length t.changes + 1 ≤ 65536 → IsSound t → IsSound (acknowledged_through t key position)
@@ -57,7 +57,7 @@ pub record AreKept : Type 0 where
   pub attach : (entries : ℕ) (kept : Kept) (t : Subscriptions) (name : List ℕ) (mode : Mode) (seat : Seat) (word : Word) (start : ℕ)
       → first_standing (subscribe_refusals t name mode seat.ranges) ≡ None → is_subscription_name name ≡ true → start ≤ entries → IsKept entries kept t → IsKept entries kept (attached t name mode seat word start)
   pub grant : (entries : ℕ) (kept : Kept) (t : Subscriptions) (key : ConsumerKey) (permits : ℕ) → IsKept entries kept t → IsKept entries kept (granted t key permits)
-  pub learn : (entries : ℕ) (kept : Kept) (t : Subscriptions) (key : ConsumerKey) (granted : ℕ) → IsKept entries kept t → IsKept entries kept (learnt t key granted)
+  pub learn : (entries : ℕ) (kept : Kept) (t : Subscriptions) (key : ConsumerKey) (seen : Seen) → IsKept entries kept t → IsKept entries kept (learnt t key seen)
   pub look : (entries : ℕ) (kept : Kept) (t new : Subscriptions) (who : ℕ) → HasLearnt who t new → IsKept entries kept t → IsKept entries kept new
   pub acknowledge : (entries : ℕ) (kept : Kept) (t : Subscriptions) (key : ConsumerKey) (positions : List ℕ)
       → HasLimits t → AllByRecursion (λ p. p < entries) positions → IsKept entries kept t → IsKept entries kept (acknowledged t key positions)
@@ -79,7 +79,7 @@ pub record DeliveriesAreCommitted : Type 0 where
   pub opened : (committed : ℕ) (kept : Kept) → IsCommitted committed (opened kept)
   pub attach : (committed : ℕ) (t : Subscriptions) (name : List ℕ) (mode : Mode) (seat : Seat) (word : Word) (start : ℕ) → IsCommitted committed t → IsCommitted committed (attached t name mode seat word start)
   pub grant : (committed : ℕ) (t : Subscriptions) (key : ConsumerKey) (permits : ℕ) → IsCommitted committed t → IsCommitted committed (granted t key permits)
-  pub learn : (committed : ℕ) (t : Subscriptions) (key : ConsumerKey) (granted : ℕ) → IsCommitted committed t → IsCommitted committed (learnt t key granted)
+  pub learn : (committed : ℕ) (t : Subscriptions) (key : ConsumerKey) (seen : Seen) → IsCommitted committed t → IsCommitted committed (learnt t key seen)
   pub look : (committed : ℕ) (t new : Subscriptions) (who : ℕ) → HasLearnt who t new → IsCommitted committed t → IsCommitted committed new
   pub acknowledge : (committed : ℕ) (t : Subscriptions) (key : ConsumerKey) (positions : List ℕ) → IsCommitted committed t → IsCommitted committed (acknowledged t key positions)
   pub acknowledge_through : (committed : ℕ) (t : Subscriptions) (key : ConsumerKey) (position : ℕ) → IsCommitted committed t → IsCommitted committed (acknowledged_through t key position)
@@ -101,4 +101,4 @@ PickedIsOpen = (t : Subscriptions) (key : ConsumerKey) (committed i : ℕ) → A
 
 -- a consumer that may get a position may get it whatever more is learnt of its permits
 abbrev pub LearningAdmits : Type 0
-LearningAdmits = (t : Subscriptions) (key : ConsumerKey) (granted committed i : ℕ) → Admits t key committed i → Admits (learnt t key granted) key committed i
+LearningAdmits = (t : Subscriptions) (key : ConsumerKey) (seen : Seen) (committed i : ℕ) → Admits t key committed i → Admits (learnt t key seen) key committed i

@@ -14,6 +14,7 @@ pub record Consumer : Type 0 where
   pub granted : ℕ  -- how many permits it is known to have been granted
   pub sent : ℕ  -- how many messages it got
   pub word : Word  -- whose permits it takes
+  pub looks : ℕ  -- how often it was looked there
 
 pub record Subscription : Type 0 where
   pub name : List ℕ

@@ -1,5 +1,5 @@
 -- What each call does to the subscriptions of a topic.
-use Rattle.std.specs.Prelude.{◌≡◌, ℕ, ◌+◌, ◌^◌, Bool, true, false, cond, not, ◌&&◌, ◌||◌, nat_eq, nat_lt, nat_le, max, ◌≤◌, Option, Some, None, List, [], ◌∷◌, ◌++◌, length, filter, drop, slice_index, IsTrue, IsSomeAnd, map as each}
+use Rattle.std.specs.Prelude.{◌≡◌, ◌⊎◌, ℕ, ◌+◌, ◌^◌, Bool, true, false, cond, not, ◌&&◌, ◌||◌, nat_eq, nat_lt, nat_le, max, ◌≤◌, Option, Some, None, List, [], ◌∷◌, ◌++◌, length, filter, drop, slice_index, IsTrue, IsSomeAnd, map as each}
 use Rattle.std.specs.List.{AllZip, list_any, find}
 use Rattle.std.specs.Str.{bytes_eq}
 use Rattle.std.specs.FinSet as set
@@ -19,7 +19,7 @@ use Rattle.subscriptions.specs.declared.consumer.Refusal.{Refusal}
 use Rattle.subscriptions.specs.declared.consumer.Refusal.TheVariants.{ConsumerBusy, TooManyRequests, ConsumerAssignError}
 use Rattle.subscriptions.specs.declared.initial_position.InitialPosition.{InitialPosition}
 use Rattle.subscriptions.specs.declared.initial_position.InitialPosition.TheVariants.{Latest, Earliest}
-use Rattle.permits.specs.Ends.{Word}
+use Rattle.permits.specs.Ends.{Seen, Word}
 use Rattle.records.specs.declared.record.Record.{Record}
 use Rattle.records.specs.Maps.{Kept}
 use Rattle.records.specs.declared.record.Record.TheVariants.{Made, Removed, Acknowledged, AcknowledgedThrough}
@@ -141,7 +141,7 @@ subscribe_refusals t name mode ranges = refusals_at (find (is_named name) t.subs
 
 -- one more consumer, without permits on this word, and attached last
 abbrev pub attached_to : Mode → Seat → Word → Subscription → Subscription
-attached_to mode seat word s = record s { mode = mode; consumers = s.consumers ++ record { key = seat.key; granted = 0; sent = 0; word = word } ∷ []; seats = s.seats ++ seat ∷ [] }
+attached_to mode seat word s = record s { mode = mode; consumers = s.consumers ++ record { key = seat.key; granted = 0; sent = 0; word = word; looks = 0 } ∷ []; seats = s.seats ++ seat ∷ [] }
 
 -- the position below which all is acknowledged on a new subscription
 abbrev pub start_of : InitialPosition → ℕ → ℕ
@@ -159,33 +159,46 @@ attached_at (Some s) t name mode seat word start = record t { subs = first_chang
 abbrev pub attached : Subscriptions → List ℕ → Mode → Seat → Word → ℕ → Subscriptions
 attached t name mode seat word start = attached_at (find (is_named name) t.subs) t name mode seat word start
 
--- a consumer is known to have been granted at least so many permits
-abbrev pub learnt_to : ℕ → Consumer → Consumer
-learnt_to granted c = record c { granted = max c.granted granted }
+-- a consumer is known to have been granted at least as many permits as looks showed
+abbrev pub learnt_to : Seen → Consumer → Consumer
+learnt_to seen c = record c { granted = max c.granted seen.granted; looks = c.looks + seen.looks }
 
-abbrev pub learnt_on : ConsumerKey → ℕ → Subscription → Subscription
-learnt_on key granted s = record s { consumers = first_changed (is_consumer key) (learnt_to granted) s.consumers }
+abbrev pub learnt_on : ConsumerKey → Seen → Subscription → Subscription
+learnt_on key seen s = record s { consumers = first_changed (is_consumer key) (learnt_to seen) s.consumers }
 
-abbrev pub learnt : Subscriptions → ConsumerKey → ℕ → Subscriptions
-learnt t key granted = record t { subs = first_changed (is_on key) (learnt_on key granted) t.subs }
+abbrev pub learnt : Subscriptions → ConsumerKey → Seen → Subscriptions
+learnt t key seen = record t { subs = first_changed (is_on key) (learnt_on key seen) t.subs }
 
--- a consumer of the session is known to have been granted at least so many permits
-abbrev pub learnt_of : ℕ → ℕ → Consumer → Consumer
-learnt_of who granted c = cond (nat_eq c.key.session who) (learnt_to granted c) c
+-- a consumer of the session is known to have been granted at least as many permits as looks showed
+abbrev pub learnt_of : ℕ → Seen → Consumer → Consumer
+learnt_of who seen c = cond (nat_eq c.key.session who) (learnt_to seen c) c
 
--- nothing changed but what was learnt: of some number of permits, which were granted
-pub record IsLearnt {X : Type 0} (learning : ℕ → X) (new : X) : Type 0 where
-  pub granted : ℕ
-  pub bound : granted ≤ 2 ^ 62
-  pub same : new ≡ learning granted
+-- nothing changed but what was learnt by looks: of some number of permits, which were granted
+pub record IsLearnt {X : Type 0} (learning : Seen → X) (new : X) : Type 0 where
+  pub seen : Seen
+  pub bound : seen.granted ≤ 2 ^ 62
+  pub same : new ≡ learning seen
+
+-- the same, and it was looked at least once; where nobody grants behind a gauge's back none has to be
+pub record IsLooked {X : Type 0} (exact : Type 0) (learning : Seen → X) (new : X) : Type 0 where
+  pub learnt : IsLearnt learning new
+  pub once : exact ⊎ (1 ≤ learnt.seen.looks)
 
 -- nothing changed but what was learnt of the permits of a session's consumers
 abbrev pub HaveLearnt : ℕ → List Consumer → List Consumer → Type 0
 HaveLearnt who consumers new = AllZip (λ c d. IsLearnt (λ n. learnt_of who n c) d) consumers new
 
+-- it was looked for each of them
+abbrev pub HaveLooked : Type 0 → ℕ → List Consumer → List Consumer → Type 0
+HaveLooked exact who consumers new = AllZip (λ c d. IsLooked exact (λ n. learnt_of who n c) d) consumers new
+
 pub record HasLearntOn (who : ℕ) (s new : Subscription) : Type 0 where
   pub consumers : HaveLearnt who s.consumers new.consumers
   pub same : new ≡ record s { consumers = new.consumers }
+
+-- where something is open on a subscription, it was looked for each of a session's consumers there
+abbrev pub HasLookedOn : Type 0 → ℕ → ℕ → Subscription → Subscription → Type 0
+HasLookedOn exact who committed s new = ((i : ℕ) → IsOpenAt committed s.acked s.deliveries i → ⊥) ⊎ HaveLooked exact who s.consumers new.consumers
 
 pub record HasLearnt (who : ℕ) (t new : Subscriptions) : Type 0 where
   pub subs : AllZip (HasLearntOn who) t.subs new.subs

@@ -1,6 +1,6 @@
 ghost use Rattle.std.specs.Prelude.{◌≡◌, ◌^◌, ◌≤◌, ◌<◌, ℕ, OnOk, OnErr, Some, true, false, max};
 ghost use Rattle.subscriptions.specs.Quiet.{has_permit_of};
-ghost use Rattle.subscriptions.specs.Steps.{IsLearnt, granted_to, is_past, learnt_to, learnt_of, sent_one, has_permit};
+ghost use Rattle.subscriptions.specs.Steps.{IsLearnt, IsLooked, granted_to, is_past, learnt_to, learnt_of, sent_one, has_permit};
 
 use holds::ConsumerKey;
 use permits::{Gauge, Grant, TooManyPermits};
@@ -40,7 +40,7 @@ impl<G: Gauge> Model for Consumer<G> {
 
     ghost Value = { State };
 
-    ghost view = { λ c. record { key = c.key; granted = G.known c.gauge; sent = G.taken c.gauge; word = G.word c.gauge } };
+    ghost view = { λ c. record { key = c.key; granted = G.known c.gauge; sent = G.taken c.gauge; word = G.word c.gauge; looks = G.looks c.gauge } };
 }
 
 impl<G: Gauge> Drop for Consumer<G> {
@@ -51,11 +51,12 @@ impl<G: Gauge> Drop for Consumer<G> {
 }
 
 impl<G: Gauge> Consumer<G> {
-    /// A consumer with these permits, none of which is known or taken so far.
+    /// A consumer with these permits, none of which is known or taken so far, and for which it wasn't looked.
     pub(crate) fn new(key: ConsumerKey, gauge: G) -> Consumer<G>
         requires none_known { G.known gauge ≡ 0 }
         requires none_taken { G.taken gauge ≡ 0 }
-        ensures { result ≡ record { key = key; granted = 0; sent = 0; word = G.word gauge } }
+        requires none_looked { G.looks gauge ≡ 0 }
+        ensures { result ≡ record { key = key; granted = 0; sent = 0; word = G.word gauge; looks = 0 } }
     {
         Consumer { key, gauge }
     }
@@ -68,7 +69,7 @@ impl<G: Gauge> Consumer<G> {
 
     /// Looks whether it has a permit left.
     pub(crate) fn look(&mut self) -> bool
-        ensures learnt { IsLearnt (λ n. learnt_to n self.old) self.new }
+        ensures looked { IsLooked G.exact (λ n. learnt_to n self.old) self.new }
         ensures exact { G.exact → self.new ≡ self.old }
         ensures permit { result ≡ has_permit (Some self.new) }
     {
@@ -77,7 +78,7 @@ impl<G: Gauge> Consumer<G> {
 
     /// Looks whether it is the session's and has a permit left. Another session's isn't looked at.
     pub(crate) fn serves(&mut self, who: u64) -> bool
-        ensures learnt { IsLearnt (λ n. learnt_of who n self.old) self.new }
+        ensures looked { IsLooked G.exact (λ n. learnt_of who n self.old) self.new }
         ensures exact { G.exact → self.new ≡ self.old }
         ensures permit { result ≡ has_permit_of who self.new }
     {

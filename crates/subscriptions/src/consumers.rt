@@ -5,7 +5,7 @@ ghost use Rattle.holds.specs.declared.consumer.ConsumerKey.{ConsumerKey as Key};
 ghost use Rattle.subscriptions.specs.State.{Consumer as TheConsumer};
 ghost use Rattle.subscriptions.specs.Directory.{place_in, place_before, numbered};
 ghost use Rattle.subscriptions.specs.Quiet.{has_permits};
-ghost use Rattle.subscriptions.specs.Steps.{is_consumer, first_changed, granted_to, is_past, learnt_to, IsLearnt, HaveLearnt, has_permit, has_some, sent_one};
+ghost use Rattle.subscriptions.specs.Steps.{is_consumer, first_changed, granted_to, is_past, learnt_to, IsLearnt, IsLooked, HaveLearnt, HaveLooked, has_permit, has_some, sent_one};
 
 use crate::consumer::Consumer;
 use crate::directory::Directory;
@@ -77,7 +77,7 @@ impl<G: Gauge> Consumers<G> {
 
     /// Looks whether the consumer is there and has a permit left.
     pub(crate) fn look(&mut self, key: ConsumerKey) -> bool
-        ensures learnt { IsLearnt (λ n. first_changed (is_consumer key) (learnt_to n) self.old) self.new }
+        ensures looked { IsLooked G.exact (λ n. first_changed (is_consumer key) (learnt_to n) self.old) self.new }
         ensures exact { G.exact → self.new ≡ self.old }
         ensures permit { result ≡ has_permit (find (is_consumer key) self.new) }
     {
@@ -92,6 +92,7 @@ impl<G: Gauge> Consumers<G> {
     /// Looks whether a consumer of the session has a permit left, up to the first one that has.
     pub(crate) fn have_permit(&mut self, who: u64) -> bool
         ensures learnt { HaveLearnt who self.old self.new }
+        ensures looked { result ≡ false → HaveLooked G.exact who self.old self.new }
         ensures exact { G.exact → self.new ≡ self.old }
         ensures permit { result ≡ has_permits who self.new }
     {
@@ -171,6 +172,7 @@ impl<G: Grant> Consumers<G> {
 /// Looks whether a consumer of the session has a permit left, up to the first one that has.
 fn have_permit<G: Gauge>(consumers: &mut Vec<Consumer<G>>, who: u64) -> bool
     ensures learnt { HaveLearnt who consumers.old.items consumers.new.items }
+    ensures looked { result ≡ false → HaveLooked G.exact who consumers.old.items consumers.new.items }
     ensures exact { G.exact → consumers.new.items ≡ consumers.old.items }
     ensures permit { result ≡ has_permits who consumers.new.items }
 {

@@ -5,7 +5,7 @@ ghost use Rattle.std.specs.FinMap as map;
 ghost use Rattle.holds.specs.Backlog.{IsOpenAt, attached};
 ghost use Rattle.holds.specs.Deliveries.{times, given_back, same_key};
 ghost use Rattle.holds.specs.declared.consumer.Consumer.{Consumer as TheSeat};
-ghost use Rattle.subscriptions.specs.Steps.{is_consumer, is_on, first_changed, first_standing, same_mode, is_exclusive, is_failover, serves_many, is_shared_mode, is_key_shared, attach_refusals, refuses_ranges, attached_to, made, opened_one, granted_to, granted_on, is_past, learnt_to, learnt_on, IsLearnt, HasLearntOn, acked_on, acked_through_on, has_permit, AdmitsBy, sent_one, sent_on, left_on, detached_on, is_asked_back, redelivered_on};
+ghost use Rattle.subscriptions.specs.Steps.{is_consumer, is_on, first_changed, first_standing, same_mode, is_exclusive, is_failover, serves_many, is_shared_mode, is_key_shared, attach_refusals, refuses_ranges, attached_to, made, opened_one, granted_to, granted_on, is_past, learnt_to, learnt_on, IsLearnt, IsLooked, HasLearntOn, HaveLooked, HasLookedOn, acked_on, acked_through_on, has_permit, AdmitsBy, sent_one, sent_on, left_on, detached_on, is_asked_back, redelivered_on};
 ghost use Rattle.subscriptions.specs.Dispatching.{mode_of, seats_of, keys};
 ghost use Rattle.subscriptions.specs.Hints.{IsPassed};
 ghost use Rattle.subscriptions.specs.Freeing.{freed_among};
@@ -139,6 +139,7 @@ impl<G: Gauge> Subscription<G> {
         requires allowed { first_standing (attach_refusals mode seat.ranges self.old) ≡ None }
         requires none_known { G.known gauge ≡ 0 }
         requires none_taken { G.taken gauge ≡ 0 }
+        requires none_looked { G.looks gauge ≡ 0 }
         ensures ok { OnOk result (self.new ≡ attached_to mode seat (G.word gauge) self.old) }
         ensures err { OnErr result (self.new ≡ self.old) }
     {
@@ -198,7 +199,7 @@ impl<G: Gauge> Subscription<G> {
 
     /// Looks whether the consumer is attached and has a permit left.
     pub(crate) fn look(&mut self, key: ConsumerKey) -> bool
-        ensures learnt { IsLearnt (λ n. learnt_on key n self.old) self.new }
+        ensures looked { IsLooked G.exact (λ n. learnt_on key n self.old) self.new }
         ensures exact { G.exact → self.new ≡ self.old }
         ensures permit { result ≡ has_permit (find (is_consumer key) self.new.consumers) }
     {
@@ -240,6 +241,7 @@ impl<G: Gauge> Subscription<G> {
     pub(crate) fn may_serve(&mut self, who: u64, committed: u64) -> bool
         requires { committed ≤ 2 ^ 62 }
         ensures learnt { HasLearntOn who self.old self.new }
+        ensures looked { result ≡ false → HasLookedOn G.exact who committed self.old self.new }
         ensures exact { G.exact → self.new ≡ self.old }
         ensures quiet { result ≡ false → IsQuietOn who committed self.new }
         ensures busy { result ≡ true → IsQuietOn who committed self.new → ⊥ }
@@ -263,6 +265,7 @@ impl<G: Gauge> Subscription<G> {
     /// Looks whether a consumer of the session has a permit left, up to the first one that has.
     fn have_permit(&mut self, who: u64) -> bool
         ensures learnt { HasLearntOn who self.old self.new }
+        ensures looked { result ≡ false → HaveLooked G.exact who self.old.consumers self.new.consumers }
         ensures exact { G.exact → self.new ≡ self.old }
         ensures permit { result ≡ has_permits who self.new.consumers }
     {

@@ -3,7 +3,7 @@ ghost use Rattle.std.specs.List.{AllByRecursion, AllZip, IsDistinct, find};
 ghost use Rattle.std.specs.Str.{bytes_eq};
 ghost use Rattle.records.specs.declared.kept_cursor.KeptCursor.{KeptCursor};
 ghost use Rattle.records.specs.declared.record.Record.TheVariants.{Acknowledged as acknowledged_change, Made as made_of};
-ghost use Rattle.subscriptions.specs.Steps.{none_yet, opened_one, opened_all, first_changed, is_on, is_named, has_consumer, first_standing, making_refusals, subscribe_refusals, attach_refusals, refuses_ranges, attached_to, attached, attached_at, start_of, made, granted, granted_on, grants_too_many, learnt, learnt_on, IsLearnt, HasLearnt, HasLearntOn, has_permit_at, acknowledged, acked_on, acknowledged_through, acked_through_on, is_shared, unsubscribe_refusals, unsubscribed, Admits, AdmitsAt, AdmitsOn, sent, sent_on, sent_before, times_at, left, left_on, detached, detached_on, redelivered, redelivered_on, shares, is_among_many, settled, slotted};
+ghost use Rattle.subscriptions.specs.Steps.{none_yet, opened_one, opened_all, first_changed, is_on, is_named, has_consumer, first_standing, making_refusals, subscribe_refusals, attach_refusals, refuses_ranges, attached_to, attached, attached_at, start_of, made, granted, granted_on, grants_too_many, learnt, learnt_on, IsLearnt, IsLooked, HasLearnt, HasLearntOn, HasLookedOn, has_permit_at, acknowledged, acked_on, acknowledged_through, acked_through_on, is_shared, unsubscribe_refusals, unsubscribed, Admits, AdmitsAt, AdmitsOn, sent, sent_on, sent_before, times_at, left, left_on, detached, detached_on, redelivered, redelivered_on, shares, is_among_many, settled, slotted};
 ghost use Rattle.std.specs.Option.{option_copied};
 ghost use Rattle.subscriptions.specs.Hints.{AreHintsOf, AreHintsOn};
 ghost use Rattle.subscriptions.specs.Quiet.{IsQuiet};
@@ -179,6 +179,7 @@ impl<G: Gauge> Subscriptions<G> {
         requires allowed { first_standing (subscribe_refusals self.old name.now mode seat.ranges) ≡ None }
         requires none_known { G.known gauge ≡ 0 }
         requires none_taken { G.taken gauge ≡ 0 }
+        requires none_looked { G.looks gauge ≡ 0 }
         ensures ok { OnOk result (self.new ≡ attached self.old name.now mode seat (G.word gauge) (start_of initial committed)) }
         ensures err { OnErr result (self.new ≡ self.old) }
     {
@@ -220,6 +221,7 @@ impl<G: Gauge> Subscriptions<G> {
         requires allowed { first_standing (subscribe_refusals self.old name.now mode seat.ranges) ≡ None }
         requires none_known { G.known gauge ≡ 0 }
         requires none_taken { G.taken gauge ≡ 0 }
+        requires none_looked { G.looks gauge ≡ 0 }
         ensures ok { OnOk result (self.new ≡ attached self.old name.now mode seat (G.word gauge) start) }
         ensures err { OnErr result (self.new ≡ self.old) }
     {
@@ -330,7 +332,7 @@ impl<G: Gauge> Subscriptions<G> {
     pub fn pick(&mut self, key: ConsumerKey, committed: u64) -> Option<u64>
         requires fits { committed ≤ 2 ^ 62 }
         requires known { committed ≤ length self.old.slots }
-        ensures learnt { IsLearnt (learnt self.old key) self.new }
+        ensures looked { IsLooked G.exact (learnt self.old key) self.new }
         ensures exact { G.exact → self.new ≡ self.old }
         ensures some { IfSome result (Admits self.new key committed) }
         ensures none { IfNone result ((i : ℕ) → Admits self.new key committed i → ⊥) }
@@ -343,7 +345,7 @@ impl<G: Gauge> Subscriptions<G> {
 
     /// Looks whether the consumer is attached and has a permit left. Takes none.
     pub fn look(&mut self, key: ConsumerKey) -> bool
-        ensures learnt { IsLearnt (learnt self.old key) self.new }
+        ensures looked { IsLooked G.exact (learnt self.old key) self.new }
         ensures exact { G.exact → self.new ≡ self.old }
         ensures permit { result ≡ has_permit_at key (find (is_on key) self.new.subs) }
     {
@@ -387,6 +389,7 @@ impl<G: Gauge> Subscriptions<G> {
     pub fn is_quiet(&mut self, who: u64, committed: u64) -> bool
         requires fits { committed ≤ 2 ^ 62 }
         ensures learnt { HasLearnt who self.old self.new }
+        ensures looked { result ≡ true → AllZip (HasLookedOn G.exact who committed) self.old.subs self.new.subs }
         ensures exact { G.exact → self.new ≡ self.old }
         ensures quiet { result ≡ true → IsQuiet who committed self.new.subs }
         ensures busy { result ≡ false → IsQuiet who committed self.new.subs → ⊥ }
@@ -543,6 +546,7 @@ fn new_subscription<G: Gauge>(
     requires fits { start ≤ 2 ^ 62 }
     requires none_known { G.known gauge ≡ 0 }
     requires none_taken { G.taken gauge ≡ 0 }
+    requires none_looked { G.looks gauge ≡ 0 }
     requires allowed { refuses_ranges mode [] seat.ranges ≡ false }
     ensures { IfOk result (λ s. s ≡ attached_to mode seat (G.word gauge) (made name.now mode start)) }
 {
@@ -654,6 +658,7 @@ fn is_among_many<G: Gauge>(subs: &[Subscription<G>], place: Option<usize>) -> bo
 fn may_serve<G: Gauge>(subs: &mut Vec<Subscription<G>>, who: u64, committed: u64) -> bool
     requires { committed ≤ 2 ^ 62 }
     ensures learnt { AllZip (HasLearntOn who) subs.old.items subs.new.items }
+    ensures looked { result ≡ false → AllZip (HasLookedOn G.exact who committed) subs.old.items subs.new.items }
     ensures exact { G.exact → subs.new.items ≡ subs.old.items }
     ensures quiet { result ≡ false → IsQuiet who committed subs.new.items }
     ensures busy { result ≡ true → IsQuiet who committed subs.new.items → ⊥ }

@@ -53,7 +53,7 @@ use Rattle.topic_core.proofs.Closings.{sound-producers, receipts-producers, clos
 use Rattle.topic_core.proofs.Flushes.{sound-handed_on, receipts-handed_on, sound-finished, receipts-finished, sound-taken_back, receipts-taken_back, sound-failed, receipts-failed}
 use Rattle.topic_core.proofs.Flushing.{finished-handed_on, empty, and_first, and_second, idle-append, idle-waiting, idle-changes, idle-queues-of, idle-producers, idle-where}
 use Rattle.topic_core.proofs.States.{open_stay}
-use Rattle.permits.specs.Ends.{Word}
+use Rattle.permits.specs.Ends.{Seen, Word}
 
 -- a core that is sound, with as many committed entries as before, over the same durable subscriptions
 pub record Stays (old new : Topic) : Type 0 where
@@ -209,12 +209,12 @@ pub command-sound : (old : Topic) (who : ℕ) (c : TopicCommand) (answer : Answe
 command-sound old who c answer new step sound = stays-sound old new (step-keeps old who c answer new step sound.state sound.receipts) sound
 
 -- what is learnt of a consumer's permits
-pub known-keeps : (t : Topic) (key : ConsumerKey) (known : ℕ) → (subscriptions.has_consumer t.subs key ≡ true → known ≤ 2 ^ 62) → Keeps t (record t { subs = subscriptions.learnt t.subs key known })
+pub known-keeps : (t : Topic) (key : ConsumerKey) (known : Seen) → (subscriptions.has_consumer t.subs key ≡ true → known.granted ≤ 2 ^ 62) → Keeps t (record t { subs = subscriptions.learnt t.subs key known })
 known-keeps t key known bound =
     with-subs t _ (λ s. each_sound.learn t.subs key known bound s) (λ s. each_committed.learn t.committed t.subs key known s) (λ kept is. are_kept.learn t.committed kept t.subs key known is)
     refl refl
 
-pub learn-sound : (t : Topic) (who id known : ℕ) → (has_consumer t who id ≡ true → known ≤ 2 ^ 62) → IsSoundTopic t → IsSoundTopic (learnt t who id known)
+pub learn-sound : (t : Topic) (who id : ℕ) (known : Seen) → (has_consumer t who id ≡ true → known.granted ≤ 2 ^ 62) → IsSoundTopic t → IsSoundTopic (learnt t who id known)
 learn-sound t who id known bound sound = stays-sound t (learnt t who id known) (known-keeps t (key_of who id) known bound sound.state sound.receipts) sound
 
 pub look-keeps : (t : Topic) (who : ℕ) (new : Topic) → HasLearnt who t new → Keeps t new

@@ -1,5 +1,5 @@
 -- What is learnt of the permits of a topic's consumers.
-use Rattle.std.proofs.Common.{◌≡◌, ◌⊎◌, ⊎_elim, ℕ, List, ◌<◌, max, Option, Some, None, Result, Ok, Err, slice_get, refl, sym, ap, subst, ◌∙◌, arith}
+use Rattle.std.proofs.Common.{◌≡◌, ◌⊎◌, ⊎_elim, ℕ, List, ◌<◌, Option, Some, None, Result, Err, slice_get, refl, sym, ap, subst, ◌∙◌, arith}
 use Rattle.commands.specs.declared.reply.Reply.TheVariants.{Message}
 use Rattle.gated_log.specs.declared.read_error.ReadError.{ReadError}
 use Rattle.gated_log.specs.declared.read_error.ReadError.TheVariants.{Device, NoMemory}
@@ -11,14 +11,15 @@ use Rattle.subscriptions.specs.Laws.{IsOpenFor}
 use Rattle.subscriptions.specs.State.{Subscription, Subscriptions}
 use Rattle.subscriptions.proofs.Limits.{picked}
 use Rattle.subscriptions.specs.Steps as subscriptions
-use Rattle.subscriptions.specs.Steps.{IsLearnt}
+use Rattle.subscriptions.specs.Steps.{IsLearnt, IsLooked}
 use Rattle.subscriptions.proofs.Granted.{learnt_again, learnt_before, nothing_before, admitted_there, before_learnt}
 use Rattle.subscriptions.proofs.Learning.{learns_nothing, learning_admits}
-use Rattle.subscriptions.proofs.Looking.{nothing_looked}
+use Rattle.subscriptions.proofs.Looking.{nothing_looked, seen_both}
 use Rattle.topic_core.specs.declared.dispatch.AtHand.{AtHand}
 use Rattle.topic_core.specs.declared.dispatch.Outgoing.{Outgoing}
 use Rattle.topic_core.specs.State.{Topic, CountsStay}
 use Rattle.topic_core.specs.Steps.{key_of, learnt, HasLearnt}
+use Rattle.permits.specs.Ends.{Seen}
 use Rattle.topic_core.specs.Dispatch.{Admits, sent, IsSent, DispatchStep, AtHandStep}
 
 abbrev pub with_subs : Topic → Subscriptions → Topic
@@ -34,25 +35,34 @@ still_same t old subs is same = ap (with_subs t) same ∙ is
 pub learnt_of : (t old : Topic) (who id : ℕ) (key : ConsumerKey) (subs : Subscriptions) → t ≡ old → key ≡ key_of who id → IsLearnt (subscriptions.learnt t.subs key) subs → IsLearnt (learnt old who id) (with_subs t subs)
 learnt_of t old who id key subs is its l =
     subst (λ (x : Topic). IsLearnt (learnt x who id) (with_subs t subs)) is (record {
-      granted = l.granted;
+      seen = l.seen;
       bound = l.bound;
-      same = ap (with_subs t) (l.same ∙ ap (λ (k : ConsumerKey). subscriptions.learnt t.subs k l.granted) its);
+      same = ap (with_subs t) (l.same ∙ ap (λ (k : ConsumerKey). subscriptions.learnt t.subs k l.seen) its);
     })
+
+looked_with : (exact : Type 0) (t : Topic) (who id : ℕ) (subs : Subscriptions) → IsLooked exact (subscriptions.learnt t.subs (key_of who id)) subs → IsLooked exact (learnt t who id) (with_subs t subs)
+looked_with exact t who id subs l = record { learnt = record { seen = l.learnt.seen; bound = l.learnt.bound; same = ap (with_subs t) l.learnt.same }; once = l.once }
+
+pub looks_of : (exact : Type 0) (t old : Topic) (who id : ℕ) (key : ConsumerKey) (subs : Subscriptions) → t ≡ old → key ≡ key_of who id → IsLooked exact (subscriptions.learnt t.subs key) subs
+    → IsLooked exact (learnt old who id) (with_subs t subs)
+looks_of exact t old who id key subs is its l =
+    subst (λ (x : Topic). IsLooked exact (learnt x who id) (with_subs t subs)) is
+    (looked_with exact t who id subs (subst (λ (k : ConsumerKey). IsLooked exact (subscriptions.learnt t.subs k) subs) its l))
 
 pub looked_of : (t old : Topic) (who : ℕ) (subs : Subscriptions) → t ≡ old → subscriptions.HasLearnt who t.subs subs → HasLearnt who old (with_subs t subs)
 looked_of t old who subs is l = subst (λ (x : Topic). HasLearnt who x (with_subs t subs)) is (record { subs = l; same = refl })
 
 pub nothing_learnt : (t : Topic) (who id : ℕ) → IsLearnt (learnt t who id) t
-nothing_learnt t who id = let l = learns_nothing t.subs (key_of who id) in record { granted = l.granted; bound = l.bound; same = ap (with_subs t) l.same }
+nothing_learnt t who id = let l = learns_nothing t.subs (key_of who id) in record { seen = l.seen; bound = l.bound; same = ap (with_subs t) l.same }
 
 pub none_looked : (t : Topic) (who : ℕ) → HasLearnt who t t
 none_looked t who = record { subs = record { subs = nothing_looked who t.subs.subs; same = refl }; same = refl }
 
 pub learnt_twice : (old t new : Topic) (who id : ℕ) → IsLearnt (learnt old who id) t → IsLearnt (learnt t who id) new → IsLearnt (learnt old who id) new
 learnt_twice old t new who id a b = record {
-  granted = max a.granted b.granted;
+  seen = seen_both a.seen b.seen;
   bound = omega (arith, a.bound, b.bound);
-  same = b.same ∙ ap (λ (x : Topic). learnt x who id b.granted) a.same ∙ ap (with_subs old) (learnt_again old.subs (key_of who id) a.granted b.granted);
+  same = b.same ∙ ap (λ (x : Topic). learnt x who id b.seen) a.same ∙ ap (with_subs old) (learnt_again old.subs (key_of who id) a.seen b.seen);
 }
 
 -- what the gauge learnt where a message was sent might have been learnt before it, and is nothing where nobody grants behind its back
@@ -62,17 +72,17 @@ IsGiven exact old key i new = (t : Topic) × IsLearnt (learnt old key.session ke
 pub given : (exact : Type 0) (t old : Topic) (key : ConsumerKey) (i : ℕ) (subs : Subscriptions) → t ≡ old → Admits old key i
     → IsLearnt (subscriptions.learnt (subscriptions.sent t.subs key i) key) subs → (exact → subs ≡ subscriptions.sent t.subs key i) → IsGiven exact old key i (with_subs t subs)
 given exact t old key i subs is admitted l same =
-    let n = l.granted in
+    let n = l.seen in
     let at : Admits t key i = subst (λ (x : Topic). Admits x key i) (sym is) admitted in
     let there = admitted_there t.subs key t.committed i at.admitted in (
       learnt t key.session key.id n,
-      subst (λ (x : Topic). IsLearnt (learnt x key.session key.id) (learnt t key.session key.id n)) is (record { granted = n; bound = l.bound; same = refl }),
+      subst (λ (x : Topic). IsLearnt (learnt x key.session key.id) (learnt t key.session key.id n)) is (record { seen = n; bound = l.bound; same = refl }),
       (λ h. ap (with_subs t) (nothing_before t.subs key i n there (sym (learnt_before t.subs key i n) ∙ sym l.same ∙ same h)) ∙ is),
       ap (with_subs t) (l.same ∙ learnt_before t.subs key i n),
     )
 
 -- what is sent of a topic that was learnt of
-sent_of : (t new : Topic) (key : ConsumerKey) (i n : ℕ) (outgoing : Outgoing) → Admits t key i → outgoing.reply ≡ Message key.id (message_id_at t.per_ledger i) (subscriptions.sent_before t.subs key i)
+sent_of : (t new : Topic) (key : ConsumerKey) (i : ℕ) (n : Seen) (outgoing : Outgoing) → Admits t key i → outgoing.reply ≡ Message key.id (message_id_at t.per_ledger i) (subscriptions.sent_before t.subs key i)
     → slice_get t.ledger i ≡ Some outgoing.entry → new ≡ sent (learnt t key.session key.id n) key i → IsSent (learnt t key.session key.id n) key i outgoing new
 sent_of t new key i n outgoing admitted reply entry is = record {
   admitted = record { works = admitted.works; admitted = learning_admits t.subs key n t.committed i admitted.admitted };
@@ -85,7 +95,7 @@ pub is_sent : (t x new : Topic) (key : ConsumerKey) (i : ℕ) (outgoing : Outgoi
     → slice_get t.ledger i ≡ Some outgoing.entry → IsLearnt (learnt t key.session key.id) x → new ≡ sent x key i → IsSent x key i outgoing new
 is_sent t x new key i outgoing admitted reply entry l is =
     subst (λ (y : Topic). IsSent y key i outgoing new) (sym l.same)
-    (sent_of t new key i l.granted outgoing admitted reply entry (is ∙ ap (λ (y : Topic). sent y key i) l.same))
+    (sent_of t new key i l.seen outgoing admitted reply entry (is ∙ ap (λ (y : Topic). sent y key i) l.same))
 
 -- a topic of which it was learnt and then sent
 abbrev pub Found : Type 0 → Topic → ℕ → ℕ → (Topic → Type 0) → Type 0

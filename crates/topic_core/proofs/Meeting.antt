@@ -1,5 +1,5 @@
 -- What a command's outcome is, whichever command it is, and what it lends.
-use Rattle.std.proofs.Common.{◌≡◌, ℕ, Bool, true, false, Option, Some, None, is_some, refl, sym, ap, subst}
+use Rattle.std.proofs.Common.{◌≡◌, ℕ, true, false, Option, Some, None, is_some, refl, sym, ap, subst}
 use Rattle.std.specs.Prelude.{IsSomeAnd}
 use Rattle.permits.specs.Ends.{Word, Grants, Lends}
 use Rattle.topic_core.specs.State.{Topic}

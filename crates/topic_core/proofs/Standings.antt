@@ -31,6 +31,7 @@ use Rattle.topic_core.specs.Steps.{key_of, learnt, HasLearnt, left}
 use Rattle.topic_core.specs.Dispatch.{sent}
 use Rattle.topic_core.proofs.Keeps.{Stays, moved, kept-finished, step-keeps, grant-keeps, look-keeps, dispatch-keeps, collect-keeps, leave-keeps}
 use Rattle.topic_core.specs.Standing.{Phase, Before, Written, Lost, phase_after, phase_then, resting, IsFor, Match, Holds, Standing, GoesOn}
+use Rattle.permits.specs.Ends.{Seen}
 use Rattle.topic_core.proofs.Flushing.{ends, begun, finished-handed_on, taken_back-handed_on, and_first, and_second}
 
 -- all that waits is handed on
@@ -307,7 +308,7 @@ goes_on old new stays = record {
 }
 
 -- so far as GoesOn says nothing of permits, no bound is asked for
-pub known-goes_on : (t : Topic) (who id known : ℕ) → GoesOn t (learnt t who id known)
+pub known-goes_on : (t : Topic) (who id : ℕ) (known : Seen) → GoesOn t (learnt t who id known)
 known-goes_on t who id known = record {
   committed = refl;
   ledger = refl;
@@ -322,9 +323,9 @@ known-goes_on t who id known = record {
 }
 
 pub is_learnt-goes_on : (t new : Topic) (who id : ℕ) → IsLearnt (learnt t who id) new → GoesOn t new
-is_learnt-goes_on t new who id l = subst (λ (x : Topic). GoesOn t x) (sym l.same) (known-goes_on t who id l.granted)
+is_learnt-goes_on t new who id l = subst (λ (x : Topic). GoesOn t x) (sym l.same) (known-goes_on t who id l.seen)
 
-given_goes_on : (t : Topic) (key : ConsumerKey) (i n : ℕ) → GoesOn t (learnt (sent t key i) key.session key.id n)
+given_goes_on : (t : Topic) (key : ConsumerKey) (i : ℕ) (n : Seen) → GoesOn t (learnt (sent t key i) key.session key.id n)
 given_goes_on t key i n = record {
   committed = refl;
   ledger = refl;
@@ -339,7 +340,7 @@ given_goes_on t key i n = record {
 }
 
 pub given-goes_on : (t : Topic) (key : ConsumerKey) (i : ℕ) (subs : Subscriptions) → IsLearnt (subscriptions.learnt (subscriptions.sent t.subs key i) key) subs → GoesOn t (record t { subs = subs })
-given-goes_on t key i subs l = subst (λ (s : Subscriptions). GoesOn t (record t { subs = s })) (sym l.same) (given_goes_on t key i l.granted)
+given-goes_on t key i subs l = subst (λ (s : Subscriptions). GoesOn t (record t { subs = s })) (sym l.same) (given_goes_on t key i l.seen)
 
 pub same_goes_on : (t : Topic) → GoesOn t t
 same_goes_on t = record { committed = refl; ledger = refl; durable = refl; failed = refl; doubt = refl; entries = refl; changes = refl; per_ledger = refl; kept = λ kept is. is; slots = λ ledger is. is }

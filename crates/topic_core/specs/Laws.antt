@@ -30,6 +30,7 @@ use Rattle.topic_core.specs.Steps.{TopicStep, Collects, GrantStep, Fits, bytes_o
 use Rattle.topic_core.specs.Dispatch.{DispatchStep, Admits}
 use Rattle.topic_core.specs.Flush.{FlushStep, TakeStep, FinishStep, handed_on}
 use Rattle.topic_core.specs.Crashes.{IsLeft, TopicCrash, ReopenStep}
+use Rattle.permits.specs.Ends.{Seen}
 use Rattle.topic_core.specs.Standing.{GoesOn}
 
 -- an answer fits its command
@@ -75,7 +76,7 @@ pub record StaysSound : Type 0 where
   pub reopen : (old : Topic) (result : Result (Unit {0}) Refusal) (new : Topic) → ReopenStep old result new → IsSoundTopic old → IsSoundTopic new
   pub crash : (old new : Topic) → TopicCrash old new → IsSoundTopic old → IsSoundTopic new
   pub grant : (old : Topic) (who id permits : ℕ) (result : Result (Unit {0}) TooManyPermits) (new : Topic) → GrantStep old who id permits result new → IsSoundTopic old → IsSoundTopic new
-  pub learn : (old : Topic) (who id known : ℕ) → (has_consumer old who id ≡ true → known ≤ 2 ^ 62) → IsSoundTopic old → IsSoundTopic (learnt old who id known)
+  pub learn : (old : Topic) (who id : ℕ) (seen : Seen) → (has_consumer old who id ≡ true → seen.granted ≤ 2 ^ 62) → IsSoundTopic old → IsSoundTopic (learnt old who id seen)
   pub look : (old : Topic) (who : ℕ) (new : Topic) → HasLearnt who old new → IsSoundTopic old → IsSoundTopic new
   pub dispatch : (old : Topic) (who id : ℕ) (result : Result (Option Outgoing) ReadError) (new : Topic) → DispatchStep old who id result new → IsSoundTopic old → IsSoundTopic new
   pub collect : (old : Topic) (who : ℕ) (reply : Option Reply) (new : Topic) → Collects old who reply new → IsSoundTopic old → IsSoundTopic new
@@ -129,7 +130,7 @@ FlushesKeep = (old : Topic) (result : Result ℕ WriteError) (new : Topic) → F
 pub record TopicsGoOn : Type 0 where
   pub command : (old : Topic) (who : ℕ) (c : TopicCommand) (answer : Answer) (new : Topic) → TopicStep old who c answer new → IsSound old → AreReceipts old → GoesOn old new
   pub grant : (old : Topic) (who id permits : ℕ) (result : Result (Unit {0}) TooManyPermits) (new : Topic) → GrantStep old who id permits result new → IsSound old → AreReceipts old → GoesOn old new
-  pub learn : (old : Topic) (who id known : ℕ) → IsSound old → AreReceipts old → GoesOn old (learnt old who id known)
+  pub learn : (old : Topic) (who id : ℕ) (seen : Seen) → IsSound old → AreReceipts old → GoesOn old (learnt old who id seen)
   pub look : (old : Topic) (who : ℕ) (new : Topic) → HasLearnt who old new → IsSound old → AreReceipts old → GoesOn old new
   pub dispatch : (old : Topic) (who id : ℕ) (result : Result (Option Outgoing) ReadError) (new : Topic) → DispatchStep old who id result new → IsSound old → AreReceipts old → GoesOn old new
   pub collect : (old : Topic) (who : ℕ) (reply : Option Reply) (new : Topic) → Collects old who reply new → IsSound old → AreReceipts old → GoesOn old new

@@ -3,7 +3,7 @@ ghost use Rattle.disk.specs.Disk.{Same, Leaves, Kept, Failed};
 ghost use Rattle.gated_log.specs.declared.read_error.ReadError.TheVariants.{Device, NoMemory};
 ghost use Rattle.commands.specs.declared.reply.Reply.TheVariants.{Message};
 ghost use Rattle.ids.specs.Ids.{message_id_at};
-ghost use Rattle.subscriptions.specs.Steps.{IsLearnt, sent_before};
+ghost use Rattle.subscriptions.specs.Steps.{IsLearnt, IsLooked, sent_before};
 ghost use Rattle.topic_core.specs.State.{Topic, CountsStay};
 ghost use Rattle.topic_core.specs.Steps.{key_of, learnt, HasLearnt};
 ghost use Rattle.topic_core.specs.declared.dispatch.AtHand.TheVariants.{Nothing, Unread};
@@ -58,6 +58,7 @@ impl<G: Gauge> TopicCore<G> {
     /// Changes nothing but what is known of the consumer's permits.
     fn pick(&mut self, who: u64, consumer_id: u64) -> Option<u64>
         ensures learnt { IsLearnt (learnt self.old who consumer_id) self.new }
+        ensures looked { self.old.failed ≡ false → IsLooked G.exact (learnt self.old who consumer_id) self.new }
         ensures exact { G.exact → self.new ≡ self.old }
         ensures some { IfSome result (Admits self.new (key_of who consumer_id)) }
         ensures none { IfNone result ((i : ℕ) → Admits self.new (key_of who consumer_id) i → ⊥) }
@@ -84,6 +85,8 @@ impl<G: Gauge> TopicCore<G> {
 
         // Whatever the device does.
         ensures message { IfOk result (λ sent. IfSome sent (λ outgoing. IsMessageTo consumer_id outgoing)) }
+        // That there is none is said of a topic that works where it was looked for the consumer's permits.
+        ensures looked { result ≡ Ok None → self.old.failed ≡ false → IsLooked G.exact (learnt self.old who consumer_id) self.new }
         ensures goes_on { GoesOn self.old self.new }
         ensures counts { CountsStay self.old self.new }
 
@@ -118,6 +121,7 @@ impl<G: Gauge> TopicCore<G> {
         // Whatever the ledger is, and whatever was read.
         ensures message { IfOk result (λ at_hand. IsAtHandFor consumer_id at_hand) }
         ensures nothing { result ≡ Ok Nothing → (i : ℕ) → Admits self.new (key_of who consumer_id) i → ⊥ }
+        ensures looked { result ≡ Ok Nothing → self.old.failed ≡ false → IsLooked G.exact (learnt self.old who consumer_id) self.new }
         ensures unread { (position : ℕ) → result ≡ Ok (Unread position) → IfSome read (λ at. at.position ≢ position) }
         ensures goes_on { GoesOn self.old self.new }
         ensures counts { CountsStay self.old self.new }

@@ -4,7 +4,7 @@ pub(crate) mod reading;
 mod reopening;
 
 ghost use Rattle.std.specs.Prelude.{◌≡◌, ◌+◌, ◌<◌, ◌≤◌, ℕ, false, true, length, Ok};
-ghost use Rattle.subscriptions.specs.Steps.{IsLearnt};
+ghost use Rattle.subscriptions.specs.Steps.{IsLooked};
 ghost use Rattle.topic_core.specs.State.{CountsStay};
 ghost use Rattle.topic_core.specs.Steps.{TopicStep, LentBy, Collects, has_room, Fits, key_of, left, learnt, HasLearnt, has_producer, has_consumer};
 ghost use Rattle.topic_core.specs.Dispatch.{Admits};
@@ -307,7 +307,7 @@ impl<K: Tallies> CountedTopic<K> {
     /// Looks what was granted to a consumer. An unknown consumer changes nothing.
     pub fn look(&mut self, who: u64, consumer_id: u64) -> Heard<u64, ()>
         ensures about { (result.topic ≡ self.old.number) × (result.who ≡ who) × (result.asked.value ≡ consumer_id) }
-        ensures learnt { IsLearnt (learnt self.old.core who consumer_id) self.new.core }
+        ensures looked { IsLooked ⊥ (learnt self.old.core who consumer_id) self.new.core }
         ensures goes_on { GoesOn self.old.core self.new.core }
         ensures number { self.new.number ≡ self.old.number }
         ensures counts { CountsStay self.old.core self.new.core }

@@ -64,6 +64,7 @@ fn subscribe<G: Gauge>(
 ) -> Result<bool, AllocError>
     requires none_known { G.known gauge ≡ 0 }
     requires none_taken { G.taken gauge ≡ 0 }
+    requires none_looked { G.looks gauge ≡ 0 }
 {
     let seat = seat(alloc, key);
     let refusal = subs.refusal(name, Mode::Shared, seat.ranges.as_slice());

@@ -1,8 +1,8 @@
 // A message for a consumer: its entry is read under the lock of the topic's stores alone, and given under the topic's.
-ghost use Rattle.std.specs.Prelude.{◌≡◌, ◌≢◌, ◌<◌, ℕ, false, length, IfSome, IsErr, IsErrOf};
+ghost use Rattle.std.specs.Prelude.{◌≡◌, ◌≢◌, ◌<◌, ℕ, false, length, None, Ok, IfSome, IsErr, IsErrOf};
 ghost use Rattle.disk.specs.Disk.{Same, Leaves, Kept, Failed};
 ghost use Rattle.gated_log.specs.declared.read_error.ReadError.TheVariants.{Device};
-ghost use Rattle.subscriptions.specs.Steps.{IsLearnt};
+ghost use Rattle.subscriptions.specs.Steps.{IsLearnt, IsLooked};
 ghost use Rattle.topic_core.specs.State.{Topic, CountsStay};
 ghost use Rattle.topic_core.specs.Steps.{learnt};
 ghost use Rattle.topic_core.specs.Dispatch.{IsReadOf};
@@ -59,6 +59,7 @@ impl<K: Tallies> CountedTopic<K> {
         ensures step { length self.old.core.ledger ≡ self.old.core.committed → IfSome (own_read self.old.number read) (IsReadOf self.old.core.ledger) →
             (t : Topic) × IsLearnt (learnt self.old.core who consumer_id) t × NextStep t who consumer_id result self.new.core }
         ensures message { IfHeard result (λ heard. SendsTo consumer_id heard.said) }
+        ensures looked { IfHeard result (λ heard. heard.said ≡ Ok None → self.old.core.failed ≡ false → IsLooked ⊥ (learnt self.old.core who consumer_id) self.new.core) }
         ensures unread { (position : ℕ) → result ≡ Unread position → IfSome (own_read self.old.number read) (λ at. at.position ≢ position) }
         ensures goes_on { GoesOn self.old.core self.new.core }
         ensures number { self.new.number ≡ self.old.number }

@@ -1,5 +1,5 @@
 use Rattle.subscriptions.proofs.Learning.{looked}
 use Rattle.subscriptions.proofs.consumer.Consumer.look.Goals as goal
 
-pub returns-clause-learnt : goal.returns-clause-learnt
-returns-clause-learnt g c = looked _ _ _ _ _ _ _ _ c.self.view_is c.look.ensures.taken c.look.ensures.known c.look.ensures.bound c.look.ensures.word
+pub returns-clause-looked : goal.returns-clause-looked
+returns-clause-looked g c = let e = c.look.ensures in looked _ _ _ _ _ _ _ _ _ _ _ c.self.view_is e.taken e.known e.bound e.word e.looked e.unlooked

@@ -42,4 +42,4 @@ invariant_of-self g c =
     let l = learnt_twice (is_consumer c.args.key) learnt_to (λ k. sent_one k) (λ _. refl) cs c.in-Some.place c.index_mut-consumer.result.now c.take.new.self at c.index_mut-consumer.ensures.value c.take.ensures.learnt in
     let places = subst (λ places. ArePlacesAmong cs places) (sym c.remember.ensures) c.self.invariant in
     subst (λ (xs : List Consumer). ArePlacesAmong xs c.remember.new.self) (sym l.same)
-    (places_learnt_to (first_changed (is_consumer c.args.key) (λ k. sent_one k) cs) c.remember.new.self c.args.key l.granted (places_taken cs c.remember.new.self c.args.key places))
+    (places_learnt_to (first_changed (is_consumer c.args.key) (λ k. sent_one k) cs) c.remember.new.self c.args.key l.seen (places_taken cs c.remember.new.self c.args.key places))

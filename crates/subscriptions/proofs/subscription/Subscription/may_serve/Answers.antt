@@ -1,6 +1,6 @@
-use Rattle.std.proofs.Common.{subst}
+use Rattle.std.proofs.Common.{inl, inr, subst}
 use Rattle.subscriptions.specs.State.{Subscription}
-use Rattle.subscriptions.specs.Steps.{HasLearntOn}
+use Rattle.subscriptions.specs.Steps.{HasLearntOn, HaveLooked}
 use Rattle.subscriptions.proofs.Looking.{same_looked, nothing_served, none_served, one_served}
 use Rattle.subscriptions.proofs.subscription.Subscription.may_serve.Goals as goal
 
@@ -9,6 +9,13 @@ returns-then-not-has_open-clause-learnt g c = same_looked c.args.who c.args.self
 
 pub returns-then-not-has_open-clause-quiet : goal.returns-then-not-has_open-clause-quiet
 returns-then-not-has_open-clause-quiet g c = λ _. nothing_served c.args.who c.args.committed c.args.self.now c.has_open.new.self c.has_open.ensures.same (c.has_open.ensures.none c.if-not-has_open.true)
+
+pub returns-then-not-has_open-clause-looked : goal.returns-then-not-has_open-clause-looked
+returns-then-not-has_open-clause-looked g c = λ _. inl (c.has_open.ensures.none c.if-not-has_open.true)
+
+pub returns-clause-looked : goal.returns-clause-looked
+returns-clause-looked g c = λ off.
+    inr (subst (λ (s : Subscription). HaveLooked g.G.Gauge.exact c.args.who s.consumers c.have_permit.new.self.consumers) c.has_open.ensures.same (c.have_permit.ensures.looked off))
 
 pub returns-clause-learnt : goal.returns-clause-learnt
 returns-clause-learnt g c = subst (λ (s : Subscription). HasLearntOn c.args.who s c.have_permit.new.self) c.has_open.ensures.same c.have_permit.ensures.learnt

@@ -1,6 +1,7 @@
 use Rattle.std.proofs.Common.{refl, subst}
+use Rattle.std.specs.List.{AllZip}
 use Rattle.subscriptions.specs.State.{Subscriptions}
-use Rattle.subscriptions.specs.Steps.{HasLearnt}
+use Rattle.subscriptions.specs.Steps.{HasLearnt, HasLookedOn}
 use Rattle.subscriptions.proofs.Looking.{limits_looked, hints_looked, places_looked, notes_looked}
 use Rattle.subscriptions.proofs.Noted.{quiet_admits}
 use Rattle.subscriptions.proofs.table.Subscriptions.is_quiet.Goals as goal
@@ -38,6 +39,11 @@ returns-clause-learnt g c =
     let subs = c.may_serve-is_served.new.subs.items in
     let found : HasLearnt c.args.who t (record t { subs = subs }) = record { subs = c.may_serve-is_served.ensures.learnt; same = refl } in
     subst (λ (x : Subscriptions). HasLearnt c.args.who x (record t { subs = subs })) c.self.view_is found
+
+pub returns-clause-looked : goal.returns-clause-looked
+returns-clause-looked g c = λ _.
+    let subs = c.may_serve-is_served.new.subs.items in
+    subst (λ (x : Subscriptions). AllZip (HasLookedOn g.G.Gauge.exact c.args.who c.args.committed) x.subs subs) c.self.view_is (c.may_serve-is_served.ensures.looked c.if-is_served.false)
 
 pub returns-clause-none : goal.returns-clause-none
 returns-clause-none g c = λ _ id i a.

@@ -1,4 +1,4 @@
-use Rattle.std.proofs.Common.{◌≡◌, Err, refl, rules}
+use Rattle.std.proofs.Common.{◌≡◌, Err, rules}
 use Rattle.gated_log.specs.declared.read_error.ReadError.TheVariants.{NoMemory}
 use Rattle.topic_core.proofs.Standings.{standing_goes_on}
 use Rattle.topic_core.proofs.Learning.{admitted_within, refused_dispatch, refused_give, found_sent, whole_entry}

@@ -3,7 +3,7 @@ use Rattle.std.specs.Prelude.{MatchResult}
 use Rattle.topic_core.specs.declared.read_at.ReadAt.{ReadAt}
 use Rattle.topic_core.specs.Steps.{key_of}
 use Rattle.topic_core.specs.Dispatch.{Admits, DispatchStep, IsReadOf}
-use Rattle.topic_lock.proofs.Hearing.{given}
+use Rattle.topic_lock.proofs.Hearing.{given, nothing_told}
 use Rattle.topic_lock.proofs.counted.CountedTopic.next.Goals as goal
 
 pub returns-in-Ok-clause-step : goal.returns-in-Ok-clause-step
@@ -23,3 +23,7 @@ returns-in-Err-clause-step g c = λ counted read.
     let own = subst (λ (o : Option ReadAt). IfSome o (IsReadOf c.args.self.now.core.ledger)) (sym c.own_read.ensures) read in
     let s = c.dispatch_at_hand-at_hand.ensures.step counted own in
     (s.0, s.1, subst (λ r. MatchResult r (λ said. DispatchStep s.0 who id said new) (λ position. (new ≡ s.0) × Admits s.0 (key_of who id) position)) (sym c.sent_of.ensures ∙ c.in-Err.is) (given s.0 who id c.dispatch_at_hand-at_hand.result new s.3))
+
+pub returns-in-Ok-clause-looked : goal.returns-in-Ok-clause-looked
+returns-in-Ok-clause-looked g c = λ none works.
+    c.dispatch_at_hand-at_hand.ensures.looked (nothing_told c.dispatch_at_hand-at_hand.result _ (sym c.sent_of.ensures ∙ c.in-Ok.is) none) works
