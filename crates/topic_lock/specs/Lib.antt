@@ -9,4 +9,5 @@ pub mod Handing
 pub mod Hearing
 pub mod Finding
 pub mod Opening
+pub mod Places
 pub mod Portions

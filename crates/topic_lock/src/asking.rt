@@ -17,17 +17,13 @@ use topic_core::{Send, SentEntry, TopicCommand, TopicStore};
 const LONGEST_ENTRY: usize = 1_048_576;
 
 impl<T: TopicStore, S: Shelf + Drop, K: Tallies> SharedTopic<T, S, K> {
-    /// The topic's lock: what is behind it has this number.
-    pub(crate) fn lock<'t, R: Wait>(
-        &'t self,
-        rt: &R,
-        number: u64,
-    ) -> MutexGuard<'t, CountedTopic<K>>
-        ensures { (mutex_guard_value result).number ≡ number }
+    /// The topic's lock: what is behind it has the topic's number.
+    pub(crate) fn lock<'t, R: Wait>(&'t self, rt: &R) -> MutexGuard<'t, CountedTopic<K>>
+        ensures { (mutex_guard_value result).number ≡ self.now.number }
     {
         for _ in rt.forever() {
             let topic = self.topic.lock(rt);
-            if topic.number() == number {
+            if topic.number() == self.number {
                 return topic;
             }
             drop(topic);
@@ -35,22 +31,16 @@ impl<T: TopicStore, S: Shelf + Drop, K: Tallies> SharedTopic<T, S, K> {
         unreachable!()
     }
 
-    /// The lock that is held already, where it is of the topic of this number, or one that is taken.
-    fn hold<'t, R: Wait>(
-        &'t self,
-        rt: &R,
-        bells: &Bells,
-        number: u64,
-        held: Option<Hold<'t, K>>,
-    ) -> Hold<'t, K>
-        ensures { (mutex_guard_value result.topic).number ≡ number }
+    /// The lock that is held already, where it is this topic's, or one that is taken.
+    fn hold<'t, R: Wait>(&'t self, rt: &R, bells: &Bells, held: Option<Hold<'t, K>>) -> Hold<'t, K>
+        ensures { (mutex_guard_value result.topic).number ≡ self.now.number }
     {
         match held {
-            Some(hold) if hold.topic.number() == number => return hold,
+            Some(hold) if hold.topic.number() == self.number => return hold,
             Some(hold) => hold.release(bells),
             None => {}
         }
-        Hold::new(self.lock(rt, number))
+        Hold::new(self.lock(rt))
     }
 
     /// The topic's lock, for the connection at this place, with room for an entry of this length, or where none has to be waited
@@ -60,17 +50,16 @@ impl<T: TopicStore, S: Shelf + Drop, K: Tallies> SharedTopic<T, S, K> {
         &'t self,
         rt: &R,
         bells: &Bells,
-        number: u64,
         place: u8,
         length: Option<usize>,
         held: Option<Hold<'t, K>>,
     ) -> Hold<'t, K>
-        ensures { (mutex_guard_value result.topic).number ≡ number }
+        ensures { (mutex_guard_value result.topic).number ≡ self.now.number }
     {
         let mut held = held;
         let mut waited = false;
         for _ in rt.forever() {
-            let mut hold = self.hold(rt, bells, number, held.take());
+            let mut hold = self.hold(rt, bells, held.take());
             if hold.topic.lets_in(place, length) {
                 hold.calls_reader = waited || hold.calls_reader;
                 return hold;
@@ -89,14 +78,13 @@ impl<T: TopicStore, S: Shelf + Drop, K: Tallies> SharedTopic<T, S, K> {
         &'t self,
         rt: &R,
         bells: &Bells,
-        number: u64,
         held: Hold<'t, K>,
         place: u8,
         who: u64,
         consumer_id: u64,
     ) -> (Hold<'t, K>, Heard<u64, Sent>)
-        requires { (mutex_guard_value held.topic).number ≡ number }
-        ensures about { (result.1.topic ≡ number) × (result.1.who ≡ who) × (result.1.asked.value ≡ consumer_id) }
+        requires { (mutex_guard_value held.topic).number ≡ self.now.number }
+        ensures about { (result.1.topic ≡ self.now.number) × (result.1.who ≡ who) × (result.1.asked.value ≡ consumer_id) }
         ensures message { SendsTo consumer_id result.1.said }
     {
         let mut hold = held;
@@ -108,7 +96,7 @@ impl<T: TopicStore, S: Shelf + Drop, K: Tallies> SharedTopic<T, S, K> {
         let mut stores = self.stores.lock(rt);
         let mut read = None;
         for _ in rt.forever() {
-            let mut hold = Hold::new(self.lock(rt, number));
+            let mut hold = Hold::new(self.lock(rt));
             let position = match hold.next(place, who, consumer_id, read) {
                 Next::Heard(heard) => {
                     drop(stores);
@@ -123,17 +111,10 @@ impl<T: TopicStore, S: Shelf + Drop, K: Tallies> SharedTopic<T, S, K> {
     }
 
     /// The session of the connection at this place leaves. What it sent stays; what its consumers held is given back.
-    pub(crate) fn leave<R: Wait>(
-        &self,
-        rt: &R,
-        bells: &Bells,
-        number: u64,
-        place: u8,
-        who: u64,
-    ) -> Heard<(), ()>
-        ensures { (result.topic ≡ number) × (result.who ≡ who) }
+    pub(crate) fn leave<R: Wait>(&self, rt: &R, bells: &Bells, place: u8, who: u64) -> Heard<(), ()>
+        ensures { (result.topic ≡ self.now.number) × (result.who ≡ who) }
     {
-        let mut topic = self.lock(rt, number);
+        let mut topic = self.lock(rt);
         let heard = topic.leave(who);
         let hungry = if topic.waiting.members.has(place) {
             topic.waiting.take_hungry()

@@ -2,6 +2,8 @@
 ghost use Rattle.std.specs.Prelude.{◌≡◌, ◌⊎◌, ◌+◌, ◌<◌, ◌≤◌, length, vec_capacity};
 ghost use Rattle.catalog.specs.Catalogs.{remembered};
 ghost use Rattle.session.specs.declared.port.Found.TheVariants.{NoMemory, Failed};
+ghost use Rattle.topic_lock.specs.Opening.{AreNumbered};
+ghost use Rattle.topic_lock.specs.Places.{AreNumberedFrom};
 
 use crate::counted::{CountedTopic, TopicShares};
 use crate::devices::Devices;
@@ -18,6 +20,7 @@ use gated_log::Refusal;
 use session::Found;
 use std::alloc::{AllocError, Global};
 use std::sync::{Mutex, Wait};
+use std::thread::Parker;
 use topic_core::TopicStore;
 
 /// What is kept for a topic that isn't there yet: the device of its number, and shares that count nothing.
@@ -40,6 +43,7 @@ pub struct SharedCatalog<'a, T: TopicStore, S: Shelf + Drop, K: Tallies> {
     /// Whether it was told why a search failed, and no topic was made since.
     pub(crate) is_told: bool,
     ghost named: { length (remembered catalog) ≡ length known.items },
+    ghost numbered: { AreNumberedFrom (λ it. it.token.value.number) 0 known.items },
     ghost placed: { length known.items + length spare.items ≡ length places.now },
     ghost all: { length places.now ≡ 64 },
 }
@@ -82,6 +86,7 @@ impl<'a, T: TopicStore, S: Shelf + Drop, K: Tallies> SharedCatalog<'a, T, S, K> 
     ) -> SharedCatalog<'a, T, S, K>
         requires all { (length places.now ≡ 64) × (length devices.topics.items ≡ 64) × (length shares.items ≡ 64) }
         requires count { length opened.parts.items ≡ length (remembered opened.catalog) }
+        requires numbered { AreNumbered (remembered opened.catalog) opened.parts.items }
     {
         let Opened { catalog, parts } = opened;
         let Devices {
@@ -145,7 +150,9 @@ fn place_all<'a, T: TopicStore, S: Shelf + Drop, K: Tallies, R: Wait>(
     requires all { (length places.now ≡ 64) × (length parts.items ≤ 64) }
     requires room { (length known.old.items ≡ 0) × (64 ≤ vec_capacity known.old) }
     requires kept { length spare.old.items ≡ 64 }
+    requires numbered { AreNumberedFrom (λ part. part.number) 0 parts.items }
     ensures known { length known.new.items ≡ length parts.items }
+    ensures numbered { AreNumberedFrom (λ it. it.token.value.number) 0 known.new.items }
     ensures all { length known.new.items + length spare.new.items ≡ 64 }
 {
     for part in parts {
@@ -165,7 +172,9 @@ pub(crate) fn place_next<'a, T: TopicStore, S: Shelf + Drop, K: Tallies, R: Wait
 )
     requires all { (length places.now ≡ 64) × (length known.old.items + length spare.old.items ≡ 64) }
     requires room { (length known.old.items < 64) × (length known.old.items < vec_capacity known.old) }
+    requires next { part.number ≡ length known.old.items }
     ensures more { length known.new.items ≡ length known.old.items + 1 }
+    ensures numbered { AreNumberedFrom (λ it. it.token.value.number) 0 known.old.items → AreNumberedFrom (λ it. it.token.value.number) 0 known.new.items }
     ensures all { length known.new.items + length spare.new.items ≡ 64 }
     ensures room { vec_capacity known.old ≤ vec_capacity known.new }
 {
@@ -174,8 +183,27 @@ pub(crate) fn place_next<'a, T: TopicStore, S: Shelf + Drop, K: Tallies, R: Wait
     };
     let place = &places[known.len()];
     let topic = share(rt, tally, part, next);
-    let token = place.init(rt, move || topic);
-    known.push(Known::new(place, token)).unwrap();
+    known.push(fill(rt, place, topic)).unwrap();
+}
+
+/// Fills a place. Behind one that is filled already it sleeps for ever: nobody else fills places.
+fn fill<'a, T: TopicStore, S: Shelf + Drop, K: Tallies, R: Wait>(
+    rt: &R,
+    place: &'a Place<T, S, K>,
+    topic: SharedTopic<T, S, K>,
+) -> Known<'a, T, S, K>
+    ensures { (result.token.value.number ≡ topic.number) × (result.token.value.name ≡ topic.name) }
+{
+    let refused = match place.set(rt, topic) {
+        Ok(token) => return Known::new(place, token),
+        Err(refused) => refused,
+    };
+    drop(refused);
+    let never = Parker::new();
+    for _ in rt.forever() {
+        never.park(rt);
+    }
+    unreachable!()
 }
 
 /// A topic that was just opened or made, with its shares, as threads share it. What it has is counted as durable.
@@ -185,7 +213,7 @@ fn share<T: TopicStore, S: Shelf + Drop, K: Tallies, R: Wait>(
     part: OpenPart<T>,
     spare: Spare<S, K>,
 ) -> SharedTopic<T, S, K>
-    ensures { result.name ≡ part.name }
+    ensures { (result.name ≡ part.name) × (result.number ≡ part.number) }
 {
     let OpenPart {
         number,
@@ -213,9 +241,11 @@ fn share<T: TopicStore, S: Shelf + Drop, K: Tallies, R: Wait>(
         committed,
         behind,
     };
+    let number = u64::from(number);
     SharedTopic {
+        number,
         name,
-        topic: Mutex::new(CountedTopic::new(core, u64::from(number), shares)),
+        topic: Mutex::new(CountedTopic::new(core, number, shares)),
         stores: Mutex::new(CountedStores::new(stores, shelf, held)),
     }
 }

@@ -176,7 +176,7 @@ fn open_next<'a, T: TopicStore, S: Shelf + Drop, K: Tallies>(
     requires named { length known.old.items < length (remembered catalog.now) }
     ensures room { OnOk result (length known.new.items < vec_capacity known.new) }
     ensures number { IfOk result (λ part. (part.number ≡ length known.old.items) × (slice_get (remembered catalog.now) part.number ≡ Some part.name)) }
-    ensures same { (length known.new.items ≡ length known.old.items) × (length spare.new.items ≡ length spare.old.items) }
+    ensures same { (known.new.items ≡ known.old.items) × (length spare.new.items ≡ length spare.old.items) }
 {
     known.reserve(1)?;
     let number = known.len() as u16;

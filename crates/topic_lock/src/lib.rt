@@ -13,6 +13,7 @@ mod directory;
 mod durable;
 mod fault;
 mod finding;
+mod granting;
 mod handing;
 mod holding;
 mod ledgers;

@@ -9,12 +9,14 @@ ghost use Rattle.topic_lock.specs.Granting.{GrantsBy};
 ghost use Rattle.topic_lock.specs.Locked.{unknown_broker};
 ghost use Rattle.topic_lock.specs.Handing.{topic_of, who_of, asked_of, said_of, IsHeard};
 ghost use Rattle.topic_lock.specs.Hearing.{put_off};
+ghost use Rattle.topic_lock.specs.Places.{AreNumberedFrom};
 ghost use Rattle.topic_lock.specs.Portions.{is_full, left_behind};
 ghost use Rattle.std.specs.Sync.Mutex.{mutex_guard_value};
 
 use crate::asking::length_of;
 use crate::broker::{Seat, SharedBroker};
 use crate::counted::{Heard, Sent};
+use crate::granting::Granting;
 use crate::handing::Handed;
 use crate::holding::Hold;
 use crate::parts::PortShares;
@@ -56,6 +58,7 @@ pub struct LockedPort<'p, 'a, T: TopicStore, S: Shelf + Drop, K: Tallies, R: Wai
     portion: Portion,
     troubles: Troubles,
     ghost parts: { (accepted.parts ≡ 1) × (handed.parts ≡ 1) },
+    ghost numbered: { AreNumberedFrom (λ it. it.token.value.number) 0 known.items },
 }
 
 impl<'p, 'a, T: TopicStore, S: Shelf + Drop, K: Tallies, R: Wait> LockedPort<'p, 'a, T, S, K, R> {
@@ -140,6 +143,7 @@ impl<'p, 'a, T: TopicStore, S: Shelf + Drop, K: Tallies, R: Wait> LockedPort<'p,
     /// The topic of a number that the port knows.
     fn topic(&self, topic: u64) -> &'a SharedTopic<T, S, K>
         requires { topic < length self.now.known.items }
+        ensures { result.now.number ≡ topic }
     {
         self.known[topic as usize].get()
     }
@@ -152,14 +156,8 @@ impl<'p, 'a, T: TopicStore, S: Shelf + Drop, K: Tallies, R: Wait> LockedPort<'p,
     {
         let kept = self.held.take();
         let place = self.seat.place;
-        self.topic(topic).enter(
-            self.rt,
-            &self.broker.bells,
-            topic,
-            place,
-            entry_length,
-            kept,
-        )
+        self.topic(topic)
+            .enter(self.rt, &self.broker.bells, place, entry_length, kept)
     }
 
     /// Keeps a lock until the port is asked for something else, where a turn is on.
@@ -180,6 +178,7 @@ impl<'p, 'a, T: TopicStore, S: Shelf + Drop, K: Tallies, R: Wait> LockedPort<'p,
 
     /// Learns of the topics that are there by now.
     fn learn(&mut self, known: &Vec<Known<'a, T, S, K>>) -> Result<(), AllocError>
+        requires { AreNumberedFrom (λ it. it.token.value.number) 0 known.now.items }
         ensures grows { length self.old.known.items ≤ length self.new.known.items }
         ensures all { IfOk result (λ _. length known.now.items ≤ length self.new.known.items) }
         ensures accepted { (self.new.accepted.amount ≡ self.old.accepted.amount) × (self.new.handed.amount ≡ self.old.handed.amount) }
@@ -230,7 +229,12 @@ impl<'p, 'a, T: TopicStore, S: Shelf + Drop, K: Tallies, R: Wait> LockedPort<'p,
             let Some(token) = place.witness() else {
                 break;
             };
-            known.push(Known::new(place, token))?;
+            let next = Known::new(place, token);
+            if !next.is_numbered(number as u64) {
+                drop(next);
+                break;
+            }
+            known.push(next)?;
         }
         Ok(())
     }
@@ -353,13 +357,13 @@ impl<'p, 'a, T: TopicStore, S: Shelf + Drop, K: Tallies, R: Wait + Log> Port
 
     fn has_producer(&self, topic: u64, who: u64, producer_id: u64) -> Heard<Member, bool> {
         self.let_go();
-        let locked = self.topic(topic).lock(self.rt, topic);
+        let locked = self.topic(topic).lock(self.rt);
         locked.has_producer(who, producer_id)
     }
 
     fn has_consumer(&self, topic: u64, who: u64, consumer_id: u64) -> Heard<Member, bool> {
         self.let_go();
-        let locked = self.topic(topic).lock(self.rt, topic);
+        let locked = self.topic(topic).lock(self.rt);
         locked.has_consumer(who, consumer_id)
     }
 
@@ -436,9 +440,11 @@ impl<'p, 'a, T: TopicStore, S: Shelf + Drop, K: Tallies, R: Wait + Log> Port
         ensures passes { length self.new.known.items ≡ length self.old.known.items }
         ensures granted { GrantsBy granter.old permits result granter.new }
     {
-        let granted = grant_by(granter, permits);
-        self.broker.bells.ring_writer(self.seat.place);
-        granted
+        let granting = Granting {
+            bells: &self.broker.bells,
+            place: self.seat.place,
+        };
+        granting.grant(granter, permits)
     }
 
     fn look(&mut self, topic: u64, who: u64, consumer_id: u64) -> Heard<u64, ()> {
@@ -470,7 +476,7 @@ impl<'p, 'a, T: TopicStore, S: Shelf + Drop, K: Tallies, R: Wait + Log> Port
         let shared = self.topic(topic);
         let place = self.seat.place;
         let bells = &self.broker.bells;
-        let (hold, sent) = shared.dispatch(self.rt, bells, topic, held, place, who, consumer_id);
+        let (hold, sent) = shared.dispatch(self.rt, bells, held, place, who, consumer_id);
         self.keep(hold);
         Handed::Heard(self.pass_on(Reading { topic, consumer_id }, sent))
     }
@@ -515,7 +521,7 @@ impl<'p, 'a, T: TopicStore, S: Shelf + Drop, K: Tallies, R: Wait + Log> Port
         self.let_go();
         let place = self.seat.place;
         self.topic(topic)
-            .leave(self.rt, &self.broker.bells, topic, place, who)
+            .leave(self.rt, &self.broker.bells, place, who)
     }
 
     ghost use Rattle.std.proofs.Common.{refl, sym, ap, ◌∙◌, arith};
@@ -558,15 +564,5 @@ fn if_later(answer: &Answer, granter: Option<Granter>) -> Option<Granter>
     match answer {
         Answer::Later => granter,
         Answer::Now(_) | Answer::Nothing | Answer::NoMemory => None,
-    }
-}
-
-/// Grants so many permits more by a granter, where there is one.
-fn grant_by(granter: &mut Option<Granter>, permits: u32) -> Result<(), TooManyPermits>
-    ensures { GrantsBy granter.old permits result granter.new }
-{
-    match granter {
-        Some(granter) => granter.grant(u64::from(permits)),
-        None => Ok(()),
     }
 }

@@ -1,5 +1,5 @@
 // A topic that is there, as threads share it.
-ghost use Rattle.std.specs.Prelude.{◌≡◌, ◌<◌, IfOk, IfSome, length, position};
+ghost use Rattle.std.specs.Prelude.{◌≡◌, ◌<◌, IfOk, IfSome, length, nat_eq, position};
 ghost use Rattle.std.specs.Str.{bytes_eq};
 
 use crate::counted::CountedTopic;
@@ -14,9 +14,11 @@ use topic_core::TopicStore;
 /// A topic behind its lock.
 pub type LockedTopic<K> = Mutex<CountedTopic<K>>;
 
-/// A topic that is there, by its name, and its stores. The lock of the stores is taken before that of the topic, or alone.
+/// A topic that is there, by its number and its name for good, and its stores. The lock of the stores is taken before that of the topic, or
+/// alone.
 #[derive(Drop)]
 pub struct SharedTopic<T: TopicStore, S: Shelf + Drop, K: Tallies> {
+    pub number: u64,
     pub name: TopicName,
     pub topic: LockedTopic<K>,
     pub stores: Mutex<CountedStores<T, S, K>>,
@@ -56,6 +58,7 @@ impl<'a, T: TopicStore, S: Shelf + Drop, K: Tallies> Known<'a, T, S, K> {
         token: OnceToken<'a, SharedTopic<T, S, K>>,
     ) -> Known<'a, T, S, K>
         requires { token.of ≡ place.now.id }
+        ensures { result.token.value ≡ token.entry.value }
     {
         Known { place, token }
     }
@@ -75,6 +78,13 @@ impl<'a, T: TopicStore, S: Shelf + Drop, K: Tallies> Known<'a, T, S, K> {
             place: self.place,
             token: self.token.again(),
         }
+    }
+
+    /// Whether the topic that is there has this number.
+    pub(crate) fn is_numbered(&self, number: u64) -> bool
+        ensures { result ≡ nat_eq self.now.token.value.number number }
+    {
+        self.get().number == number
     }
 
     /// Whether the topic that is there has this name.
