@@ -60,8 +60,12 @@ class Server:
     def begin(self):
         """Begins to serve, and doesn't wait until clients are taken."""
         self.port = free_port()
+        self.begin_at(f"127.0.0.1:{self.port}", self.words)
+
+    def begin_at(self, address, words):
+        """Begins to serve at an address."""
         with open(self.log, "a", encoding="utf-8") as log:
-            self.process = subprocess.Popen([self.program, "serve", f"127.0.0.1:{self.port}", self.folder, *self.words], stdin=subprocess.DEVNULL,
+            self.process = subprocess.Popen([self.program, "serve", address, self.folder, *words], stdin=subprocess.DEVNULL,
                                             stdout=subprocess.PIPE, stderr=log, text=True, restore_signals=self.restores)
 
     def start(self):
