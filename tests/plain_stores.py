@@ -254,26 +254,26 @@ class SegmentTaken:
 
 
 class Journal:
-    """The logs of its segments, of which the last one grows."""
+    """The logs of its segments from a number on, of which the last one grows."""
 
-    def __init__(self, logs):
-        self.logs, self.failed = logs, False
-
-    @classmethod
-    def create(cls, device, number):
-        return cls([Log.create(device, "e0", number)])
+    def __init__(self, logs, first):
+        self.logs, self.first, self.failed = logs, first, False
 
     @classmethod
-    def open(cls, device, taken):
+    def create(cls, device, number, first=0):
+        return cls([Log.create(device, f"e{first}", number)], first)
+
+    @classmethod
+    def open(cls, device, taken, first=0):
         logs, ended = [], True
         while ended:
             segment = SegmentTaken(taken)
-            head = Head(device, f"e{len(logs)}")
+            head = Head(device, f"e{first + len(logs)}")
             if not head.file.is_open():
                 raise head.file.damaged(0)
             logs.append(go_on(device, head, segment))
             ended = segment.ended
-        return cls(logs)
+        return cls(logs, first)
 
     def last(self):
         return self.logs[-1]
@@ -283,9 +283,17 @@ class Journal:
 
     def roll(self, device, number):
         def work():
-            following = Log.create(device, f"e{len(self.logs)}", number)
+            following = Log.create(device, f"e{self.first + len(self.logs)}", number)
             self.last().append(device, bytes([END_MARK]))
             self.logs.append(following)
+        self.change(work)
+
+    def drop_before(self, device, first):
+        def work():
+            for number in range(self.first, first):
+                device.cut(f"e{number}", 0)
+                device.sync(f"e{number}")
+            self.logs, self.first = self.logs[first - self.first:], first
         self.change(work)
 
     def change(self, work):

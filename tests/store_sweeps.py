@@ -55,10 +55,13 @@ def of_journals():
     again = "journal append 64; journal roll 6; journal read 0 22 2; journal state; file e0; length e1"
     behind = "journal open; journal append 66; journal roll 8; journal append 67; journal state; journal open"
     unsynced = line(front, made, "journal roll 5; fail 4; journal append 63")
+    whole = line("room e0 e1 e2 e3", rolled, "journal roll 6; journal append 64")
+    kept = "length e0; length e1; journal from 2; journal append 66; journal roll 8; journal state; journal from 2"
     return [
         *sweep("a journal's creation", front, "journal create 0", 5, "journal open; journal create 4; journal open"),
         *sweep("a journal's append", line(front, made), "journal append 63", 4, behind, again),
         *sweep("a journal's roll", line(front, made), "journal roll 5", 9, behind, again),
+        *sweep("a journal's drop of two segments", whole, "journal drop 2", 4, kept, "journal append 64; journal drop 2; journal state"),
         *sweep("a journal's opening behind an append whose last sync failed", unsynced, "journal open", 2, behind, "sync e0"),
         *sweep_reads("a journal's opening", line(front, rolled), "journal open", 10)]
 

@@ -210,8 +210,8 @@ class Steps:
 
     # A journal
 
-    def journal_create(self, number):
-        self.journal = Journal.create(self.device, int(number))
+    def journal_create(self, number, first=0):
+        self.journal = Journal.create(self.device, int(number), int(first))
 
     def journal_open(self, room=None):
         taken = Taken(room and int(room))
@@ -221,11 +221,24 @@ class Steps:
         self.journal = journal
         return "ok" + taken.text
 
+    def journal_from(self, first):
+        taken = Taken()
+        self.journal = Journal.open(self.device, taken, int(first))
+        return "ok" + taken.text
+
+    def journal_first(self):
+        return str(self.journal.first)
+
     def journal_append(self, word):
         self.journal.append(self.device, content_of(word))
 
     def journal_roll(self, number):
         self.journal.roll(self.device, int(number))
+
+    def journal_drop(self, number):
+        if not 0 <= int(number) - self.journal.first < len(self.journal.logs):
+            return "none"
+        self.journal.drop_before(self.device, int(number))
 
     def journal_read(self, segment, offset, size):
         return found_bytes(self.journal.read(self.device, int(segment), int(offset), int(size)))

@@ -21,19 +21,19 @@ use Rattle.journal.specs.Folded.{AreOpen, AreClosed, AllClosed, logs_form, logs_
 use Rattle.disk.specs.Moments.{joins}
 
 -- the closed segments, in what reads give and in what a crash leaves
-pub record HoldNow (topic : ℕ) (disk : Disk) (closed : List GatedLog) (links : List Link) : Type 0 where
-  pub now : ClosedHold topic 0 disk.seen closed links
-  pub left : (c : Image) → disk.may_leave c → ClosedHold topic 0 c closed links
+pub record HoldNow (topic from : ℕ) (disk : Disk) (closed : List GatedLog) (links : List Link) : Type 0 where
+  pub now : ClosedHold topic from disk.seen closed links
+  pub left : (c : Image) → disk.may_leave c → ClosedHold topic from c closed links
 
-pub hold_still : (topic : ℕ) (mid new : Disk) (closed : List GatedLog) (links : List Link) → HoldNow topic mid closed links → new.seen ≡ mid.seen → Leaves mid.may_leave mid new → HoldNow topic new closed links
-hold_still topic mid new closed links hold seen leaves = record { now = subst (λ (i : Image). ClosedHold topic 0 i closed links) (sym seen) hold.now; left = λ c may. hold.left c (leaves.now c may) }
+pub hold_still : (topic from : ℕ) (mid new : Disk) (closed : List GatedLog) (links : List Link) → HoldNow topic from mid closed links → new.seen ≡ mid.seen → Leaves mid.may_leave mid new → HoldNow topic from new closed links
+hold_still topic from mid new closed links hold seen leaves = record { now = subst (λ (i : Image). ClosedHold topic from i closed links) (sym seen) hold.now; left = λ c may. hold.left c (leaves.now c may) }
 
 -- what an opening keeps true from segment to segment
-pub record Going (topic : ℕ) (first now : Disk) (held holds : List Link → Type 0) (closed : List GatedLog) : Type 0 where
+pub record Going (topic from : ℕ) (first now : Disk) (held holds : List Link → Type 0) (closed : List GatedLog) : Type 0 where
   pub kept : Kept first now
   pub seen : first.honest → now.seen ≡ first.seen
   pub any_moment : first.honest → Leaves first.may_leave first now
-  pub read : held [] → (logs : List Link) × AllClosed logs × (first.honest → HoldNow topic now closed (map segment_of logs)) × holds (map segment_of logs)
+  pub read : held [] → (logs : List Link) × AllClosed logs × (first.honest → HoldNow topic from now closed (map segment_of logs)) × holds (map segment_of logs)
 
 leaves_on : (first mid new : Disk) → Leaves first.may_leave first mid → Leaves mid.may_leave mid new → Leaves first.may_leave first new
 leaves_on first mid new one other = joins first.may_leave mid.may_leave first.may_leave first mid new one other (λ image left. left) (λ image left. one.now image left)
@@ -79,30 +79,30 @@ fault_same a b file bytes NoMemory to from is = is
 fault_same a b file bytes TooLarge to from is = is
 
 -- a refusal to open a segment tells the first fault of the chain
-pub chain_fault : (form : List Link → Type 0) (topic : ℕ) (image : Image) (closed : List GatedLog) (logs : List Link) (told : Refusal) → AllClosed logs → ClosedHold topic 0 image closed (map segment_of logs) → form (map segment_of logs)
-    → IsFault (behind (logs_form form) logs) (Segment topic (length closed)) (image (Segment topic (length closed))) told → IsChainFault form topic image (refusal_of_named (Segment topic (length closed)) told)
-chain_fault form topic image closed logs told are hold formed is =
+pub chain_fault : (form : List Link → Type 0) (topic from : ℕ) (image : Image) (closed : List GatedLog) (logs : List Link) (told : Refusal) → AllClosed logs → ClosedHold topic from image closed (map segment_of logs) → form (map segment_of logs)
+    → IsFault (behind (logs_form form) logs) (Segment topic (from + length closed)) (image (Segment topic (from + length closed))) told → IsChainFault form topic from image (refusal_of_named (Segment topic (from + length closed)) told)
+chain_fault form topic from image closed logs told are hold formed is =
     let links = map segment_of logs in
-    let to : (log : Link) → behind (logs_form form) logs log → segment_form form links log = λ log so. ((last_so logs log so.0).1, subst form (segments_push logs log) so.1) in
-    let from : (log : Link) → segment_form form links log → behind (logs_form form) logs log = λ log so. (so_last logs log are so.0, subst form (sym (segments_push logs log)) so.1) in
-    let many : length closed ≡ length links = closed_length topic 0 image closed links hold in
+    let there : (log : Link) → behind (logs_form form) logs log → segment_form form links log = λ log so. ((last_so logs log so.0).1, subst form (segments_push logs log) so.1) in
+    let back : (log : Link) → segment_form form links log → behind (logs_form form) logs log = λ log so. (so_last logs log are so.0, subst form (sym (segments_push logs log)) so.1) in
+    let many : length closed ≡ length links = closed_length topic from image closed links hold in
     record {
       closed = links;
-      stand = closed_stand topic 0 image closed links hold;
+      stand = closed_stand topic from image closed links hold;
       formed = formed;
-      fault = subst (λ (n : ℕ). IsNamedFault (segment_form form links) (Segment topic n) (image (Segment topic n)) (refusal_of_named (Segment topic (length closed)) told)) many
-          (told, fault_same (behind (logs_form form) logs) (segment_form form links) (Segment topic (length closed)) (image (Segment topic (length closed))) told to from is, refl);
+      fault = subst (λ (n : ℕ). IsNamedFault (segment_form form links) (Segment topic (from + n)) (image (Segment topic (from + n))) (refusal_of_named (Segment topic (from + length closed)) told)) many
+          (told, fault_same (behind (logs_form form) logs) (segment_form form links) (Segment topic (from + length closed)) (image (Segment topic (from + length closed))) told there back is, refl);
     }
 
 -- no memory, the device, or a fault of the chain
-abbrev pub Refused : (List Link → Type 0) → ℕ → Image → Refusal → Type 0
-Refused form topic image e = (e ≡ NoMemory) ⊎ ((e ≡ Device) ⊎ IsChainFault form topic image e)
+abbrev pub Refused : (List Link → Type 0) → ℕ → ℕ → Image → Refusal → Type 0
+Refused form topic from image e = (e ≡ NoMemory) ⊎ ((e ≡ Device) ⊎ IsChainFault form topic from image e)
 
-pub named_refused : (form : List Link → Type 0) (topic : ℕ) (image : Image) (closed : List GatedLog) (logs : List Link) (told : Refusal) → AllClosed logs → ClosedHold topic 0 image closed (map segment_of logs) → form (map segment_of logs)
-    → (told ≡ NoMemory) ⊎ ((told ≡ Device) ⊎ IsFault (behind (logs_form form) logs) (Segment topic (length closed)) (image (Segment topic (length closed))) told) → Refused form topic image (refusal_of_named (Segment topic (length closed)) told)
-named_refused form topic image closed logs told are hold formed (inl none) = inl (ap (refusal_of_named (Segment topic (length closed))) none)
-named_refused form topic image closed logs told are hold formed (inr (inl device)) = inr (inl (ap (refusal_of_named (Segment topic (length closed))) device))
-named_refused form topic image closed logs told are hold formed (inr (inr is)) = inr (inr (chain_fault form topic image closed logs told are hold formed is))
+pub named_refused : (form : List Link → Type 0) (topic from : ℕ) (image : Image) (closed : List GatedLog) (logs : List Link) (told : Refusal) → AllClosed logs → ClosedHold topic from image closed (map segment_of logs) → form (map segment_of logs)
+    → (told ≡ NoMemory) ⊎ ((told ≡ Device) ⊎ IsFault (behind (logs_form form) logs) (Segment topic (from + length closed)) (image (Segment topic (from + length closed))) told) → Refused form topic from image (refusal_of_named (Segment topic (from + length closed)) told)
+named_refused form topic from image closed logs told are hold formed (inl none) = inl (ap (refusal_of_named (Segment topic (from + length closed))) none)
+named_refused form topic from image closed logs told are hold formed (inr (inl device)) = inr (inl (ap (refusal_of_named (Segment topic (from + length closed))) device))
+named_refused form topic from image closed logs told are hold formed (inr (inr is)) = inr (inr (chain_fault form topic from image closed logs told are hold formed is))
 
 -- the log of a segment
 log_at : (log : GatedLog) (topic n : ℕ) (image : Image) (bodies batches : Bodies) → (log_id log).file ≡ Segment topic n → bodies ≡ batches → LogHolds log image bodies → LogAt log (record { file = Segment topic n; number = (log_id log).number }) image batches
@@ -115,11 +115,11 @@ abbrev pub read_log : GatedLog → Bodies → Link
 read_log log bodies = record { number = (log_id log).number; bodies = bodies }
 
 -- a segment more
-pub goes_more : (topic : ℕ) (first mid new : Disk) (held holds holds' : List Link → Type 0) (closed : List GatedLog) (log : GatedLog) → Going topic first mid held holds closed
-    → Kept mid new → (mid.honest → new.seen ≡ mid.seen) → (mid.honest → Leaves mid.may_leave mid new) → (log_id log).file ≡ Segment topic (length closed)
+pub goes_more : (topic from : ℕ) (first mid new : Disk) (held holds holds' : List Link → Type 0) (closed : List GatedLog) (log : GatedLog) → Going topic from first mid held holds closed
+    → Kept mid new → (mid.honest → new.seen ≡ mid.seen) → (mid.honest → Leaves mid.may_leave mid new) → (log_id log).file ≡ Segment topic (from + length closed)
     → ((logs : List Link) → logs_hold true holds logs → (bodies : Bodies) × (mid.honest → LogSettled (LogHolds log) new bodies) × logs_hold true holds' (logs ++ read_log log bodies ∷ []))
-    → Going topic first new held holds' (closed ++ log ∷ [])
-goes_more topic first mid new held holds holds' closed log so_far kept seen leaves file_is opens = record {
+    → Going topic from first new held holds' (closed ++ log ∷ [])
+goes_more topic from first mid new held holds holds' closed log so_far kept seen leaves file_is opens = record {
   kept = record {
     faults = omega (arith, so_far.kept.faults, kept.faults);
     honest = λ h. kept.honest (so_far.kept.honest h);
@@ -135,24 +135,23 @@ goes_more topic first mid new held holds holds' closed log so_far kept seen leav
       let links = map segment_of logs in
       let log' : Link = read_log log bodies in
       let so = closed_logs_last logs log' more.2.0 in
-      let at : length closed ≡ 0 + length closed = omega arith in
-      let more_at : (c : Image) → ClosedHold topic 0 c closed links → LogHolds log c bodies → ClosedHold topic 0 c (closed ++ log ∷ []) (map segment_of (logs ++ log' ∷ [])) = λ c hold' here.
-      subst (λ (l : List Link). ClosedHold topic 0 c (closed ++ log ∷ []) l) (sym (segments_push logs log'))
-      (closed_push topic 0 c closed links log (segment_of log') hold' (log_at log topic (0 + length closed) c bodies (closed_batches_of (segment_of log')) (file_is ∙ ap (λ (n : ℕ). Segment topic n) at) (closed_are bodies so.1) here)) in
-      let hold_now : first.honest → HoldNow topic new (closed ++ log ∷ []) (map segment_of (logs ++ log' ∷ [])) = λ h.
+      let more_at : (c : Image) → ClosedHold topic from c closed links → LogHolds log c bodies → ClosedHold topic from c (closed ++ log ∷ []) (map segment_of (logs ++ log' ∷ [])) = λ c hold' here.
+      subst (λ (l : List Link). ClosedHold topic from c (closed ++ log ∷ []) l) (sym (segments_push logs log'))
+      (closed_push topic from c closed links log (segment_of log') hold' (log_at log topic (from + length closed) c bodies (closed_batches_of (segment_of log')) file_is (closed_are bodies so.1) here)) in
+      let hold_now : first.honest → HoldNow topic from new (closed ++ log ∷ []) (map segment_of (logs ++ log' ∷ [])) = λ h.
       let honest = so_far.kept.honest h in
-      let hold = hold_still topic mid new closed links (was.2 h) (seen honest) (leaves honest) in
+      let hold = hold_still topic from mid new closed links (was.2 h) (seen honest) (leaves honest) in
       let settled = more.1 honest in
       record { now = more_at new.seen hold.now settled.now; left = λ c may. more_at c (hold.left c may) (settled.left c may) } in
       (logs ++ log' ∷ [], more.2.0, hold_now, more.2.1);
 }
 
 -- the last segment
-pub settles : (topic : ℕ) (first mid new : Disk) (held holds holds' : List Link → Type 0) (closed : List GatedLog) (journal : Journal) → Going topic first mid held holds closed → held []
-    → journal.failed ≡ false → journal.topic ≡ topic → journal.closed.items ≡ closed → Kept mid new → (mid.honest → new.seen ≡ mid.seen) → (mid.honest → Leaves mid.may_leave mid new) → (log_id journal.last).file ≡ Segment topic (length closed)
+pub settles : (topic from : ℕ) (first mid new : Disk) (held holds holds' : List Link → Type 0) (closed : List GatedLog) (journal : Journal) → Going topic from first mid held holds closed → held []
+    → journal.failed ≡ false → journal.topic ≡ topic → journal.first ≡ from → journal.closed.items ≡ closed → Kept mid new → (mid.honest → new.seen ≡ mid.seen) → (mid.honest → Leaves mid.may_leave mid new) → (log_id journal.last).file ≡ Segment topic (from + length closed)
     → ((logs : List Link) → logs_hold true holds logs → (bodies : Bodies) × (mid.honest → LogSettled (LogHolds journal.last) new bodies) × logs_hold false holds' (logs ++ read_log journal.last bodies ∷ []))
     → (chain : Chain) × (first.honest → Settled journal new chain) × holds' (links_of chain)
-settles topic first mid new held holds holds' closed journal so_far held' works topic_is closed_are' kept seen leaves file_is opens =
+settles topic from first mid new held holds holds' closed journal so_far held' works topic_is from_is closed_are' kept seen leaves file_is opens =
     let was = so_far.read held' in
     let logs = was.0 in
     let more = opens logs (was.1, was.3) in
@@ -161,11 +160,11 @@ settles topic first mid new held holds holds' closed journal so_far held' works 
     let log' : Link = read_log journal.last bodies in
     let so = last_open_last logs log' more.2.0 in
     let chain : Chain = record { closed = links; last = segment_of log' } in
-    let held_at : (c : Image) → ClosedHold topic 0 c closed links → LogHolds journal.last c bodies → Holds journal c chain =
-    λ c hold' last. holds_as journal topic closed c chain works topic_is closed_are' hold' (log_at journal.last topic (length closed) c bodies (batches_of (segment_of log')) file_is (open_are bodies so.1) last) in
+    let held_at : (c : Image) → ClosedHold topic from c closed links → LogHolds journal.last c bodies → Holds journal c chain =
+    λ c hold' last. holds_as journal topic from closed c chain works topic_is from_is closed_are' hold' (log_at journal.last topic (from + length closed) c bodies (batches_of (segment_of log')) file_is (open_are bodies so.1) last) in
     let settled : first.honest → Settled journal new chain = λ h.
     let honest = so_far.kept.honest h in
-    let hold = hold_still topic mid new closed links (was.2 h) (seen honest) (leaves honest) in
+    let hold = hold_still topic from mid new closed links (was.2 h) (seen honest) (leaves honest) in
     let last = more.1 honest in
     record {
       honest = kept.honest honest;

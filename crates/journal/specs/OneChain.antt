@@ -51,47 +51,49 @@ module _ (form : List Link → Type 0) (before : (links : List Link) (link : Lin
   last_form done link is = (inl (open_entries link.bodies), subst (λ (b : Bodies). form (done ++ record { number = link.number; bodies = b } ∷ [])) (sym (bodies_back link.bodies)) is)
 
   -- no closed segment of the form stands behind these
-  abbrev Ends : ℕ → Image → List Link → Type 0
-  Ends topic image links = (link : Link) → form (links ++ link ∷ []) → IsLog link.number (closed_batches_of link) (image (Segment topic (length links))) → ⊥
+  abbrev Ends : ℕ → ℕ → Image → List Link → Type 0
+  Ends topic first image links = (link : Link) → form (links ++ link ∷ []) → IsLog link.number (closed_batches_of link) (image (Segment topic (first + length links))) → ⊥
 
-  fault_ends : (topic : ℕ) (image : Image) (links : List Link) (refusal : Refusal) → IsNamedFault (segment_form form links) (Segment topic (length links)) (image (Segment topic (length links))) refusal → Ends topic image links
-  fault_ends topic image links refusal fault link is stands =
-      log_no_fault (segment_form form links) (segment_less links) (record { number = link.number; bodies = closed_batches_of link }) (Segment topic (length links)) (image (Segment topic (length links))) fault.0 (closed_form links link is) stands fault.1
+  fault_ends : (topic first : ℕ) (image : Image) (links : List Link) (refusal : Refusal) → IsNamedFault (segment_form form links) (Segment topic (first + length links)) (image (Segment topic (first + length links))) refusal → Ends topic first image links
+  fault_ends topic first image links refusal fault link is stands =
+      log_no_fault (segment_form form links) (segment_less links) (record { number = link.number; bodies = closed_batches_of link }) (Segment topic (first + length links)) (image (Segment topic (first + length links))) fault.0 (closed_form links link is) stands fault.1
 
-  last_ends : (topic : ℕ) (image : Image) (links : List Link) (last : Link) → IsLog last.number (batches_of last) (image (Segment topic (length links))) → Ends topic image links
-  last_ends topic image links last is link _ is' = closed_not_last link.bodies last.bodies (log_one link.number last.number (closed_batches_of link) (batches_of last) (image (Segment topic (length links))) is' is).1
+  last_ends : (topic first : ℕ) (image : Image) (links : List Link) (last : Link) → IsLog last.number (batches_of last) (image (Segment topic (first + length links))) → Ends topic first image links
+  last_ends topic first image links last is link _ is' = closed_not_last link.bodies last.bodies (log_one link.number last.number (closed_batches_of link) (batches_of last) (image (Segment topic (first + length links))) is' is).1
 
   -- closed segments up to an end are the same
-  meet : (topic from : ℕ) (image : Image) (done one other : List Link) → from ≡ length done → ClosedStand topic from image one → ClosedStand topic from image other → form (done ++ one) → form (done ++ other)
-      → Ends topic image (done ++ one) → Ends topic image (done ++ other) → one ≡ other
-  meet topic from image done [] [] at stand stand' is is' ends ends' = refl
-  meet topic from image done [] (b ∷ other) at stand stand' is is' ends ends' =
-      absurd (subst (λ (l : List Link). Ends topic image l) (append-nil done) ends b (front done b other is') (subst (λ (n : ℕ). IsLog b.number (closed_batches_of b) (image (Segment topic n))) at stand'.0))
-  meet topic from image done (a ∷ one) [] at stand stand' is is' ends ends' =
-      absurd (subst (λ (l : List Link). Ends topic image l) (append-nil done) ends' a (front done a one is) (subst (λ (n : ℕ). IsLog a.number (closed_batches_of a) (image (Segment topic n))) at stand.0))
-  meet topic from image done (a ∷ one) (b ∷ other) at stand stand' is is' ends ends' =
+  meet : (topic first from : ℕ) (image : Image) (done one other : List Link) → from ≡ first + length done → ClosedStand topic from image one → ClosedStand topic from image other → form (done ++ one) → form (done ++ other)
+      → Ends topic first image (done ++ one) → Ends topic first image (done ++ other) → one ≡ other
+  meet topic first from image done [] [] at stand stand' is is' ends ends' = refl
+  meet topic first from image done [] (b ∷ other) at stand stand' is is' ends ends' =
+      absurd (subst (λ (l : List Link). Ends topic first image l) (append-nil done) ends b (front done b other is') (subst (λ (n : ℕ). IsLog b.number (closed_batches_of b) (image (Segment topic n))) at stand'.0))
+  meet topic first from image done (a ∷ one) [] at stand stand' is is' ends ends' =
+      absurd (subst (λ (l : List Link). Ends topic first image l) (append-nil done) ends' a (front done a one is) (subst (λ (n : ℕ). IsLog a.number (closed_batches_of a) (image (Segment topic n))) at stand.0))
+  meet topic first from image done (a ∷ one) (b ∷ other) at stand stand' is is' ends ends' =
       let head : a ≡ b = closed_one a b (image (Segment topic from)) stand.0 stand'.0 in
-      let next : from + 1 ≡ length (done ++ a ∷ []) = omega (arith, at, length-append done (a ∷ [])) in
+      let next : from + 1 ≡ first + length (done ++ a ∷ []) = omega (arith, at, length-append done (a ∷ [])) in
       let here : done ++ a ∷ one ≡ (done ++ a ∷ []) ++ one = sym (append_assoc done (a ∷ []) one) in
       let here' : done ++ b ∷ other ≡ (done ++ a ∷ []) ++ other = ap (λ (l : Link). done ++ l ∷ other) (sym head) ∙ sym (append_assoc done (a ∷ []) other) in
-      let rest = meet topic (from + 1) image (done ++ a ∷ []) one other next stand.1 stand'.1 (subst form here is) (subst form here' is')
-      (subst (λ (l : List Link). Ends topic image l) here ends) (subst (λ (l : List Link). Ends topic image l) here' ends') in
+      let rest = meet topic first (from + 1) image (done ++ a ∷ []) one other next stand.1 stand'.1 (subst form here is) (subst form here' is')
+      (subst (λ (l : List Link). Ends topic first image l) here ends) (subst (λ (l : List Link). Ends topic first image l) here' ends') in
       (λ i. head i ∷ rest i)
 
   -- The segments of a topic have one first fault.
-  pub chain_fault_one : (topic : ℕ) (image : Image) (one other : Refusal) → IsChainFault form topic image one → IsChainFault form topic image other → one ≡ other
-  chain_fault_one topic image one other is is' =
-      let same = meet topic 0 image [] is.closed is'.closed refl is.stand is'.stand is.formed is'.formed (fault_ends topic image is.closed one is.fault) (fault_ends topic image is'.closed other is'.fault) in
-      let fault : IsNamedFault (segment_form form is'.closed) (Segment topic (length is'.closed)) (image (Segment topic (length is'.closed))) one =
-      subst (λ (l : List Link). IsNamedFault (segment_form form l) (Segment topic (length l)) (image (Segment topic (length l))) one) same is.fault in
-      let told = fault_one (segment_form form is'.closed) (segment_less is'.closed) (Segment topic (length is'.closed)) (image (Segment topic (length is'.closed))) fault.0 is'.fault.0 fault.1 is'.fault.1 in
-      fault.2 ∙ ap (refusal_of_named (Segment topic (length is'.closed))) told ∙ sym is'.fault.2
+  pub chain_fault_one : (topic first : ℕ) (image : Image) (one other : Refusal) → IsChainFault form topic first image one → IsChainFault form topic first image other → one ≡ other
+  chain_fault_one topic first image one other is is' =
+      let at : first ≡ first + 0 = omega arith in
+      let same = meet topic first first image [] is.closed is'.closed at is.stand is'.stand is.formed is'.formed (fault_ends topic first image is.closed one is.fault) (fault_ends topic first image is'.closed other is'.fault) in
+      let fault : IsNamedFault (segment_form form is'.closed) (Segment topic (first + length is'.closed)) (image (Segment topic (first + length is'.closed))) one =
+      subst (λ (l : List Link). IsNamedFault (segment_form form l) (Segment topic (first + length l)) (image (Segment topic (first + length l))) one) same is.fault in
+      let told = fault_one (segment_form form is'.closed) (segment_less is'.closed) (Segment topic (first + length is'.closed)) (image (Segment topic (first + length is'.closed))) fault.0 is'.fault.0 fault.1 is'.fault.1 in
+      fault.2 ∙ ap (refusal_of_named (Segment topic (first + length is'.closed))) told ∙ sym is'.fault.2
 
   -- A chain of the form has no fault.
-  pub chain_no_fault : (topic : ℕ) (image : Image) (chain : Chain) (refusal : Refusal) → Stands topic image chain → form (links_of chain) → IsChainFault form topic image refusal → ⊥
-  chain_no_fault topic image chain refusal stands formed is =
-      let same = meet topic 0 image [] is.closed chain.closed refl is.stand stands.closed is.formed (before chain.closed chain.last formed) (fault_ends topic image is.closed refusal is.fault) (last_ends topic image chain.closed chain.last stands.last) in
-      let fault : IsNamedFault (segment_form form chain.closed) (Segment topic (length chain.closed)) (image (Segment topic (length chain.closed))) refusal =
-      subst (λ (l : List Link). IsNamedFault (segment_form form l) (Segment topic (length l)) (image (Segment topic (length l))) refusal) same is.fault in
-      log_no_fault (segment_form form chain.closed) (segment_less chain.closed) (record { number = chain.last.number; bodies = batches_of chain.last }) (Segment topic (length chain.closed)) (image (Segment topic (length chain.closed))) fault.0
+  pub chain_no_fault : (topic first : ℕ) (image : Image) (chain : Chain) (refusal : Refusal) → Stands topic first image chain → form (links_of chain) → IsChainFault form topic first image refusal → ⊥
+  chain_no_fault topic first image chain refusal stands formed is =
+      let at : first ≡ first + 0 = omega arith in
+      let same = meet topic first first image [] is.closed chain.closed at is.stand stands.closed is.formed (before chain.closed chain.last formed) (fault_ends topic first image is.closed refusal is.fault) (last_ends topic first image chain.closed chain.last stands.last) in
+      let fault : IsNamedFault (segment_form form chain.closed) (Segment topic (first + length chain.closed)) (image (Segment topic (first + length chain.closed))) refusal =
+      subst (λ (l : List Link). IsNamedFault (segment_form form l) (Segment topic (first + length l)) (image (Segment topic (first + length l))) refusal) same is.fault in
+      log_no_fault (segment_form form chain.closed) (segment_less chain.closed) (record { number = chain.last.number; bodies = batches_of chain.last }) (Segment topic (first + length chain.closed)) (image (Segment topic (first + length chain.closed))) fault.0
       (last_form chain.closed chain.last formed) stands.last fault.1

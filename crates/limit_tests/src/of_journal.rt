@@ -42,12 +42,12 @@ pub(crate) struct JournalLimits {
 /// Tries both, one after another.
 pub(crate) fn limits(alloc: Global) -> Result<JournalLimits, Error> {
     let mut shelf = MemShelf::new(alloc);
-    let mut journal = Journal::create(alloc, &mut shelf, TOPIC, 0)?;
+    let mut journal = Journal::create(alloc, &mut shelf, TOPIC, 0, 0)?;
     let mut body = vec![in alloc; 9u8; MAX_BODY]?;
     let longer = append(&mut journal, &mut shelf, &body)?;
     body.truncate(MAX_BODY - 1);
     let longest = append(&mut journal, &mut shelf, &body)?;
-    let (opened, taken) = Journal::open_with(alloc, &mut shelf, TOPIC, Sizes::new(alloc))?;
+    let (opened, taken) = Journal::open_with(alloc, &mut shelf, TOPIC, 0, Sizes::new(alloc))?;
     // The body stands behind a header, a gate, a length and its kind.
     let last = 22 + (MAX_BODY - 2) as u64;
     let end = opened.read_at(&mut shelf, 0, last, 1)?;

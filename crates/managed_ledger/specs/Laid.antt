@@ -31,7 +31,7 @@ HaveEntries (link ∷ links) (count ∷ counts) = HasEntries link count × HaveE
 -- the segment files of the topic have so many entries each, the oldest first
 pub record IsLaidOut (topic : ℕ) (image : Image) (counts : List ℕ) : Type 0 where
   pub chain : Chain
-  pub segments : chains.Stands topic image chain
+  pub segments : chains.Stands topic 0 image chain
   pub each : HaveEntries (links_of chain) counts
 
 -- each segment but the last has n entries or more
@@ -54,7 +54,7 @@ closed_laid first (i ∷ indexes) (l ∷ links) before last link hold own = (
 pub held_laid : (ledger : ManagedLedger) (image : Image) (entries : Entries) → Holds ledger image entries → IsLaidOut (ledger_topic ledger) image (counts_of ledger)
 held_laid ledger image entries holds = record {
   chain = holds.chain;
-  segments = links.holds_stands ledger.journal image holds.chain holds.journal;
+  segments = subst (λ (first : ℕ). chains.Stands (ledger_topic ledger) first image holds.chain) ledger.from_zero (links.holds_stands ledger.journal image holds.chain holds.journal);
   each = closed_laid 0 ledger.closed.items holds.chain.closed holds.index.before ledger.last holds.chain.last holds.index.closed_hold (record {
     entries = holds.index.own;
     batches = holds.index.last_holds.segment.batches;
@@ -79,10 +79,10 @@ each_one (l ∷ links) (n ∷ one) (m ∷ other) have have' =
 pub laid_one : (topic : ℕ) (image : Image) (one other : List ℕ) → IsLaidOut topic image one → IsLaidOut topic image other → one ≡ other
 laid_one topic image one other is is' =
     each_one (links_of is.chain) one other is.each
-    (subst (λ (c : Chain). HaveEntries (links_of c) other) (sym (links.stands_one topic image is.chain is'.chain is.segments is'.segments)) is'.each)
+    (subst (λ (c : Chain). HaveEntries (links_of c) other) (sym (links.stands_one topic 0 image is.chain is'.chain is.segments is'.segments)) is'.each)
 
 pub laid_local : (topic : ℕ) (a b : Image) (counts : List ℕ) → Agree (SegmentsOf topic) a b → IsLaidOut topic a counts → IsLaidOut topic b counts
-laid_local topic a b counts same is = record { chain = is.chain; segments = links.stands_local topic a b is.chain same is.segments; each = is.each }
+laid_local topic a b counts same is = record { chain = is.chain; segments = links.stands_local topic 0 a b is.chain same is.segments; each = is.each }
 
 full_behind : (n count : ℕ) (counts : List ℕ) → n ≤ count → AreFull n counts → AreFull n (count ∷ counts)
 full_behind n count [] le full = tt

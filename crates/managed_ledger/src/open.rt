@@ -52,7 +52,7 @@ impl ManagedLedger {
             entries: fold,
         };
         let (journal, LedgerFold { index, entries, .. }) = Journal::open_with(
-            alloc, shelf, topic, fold,
+            alloc, shelf, topic, 0, fold,
         )?;
         let Some(LedgerIndex { closed, last, .. }) = index else {
             // A device that isn't honest showed no segment.

@@ -30,6 +30,19 @@ fn roll(journal: &mut Journal, shelf: &mut MemShelf, number: u64) -> Result<(), 
     Ok(())
 }
 
+/// Gives the segments before this one back; false where there is no such segment.
+fn drop_before(journal: &mut Journal, shelf: &mut MemShelf, number: u32) -> Result<bool, Refusal> {
+    let first = u64::from(number);
+    if first < journal.first() {
+        return Ok(false);
+    }
+    if journal.last() < first {
+        return Ok(false);
+    }
+    journal.drop_before(shelf, first)?;
+    Ok(true)
+}
+
 /// The same of bytes of a segment or an entry, which needn't be there.
 pub(crate) fn tell_found(
     alloc: Global,
@@ -52,16 +65,23 @@ impl Journals {
         }
     }
 
-    fn create(&mut self, device: &mut Device, number: u64) -> Result<(), Refusal> {
-        let journal = Journal::create(self.alloc, &mut device.shelf, TOPIC, number)?;
+    fn create(&mut self, device: &mut Device, first: u32, number: u64) -> Result<(), Refusal> {
+        let shelf = &mut device.shelf;
+        let journal = Journal::create(self.alloc, shelf, TOPIC, u64::from(first), number)?;
         self.journal = Some(journal);
         Ok(())
     }
 
-    /// Puts what an opening hands over, or why it is refused.
-    fn open(&mut self, device: &mut Device, said: &mut String) -> Result<(), Error> {
+    /// Puts what an opening from a segment on hands over, or why it is refused.
+    fn open(&mut self, device: &mut Device, first: u32, said: &mut String) -> Result<(), Error> {
         let taken = Taken::new(self.alloc);
-        match Journal::open_with(self.alloc, &mut device.shelf, TOPIC, taken) {
+        match Journal::open_with(
+            self.alloc,
+            &mut device.shelf,
+            TOPIC,
+            u64::from(first),
+            taken,
+        ) {
             Ok((journal, taken)) => {
                 self.journal = Some(journal);
                 said.push_str("ok")?;
@@ -79,7 +99,7 @@ impl Journals {
         said: &mut String,
     ) -> Result<(), Error> {
         let taken = Taken::with_room(self.alloc, most);
-        match Journal::open_with(self.alloc, &mut device.shelf, TOPIC, taken) {
+        match Journal::open_with(self.alloc, &mut device.shelf, TOPIC, 0, taken) {
             Ok(_) => Ok(said.push_str("ok")?),
             Err(Refusal::NoMemory) => Ok(said.push_str("no memory")?),
             Err(refusal) => device.refuse(said, refusal),
@@ -122,6 +142,17 @@ impl Journals {
                 let answered = roll(journal, &mut device.shelf, number.parse()?);
                 device.tell(said, answered)
             }
+            ["drop", number] => {
+                match drop_before(journal, &mut device.shelf, number.parse()?) {
+                    Ok(false) => Ok(said.push_str("none")?),
+                    Ok(true) => device.tell(said, Ok(())),
+                    Err(refusal) => device.tell(said, Err(refusal)),
+                }
+            }
+            ["first"] => {
+                let text = format!(in self.alloc; "{}", journal.first())?;
+                Ok(said.push_str(text.as_str())?)
+            }
             ["read", segment, offset, size] => {
                 let (segment, offset, size) = (segment.parse()?, offset.parse()?, size.parse()?);
                 let found = journal.read_at(&mut device.shelf, segment, offset, size);
@@ -139,10 +170,16 @@ impl Journals {
     ) -> Result<(), Error> {
         match words {
             ["create", number] => {
-                let made = self.create(device, number.parse()?);
+                let made = self.create(device, 0, number.parse()?);
                 device.tell(said, made)
             }
-            ["open"] => self.open(device, said),
+            ["create", number, first] => {
+                let (number, first) = (number.parse()?, first.parse()?);
+                let made = self.create(device, first, number);
+                device.tell(said, made)
+            }
+            ["open"] => self.open(device, 0, said),
+            ["from", first] => self.open(device, first.parse()?, said),
             ["open", most] => self.open_some(device, most.parse()?, said),
             ["state"] => self.state(said),
             _ => self.step_open(device, words, said),

@@ -1,7 +1,6 @@
-use Rattle.std.proofs.Common.{◌≡◌, List, Some, refl, subst, arith}
+use Rattle.std.proofs.Common.{◌≡◌, Some, refl, arith}
 use Rattle.std.specs.List.{slice_get}
 use Rattle.std.proofs.lemmas.Option.{slice_get_read}
-use Rattle.gated_log.specs.declared.log.GatedLog.{GatedLog}
 use Rattle.journal.proofs.Parts.{last_log, closed_log}
 use Rattle.journal.proofs.journal.Journal.log_of.Goals as goal
 
@@ -13,7 +12,6 @@ pub returns-clause-log : goal.returns-clause-log
 returns-clause-log c = λ image chain link holds there.
     let self = c.args.self.now in
     let log = c.in_ok-log.log.now in
-    let found = c.in_ok-log.ensures.lookup in
-    let here : slice_get self.closed.items c.args.segment ≡ Some log =
-    subst (λ (l : List GatedLog). slice_get l c.args.segment ≡ Some log) c.deref.ensures.value (slice_get_read c.deref.result.now _ c.args.segment log refl found.3.0 found.1) in
-    closed_log self.topic 0 image self.closed.items chain.closed chain.last c.args.segment log link holds.closed here there
+    let found = c.in_ok-log.ensures.item in
+    let here : slice_get self.closed.items c.args.segment ≡ Some log = slice_get_read self.closed.items _ c.args.segment log refl found.3.0 found.1 in
+    closed_log self.topic self.first image self.closed.items chain.closed chain.last c.args.segment log link holds.closed here there
