@@ -1,5 +1,5 @@
 -- Records more.
-use Rattle.std.proofs.Common.{◌≡◌, ⊎_elim, inl, inr, ℕ, List, [], ◌∷◌, ◌++◌, refl, ◌∙◌, ap}
+use Rattle.std.proofs.Common.{◌≡◌, ⊎_elim, inl, inr, ℕ, List, [], ◌∷◌, ◌++◌, refl, sym, ◌∙◌, ap}
 use Rattle.std.specs.FinMap as map
 use Rattle.disk.specs.Disk.{Disk, Image}
 use Rattle.disk.specs.Areas.{Within, weaken_within}
@@ -8,6 +8,7 @@ use Rattle.disk.specs.Contents.{Settled, Steady, InDoubt, BeforeOrAfter}
 use Rattle.two_slot.specs.declared.two_slot.TwoSlot.{TwoSlot}
 use Rattle.two_slot.specs.Slots.{SlotsOf, Stands}
 use Rattle.two_slot.specs.TwoSlots.{Holds as SlotsHold, content as slots_content}
+use Rattle.gated_log.specs.Content.{held_content}
 use Rattle.records.specs.declared.record.Record.{Record}
 use Rattle.records.specs.Maps.{Kept}
 use Rattle.records.specs.Records.{AreFormed, after_all}
@@ -52,3 +53,8 @@ pub within : (old : CursorStore) (entries : ℕ) (d0 d1 : Disk) (kept : Kept) (r
     → Within (SlotsOf (topic_of old)) (BeforeOrAfter (Stands (topic_of old)) bodies (bodies ++ body_of records ∷ [])) d0 d1
     → Within (SlotsOf (topic_of old)) (BeforeOrAfter (StandsFor (topic_of old) entries) kept (after_all records kept)) d0 d1
 within old entries d0 d1 kept records bodies formed is w = weaken_within (SlotsOf (topic_of old)) _ _ d0 d1 (λ c which. either (topic_of old) entries c kept records bodies is.means formed which) w
+
+-- a body more is written
+pub one_more : (old new : TwoSlot) (d0 d1 : Disk) (bodies : Bodies) (body : List ℕ) → Settled (SlotsHold old) d0 bodies → Settled (SlotsHold new) d1 (bodies ++ body ∷ []) → slots_content new d1.seen ≡ slots_content old d0.seen ++ body ∷ []
+one_more old new d0 d1 bodies body held grown =
+    held_content new.log d1.seen (bodies ++ body ∷ []) grown.now.log ∙ ap (λ (b : Bodies). b ++ body ∷ []) (sym (held_content old.log d0.seen bodies held.now.log))

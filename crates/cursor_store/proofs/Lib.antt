@@ -1,4 +1,5 @@
 mod Appending
+mod Counting
 mod Replacing
 mod Snapshots
 mod Taking

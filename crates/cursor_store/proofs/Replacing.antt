@@ -16,7 +16,9 @@ use Rattle.records.specs.Maps.{Kept}
 use Rattle.records.specs.Bytes.{Means}
 use Rattle.records.specs.Within.{IsWithin, means_within}
 use Rattle.cursor_store.specs.declared.cursor_store.CursorStore.{CursorStore}
-use Rattle.cursor_store.specs.Cursors.{Holds, StandsFor, written, topic_of, counted, counted_on}
+use Rattle.cursor_store.specs.Cursors.{Holds, StandsFor, written, topic_of, counted}
+use Rattle.cursor_store.specs.Behind.{counted_on, IsNextBase, AreGrown}
+use Rattle.gated_log.specs.Content.{held_content}
 use Rattle.cursor_store.specs.Laws.{settled_in, holds_stand}
 use Rattle.cursor_store.specs.Replaced.{HasReplaced}
 use Rattle.cursor_store.specs.Snapshots.{IsSnapshot, IsSnapshotIf}
@@ -125,3 +127,16 @@ one_due true can kept log appended n is from cannot snapshot = elim (cases_lt n 
 pub next_one : (due : Bool) (old new : CursorStore) (log : PreparedLog) → IsSnapshotIf due old.kept (Some log) → generation_of new.slots ≡ generation_of old.slots + 1 → counted new ≡ 0 → HasReplaced due old new
 next_one true old new log is generation count = record { generation = generation; count = count }
 next_one false old new log is generation count = absurd is
+
+-- ---- what is written
+
+-- where none was prepared, what was there
+pub none_based : (due : Bool) (old : CursorStore) (entries : ℕ) (kept : Kept) (bodies : Bodies) → IsSnapshotIf due old.kept None → IsNextBase due entries kept bodies bodies
+none_based true old entries kept bodies is = absurd is
+none_based false old entries kept bodies is = refl
+
+-- and where one was, the snapshot
+pub one_based : (due : Bool) (old : CursorStore) (new : TwoSlot) (log : PreparedLog) (entries : ℕ) (d : Disk) (kept : Kept) (was anew : Bodies) → IsSnapshotIf due old.kept (Some log) → Means entries map.empty anew kept → Settled (SlotsHold new) d anew
+    → IsNextBase due entries kept was (slots_content new d.seen)
+one_based false old new log entries d kept was anew is means held = absurd is
+one_based true old new log entries d kept was anew is means held = subst (λ (b : Bodies). Means entries map.empty b kept) (sym (held_content new.log d.seen anew held.now.log)) means

@@ -1,5 +1,5 @@
 -- What a store of subscriptions remembers of its slots.
-use Rattle.std.specs.Prelude.{◌≡◌, ℕ, ◌+◌, ◌^◌, Bool, true, false, ◌&&◌, nat_le, nat_lt, min, List, length}
+use Rattle.std.specs.Prelude.{◌≡◌, ℕ, ◌+◌, ◌^◌, Bool, nat_lt, List, length}
 use Rattle.std.specs.FinMap as map
 use Rattle.disk.specs.Disk.{Image}
 use Rattle.gated_log.specs.Batches.{Bodies}
@@ -12,6 +12,7 @@ use Rattle.records.specs.Records.{after_all}
 use Rattle.records.specs.Bytes.{body_of, Means}
 use Rattle.cursor_store.specs.declared.cursor_store.CursorStore.{CursorStore}
 use Rattle.cursor_store.specs.declared.cursor_store.PreparedRecords.{PreparedRecords}
+use Rattle.cursor_store.specs.Behind.{is_due_at}
 use Rattle.cursor_store.specs.Snapshots.{IsSnapshotIf}
 
 -- the topic whose subscriptions it has
@@ -47,9 +48,13 @@ pub record Holds (store : CursorStore) (entries : ℕ) (image : Image) (kept : K
 abbrev pub counted : CursorStore → ℕ
 counted store = store.appended
 
--- an append first replaces the slot that counts: 4,096 were appended, and there is a generation for a replace
+-- there is a generation for a replace
+abbrev pub can_replace : CursorStore → Bool
+can_replace store = nat_lt (generation_of store.slots + 2) (2 ^ 64)
+
+-- an append first replaces the slot that counts: 4,096 were appended, and there is a generation for it
 abbrev pub is_due : CursorStore → Bool
-is_due store = nat_le 4096 store.appended && nat_lt (generation_of store.slots + 2) (2 ^ 64)
+is_due store = is_due_at (counted store) (can_replace store)
 
 -- the batch of these records, how many they are, and what they make of what is kept; and what goes first, where that is due
 pub record IsFor (store : CursorStore) (prepared : PreparedRecords) (records : List Record) : Type 0 where
@@ -57,8 +62,3 @@ pub record IsFor (store : CursorStore) (prepared : PreparedRecords) (records : L
   pub count : prepared.count ≡ length records
   pub kept : prepared.kept ≡ after_all records store.kept
   pub snapshot : IsSnapshotIf (is_due store) store.kept prepared.snapshot
-
--- the count goes on, from the start where a replace went first
-abbrev pub counted_on : Bool → ℕ → ℕ → ℕ
-counted_on true was more = min 4096 more
-counted_on false was more = min 4096 (was + more)

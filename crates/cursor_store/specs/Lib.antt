@@ -1,3 +1,4 @@
+pub mod Behind
 pub mod Cursors
 pub mod Folded
 pub mod Laws

@@ -1,5 +1,5 @@
 // Records are appended.
-ghost use Rattle.std.specs.Prelude.{◌≡◌, ◌+◌, ℕ, List, Bool, true, false, min, length, OnOk, IsErr};
+ghost use Rattle.std.specs.Prelude.{◌≡◌, ◌+◌, ℕ, List, [], ◌∷◌, ◌++◌, Bool, true, false, min, length, OnOk, IsErr};
 ghost use Rattle.disk.specs.Disk.{Kept as Counted, Failed};
 ghost use Rattle.disk.specs.Contents.{Steady, Appends};
 ghost use Rattle.gated_log.specs.Logs.{IsBatchOf};
@@ -8,7 +8,8 @@ ghost use Rattle.records.specs.Maps.{Kept};
 ghost use Rattle.records.specs.Records.{AreFormed, after_all};
 ghost use Rattle.records.specs.Bytes.{body_of};
 ghost use Rattle.two_slot.specs.Slots.{SlotsOf};
-ghost use Rattle.cursor_store.specs.Cursors.{Holds, StandsFor, IsFor, content, written, topic_of, failed, counted, counted_on, is_due};
+ghost use Rattle.cursor_store.specs.Cursors.{Holds, StandsFor, IsFor, content, written, topic_of, failed, counted, is_due};
+ghost use Rattle.cursor_store.specs.Behind.{counted_on, AreGrown};
 
 use crate::replace::REPLACE_AFTER;
 use crate::{CursorStore, PreparedRecords};
@@ -27,6 +28,8 @@ impl CursorStore {
     ) -> Result<(), DeviceError>
         ensures appends { (entries : ℕ) (before : Kept) (records : List Record) → IsBatchOf batch (body_of records) → kept ≡ after_all records (content self.old) → AreFormed entries before records → Steady (Holds self.old entries) (written self.old) (S.disk shelf.old) before →
             Appends result (Steady (Holds self.new entries) (written self.new)) (λ c. content self.new) (SlotsOf (topic_of self.old)) (StandsFor (topic_of self.old) entries) (S.disk shelf.old) (S.disk shelf.new) before (after_all records before) }
+        ensures grows { (entries : ℕ) (before : Kept) (records : List Record) → IsBatchOf batch (body_of records) → Steady (Holds self.old entries) (written self.old) (S.disk shelf.old) before →
+            OnOk result (written self.new (S.disk shelf.new).seen ≡ written self.old (S.disk shelf.old).seen ++ body_of records ∷ []) }
         ensures content { OnOk result (content self.new ≡ kept) }
         ensures count { OnOk result (counted self.new ≡ min 4096 (counted self.old + count)) }
         ensures topic { topic_of self.new ≡ topic_of self.old }
@@ -54,6 +57,8 @@ impl CursorStore {
         // A crash at any moment of the call leaves all the records or none, and other files as they were.
         ensures appends { (entries : ℕ) (kept : Kept) (records : List Record) → IsFor self.old prepared records → AreFormed entries kept records → Steady (Holds self.old entries) (written self.old) (S.disk shelf.old) kept →
             Appends result (Steady (Holds self.new entries) (written self.new)) (λ c. content self.new) (SlotsOf (topic_of self.old)) (StandsFor (topic_of self.old) entries) (S.disk shelf.old) (S.disk shelf.new) kept (after_all records kept) }
+        ensures grows { (entries : ℕ) (kept : Kept) (records : List Record) → IsFor self.old prepared records → Steady (Holds self.old entries) (written self.old) (S.disk shelf.old) kept →
+            OnOk result (AreGrown (is_due self.old) entries kept (written self.old (S.disk shelf.old).seen) (written self.new (S.disk shelf.new).seen) records) }
         ensures content { (records : List Record) → IsFor self.old prepared records → OnOk result (content self.new ≡ after_all records (content self.old)) }
         ensures count { (records : List Record) → IsFor self.old prepared records → OnOk result (counted self.new ≡ counted_on (is_due self.old) (counted self.old) (length records)) }
         ensures topic { topic_of self.new ≡ topic_of self.old }

@@ -8,6 +8,7 @@
 mod append;
 mod cursor_store;
 mod form;
+mod law;
 mod open;
 mod records_fold;
 mod replace;
@@ -17,4 +18,5 @@ mod store;
 mod sub_store;
 
 pub use cursor_store::{CursorStore, PreparedRecords};
+pub use law::few_records_are_behind;
 pub use sub_store::SubStore;

@@ -4,7 +4,7 @@ ghost use Rattle.disk.specs.Disk.{Same, Leaves, Kept as Counted, Failed};
 ghost use Rattle.disk.specs.Areas.{Agree};
 ghost use Rattle.two_slot.specs.Slots.{SlotsOf};
 ghost use Rattle.disk.specs.Contents.{Steady};
-ghost use Rattle.cursor_store.specs.Cursors.{Holds, content, written, topic_of, failed};
+ghost use Rattle.cursor_store.specs.Cursors.{Holds, content, written, topic_of, counted, failed};
 ghost use Rattle.cursor_store.specs.Folded.{IsFault};
 
 use crate::CursorStore;
@@ -30,6 +30,7 @@ impl CursorStore {
         // Or the first fault that stands in the slots is told.
         ensures refused { (S.disk shelf.old).honest → IfErr result (λ e. (e ≡ Refusal.NoMemory) ⊎ ((e ≡ Refusal.Device) ⊎ IsFault topic entries (S.disk shelf.old).seen e)) }
         ensures topic { IfOk result (λ store. topic_of store ≡ topic) }
+        ensures counted { IfOk result (λ store. counted store ≡ 0) }
         ensures works { IfOk result (λ store. failed store ≡ false) }
         ensures cause { IsErrOf result Refusal.Device → Failed (S.disk shelf.old) (S.disk shelf.new) }
 

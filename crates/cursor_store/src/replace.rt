@@ -5,6 +5,7 @@ ghost use Rattle.disk.specs.Contents.{Steady, Appends};
 ghost use Rattle.records.specs.Maps.{Kept};
 ghost use Rattle.two_slot.specs.Slots.{SlotsOf};
 ghost use Rattle.cursor_store.specs.Cursors.{Holds, StandsFor, content, written, topic_of, failed, counted, is_due};
+ghost use Rattle.cursor_store.specs.Behind.{IsNextBase};
 ghost use Rattle.cursor_store.specs.Snapshots.{IsSnapshotIf};
 ghost use Rattle.cursor_store.specs.Replaced.{HasReplaced};
 
@@ -35,6 +36,8 @@ impl CursorStore {
         // What is kept is kept at each moment of the call, and after a failure.
         ensures replaces { (entries : ℕ) (kept : Kept) → IsSnapshotIf (is_due self.old) (content self.old) snapshot → Steady (Holds self.old entries) (written self.old) (S.disk shelf.old) kept →
             Appends result (Steady (Holds self.new entries) (written self.new)) (λ c. content self.new) (SlotsOf (topic_of self.old)) (StandsFor (topic_of self.old) entries) (S.disk shelf.old) (S.disk shelf.new) kept kept }
+        ensures base { (entries : ℕ) (kept : Kept) → IsSnapshotIf (is_due self.old) (content self.old) snapshot → Steady (Holds self.old entries) (written self.old) (S.disk shelf.old) kept →
+            OnOk result (IsNextBase (is_due self.old) entries kept (written self.old (S.disk shelf.old).seen) (written self.new (S.disk shelf.new).seen)) }
         ensures replaced { IsSnapshotIf (is_due self.old) (content self.old) snapshot → OnOk result (HasReplaced (is_due self.old) self.old self.new) }
         ensures content { content self.new ≡ content self.old }
         ensures topic { topic_of self.new ≡ topic_of self.old }

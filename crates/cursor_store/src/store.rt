@@ -11,7 +11,7 @@ use two_slot::TwoSlot;
 
 impl SubStore for CursorStore {
     ghost use Rattle.two_slot.specs.Slots.{SlotsOf};
-    ghost use Rattle.cursor_store.specs.Cursors.{Holds, StandsFor, IsFor, content, written, topic_of, failed};
+    ghost use Rattle.cursor_store.specs.Cursors.{Holds, StandsFor, IsFor, content, written, topic_of, counted, can_replace, failed};
     ghost use Rattle.cursor_store.specs.Folded as folded;
     ghost use Rattle.cursor_store.specs.Laws as law;
 
@@ -30,6 +30,10 @@ impl SubStore for CursorStore {
     ghost content = { content };
 
     ghost written = { written };
+
+    ghost counted = { counted };
+
+    ghost can_replace = { can_replace };
 
     ghost failed = { failed };
 

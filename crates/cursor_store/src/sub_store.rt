@@ -14,6 +14,7 @@ ghost use Rattle.records.specs.Bytes.{body_of};
 ghost use Rattle.gated_log.specs.declared.refusal.Refusal.{Refusal};
 ghost use Rattle.gated_log.specs.Batches.{Bodies};
 ghost use Rattle.two_slot.specs.Slots.{SlotsOf};
+ghost use Rattle.cursor_store.specs.Behind.{is_due_at, counted_on, AreGrown};
 ghost use Rattle.disk.specs.Contents.{Steady, Appends};
 
 use disk::{DeviceError, Shelf};
@@ -49,6 +50,12 @@ pub trait SubStore: Drop {
     /// The bodies of records in its files, as many as it remembers.
     ghost written: { Self → Image → Bodies };
 
+    /// How many records were appended since the store was made, opened or written anew, but no more than 4,096.
+    ghost counted: { Self → ℕ };
+
+    /// What is kept can be written anew once more.
+    ghost can_replace: { Self → Bool };
+
     /// An append failed. It refuses until it is opened again.
     ghost failed: { Self → Bool };
 
@@ -61,6 +68,7 @@ pub trait SubStore: Drop {
         ensures created { (entries : ℕ) → (S.disk shelf.old).honest → IfOk result (λ store. Steady (holds store entries) (written store) (S.disk shelf.new) map.empty) }
         ensures topic { IfOk result (λ store. topic_of store ≡ topic) }
         ensures content { IfOk result (λ store. content store ≡ map.empty) }
+        ensures counted { IfOk result (λ store. counted store ≡ 0) }
         ensures works { IfOk result (λ store. failed store ≡ false) }
         ensures others { (S.disk shelf.old).honest → Within (area topic) (λ c. Unit {0}) (S.disk shelf.old) (S.disk shelf.new) }
         ensures cause { IsErr result → Failed (S.disk shelf.old) (S.disk shelf.new) }
@@ -79,6 +87,7 @@ pub trait SubStore: Drop {
         // Or the first fault that stands in the files is told.
         ensures refused { (S.disk shelf.old).honest → IfErr result (λ e. (e ≡ Refusal.NoMemory) ⊎ ((e ≡ Refusal.Device) ⊎ faulty topic entries (S.disk shelf.old).seen e)) }
         ensures topic { IfOk result (λ store. topic_of store ≡ topic) }
+        ensures counted { IfOk result (λ store. counted store ≡ 0) }
         ensures works { IfOk result (λ store. failed store ≡ false) }
         ensures cause { IsErrOf result Refusal.Device → Failed (S.disk shelf.old) (S.disk shelf.new) }
 
@@ -109,7 +118,7 @@ pub trait SubStore: Drop {
         ensures { IsTrue result ↔ AreFormed entries (content self.now) records.now };
 
     /// Builds what an append of these records writes, and what the store keeps after it; and what is kept before it, where that
-    /// is first written anew. Reaches no device.
+    /// is first written anew: exactly where the count has come to 4,096 and it can be. Reaches no device.
     fn prepare(&mut self, records: &[Record]) -> Result<Self::Prepared, PrepareError>
         requires some { 0 < length records.now }
         requires formed { AreFormed (2 ^ 62) (content self.old) records.now }
@@ -118,6 +127,9 @@ pub trait SubStore: Drop {
         ensures written { (c : Image) → written self.new c ≡ written self.old c }
         ensures content { content self.new ≡ content self.old }
         ensures topic { topic_of self.new ≡ topic_of self.old }
+        // Whatever it answers, the next append goes the way that this one would.
+        ensures counted { counted self.new ≡ counted self.old }
+        ensures can_replace { can_replace self.new ≡ can_replace self.old }
         ensures failed { failed self.new ≡ failed self.old }
         ensures too_large { IsErrOf result PrepareError.TooLarge ↔ (33554432 < length (body_of records.now)) };
 
@@ -133,6 +145,10 @@ pub trait SubStore: Drop {
             Appends result (Steady (holds self.new entries) (written self.new)) (λ c. content self.new) (area (topic_of self.old)) (stands (topic_of self.old) entries) (S.disk shelf.old) (S.disk shelf.new) kept (after_all records kept) }
 
         ensures content { (records : List Record) → is_for self.old prepared records → OnOk result (content self.new ≡ after_all records (content self.old)) }
+        // A body more is written, behind what was there or behind bodies that make what was kept; and its records are counted.
+        ensures grows { (entries : ℕ) (kept : Kept) (records : List Record) → is_for self.old prepared records → Steady (holds self.old entries) (written self.old) (S.disk shelf.old) kept →
+            OnOk result (AreGrown (is_due_at (counted self.old) (can_replace self.old)) entries kept (written self.old (S.disk shelf.old).seen) (written self.new (S.disk shelf.new).seen) records) }
+        ensures counted { (records : List Record) → is_for self.old prepared records → OnOk result (counted self.new ≡ counted_on (is_due_at (counted self.old) (can_replace self.old)) (counted self.old) (length records)) }
         ensures topic { topic_of self.new ≡ topic_of self.old }
         ensures works { OnOk result (failed self.new ≡ false) }
         ensures failed { IsErr result → failed self.new ≡ true }

@@ -2,7 +2,7 @@ use Rattle.std.proofs.Common.{refl}
 use Rattle.disk.specs.Contents.{at_ok, at_err}
 use Rattle.records.specs.Bytes.{body_of}
 use Rattle.cursor_store.specs.Laws.{in_bodies}
-use Rattle.cursor_store.proofs.Appending.{added, in_doubt, within}
+use Rattle.cursor_store.proofs.Appending.{added, in_doubt, within, one_more}
 use Rattle.cursor_store.proofs.cursor_store.CursorStore.append_batch.Goals as goal
 
 pub returns-in_err-append_prepared-clause-appends : goal.returns-in_err-append_prepared-clause-appends
@@ -26,3 +26,12 @@ returns-clause-appends g c = λ entries before records batch kept formed s.
     at_ok
     (added c.args.self.now _ entries d0 d1 before records bodies kept formed is slots.added)
     (within c.args.self.now entries d0 d1 before records bodies formed is slots.within)
+
+pub returns-clause-grows : goal.returns-clause-grows
+returns-clause-grows g c = λ entries before records batch s.
+    let d0 = g.S.Shelf.disk c.args.shelf.now in
+    let d1 = g.S.Shelf.disk c.append_prepared.new.shelf in
+    let bodies = s.settled.now.bodies in
+    let is = in_bodies c.args.self.now entries d0 before s in
+    let slots = c.in_ok-append_prepared.ensures.appends bodies (body_of records) batch is.slots in
+    one_more c.args.self.now.slots _ d0 d1 bodies (body_of records) is.slots slots.added

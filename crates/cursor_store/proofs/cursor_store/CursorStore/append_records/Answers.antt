@@ -49,3 +49,9 @@ pub returns-clause-cause : goal.returns-clause-cause
 returns-clause-cause g c = λ works bad.
     let less = c.append_batch.ensures.cause (c.in_ok-replace_first.ensures.works ∙ works) bad in
     omega (arith, less, c.replace_first.ensures.kept.faults)
+
+pub returns-clause-grows : goal.returns-clause-grows
+returns-clause-grows g c = λ entries kept records is s.
+    let first = c.in_ok-replace_first.ensures.replaces entries kept is.snapshot s in
+    let base = c.in_ok-replace_first.ensures.base entries kept is.snapshot s in
+    on_ok_weaker c.append_batch.result (λ grown. record { base = _; is_base = base; grown = grown }) (c.append_batch.ensures.grows entries kept records is.batch first.added)

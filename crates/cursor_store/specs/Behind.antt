@@ -1,0 +1,40 @@
+-- What stands in the slot that counts: what was there, or a snapshot, and the batches of records that were appended behind it.
+use Rattle.std.specs.Prelude.{◌≡◌, ℕ, ◌+◌, ◌<◌, Bool, true, false, ◌&&◌, nat_le, min, List, [], ◌∷◌, ◌++◌, length, sum_by, map as each}
+use Rattle.std.specs.FinMap as map
+use Rattle.gated_log.specs.Batches.{Bodies}
+use Rattle.records.specs.declared.record.Record.{Record}
+use Rattle.records.specs.Maps.{Kept}
+use Rattle.records.specs.Bytes.{body_of, Means}
+
+-- an append first replaces the slot: so many records were counted, and there is a generation for it
+abbrev pub is_due_at : ℕ → Bool → Bool
+is_due_at count can = nat_le 4096 count && can
+
+-- the count goes on, from the start where a replace went first
+abbrev pub counted_on : Bool → ℕ → ℕ → ℕ
+counted_on true was more = min 4096 more
+counted_on false was more = min 4096 (was + more)
+
+-- a replace puts bodies there that make what is kept from nothing; else nothing changed
+abbrev pub IsNextBase : Bool → ℕ → Kept → Bodies → Bodies → Type 0
+IsNextBase true entries kept old new = Means entries map.empty new kept
+IsNextBase false entries kept old new = new ≡ old
+
+-- the bodies after an append: that of its records behind the old ones, or behind those of a replace
+pub record AreGrown (due : Bool) (entries : ℕ) (kept : Kept) (old new : Bodies) (records : List Record) : Type 0 where
+  pub base : Bodies
+  pub is_base : IsNextBase due entries kept old base
+  pub grown : new ≡ base ++ body_of records ∷ []
+
+-- Behind these bodies, which were found or are a snapshot, stand the batches that were counted, fewer than 4,096 records and those of the last batch.
+pub record AreBehind (base bodies : Bodies) (count last : ℕ) : Type 0 where
+  pub batches : List (List Record)
+  pub are : bodies ≡ base ++ each body_of batches
+  pub counted : count ≡ min 4096 (sum_by length batches)
+  pub few : sum_by length batches < 4096 + last
+
+-- what an append leaves: batches behind the old base, or behind a snapshot
+pub record StayFew (due : Bool) (entries : ℕ) (kept : Kept) (base new : Bodies) (count last : ℕ) : Type 0 where
+  pub next : Bodies
+  pub is_next : IsNextBase due entries kept base next
+  pub behind : AreBehind next new count last
