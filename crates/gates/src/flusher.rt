@@ -1,3 +1,5 @@
+ghost use Rattle.std.specs.Prelude.{◌≡◌};
+
 use bells::Bells;
 use std::sync::Wait;
 use std::sync::atomic::{AtomicBool, Ordering};
@@ -13,7 +15,9 @@ pub struct FlusherGate<'a, R: Wait> {
 
 impl<'a, R: Wait> FlusherGate<'a, R> {
     /// A turnstile of all flushers, which have to be rung once they are told to stop.
-    pub fn new(rt: &'a R, bells: &'a Bells, stop: &'a AtomicBool) -> FlusherGate<'a, R> {
+    pub fn new(rt: &'a R, bells: &'a Bells, stop: &'a AtomicBool) -> FlusherGate<'a, R>
+        ensures { (result.bells ≡ bells.entry) × (result.stop ≡ stop.entry) }
+    {
         FlusherGate { rt, bells, stop }
     }
 }

@@ -1,6 +1,6 @@
 //! What a server's threads wait at. A reader waits while too much of what it was answered stands unwritten, and a writer
 //! until there is something to write; each wakes the other, and each ends the other behind its loop; a flusher waits until its
-//! topic owes somebody a reply. Nothing is proved of them but that their calls are safe.
+//! topic owes somebody a reply. Of them is proved that their calls are safe, and whose bells, place and session each has.
 #![tactic(auto)]
 
 mod flusher;

@@ -1,3 +1,5 @@
+ghost use Rattle.std.specs.Prelude.{◌≡◌};
+
 use bells::Bells;
 use std::net::{Shutdown, TcpStream};
 use workers::Ends;
@@ -13,7 +15,9 @@ pub struct Parting<'a> {
 
 impl<'a> Parting<'a> {
     /// That of the connection at this place, over this socket.
-    pub fn new(bells: &'a Bells, place: u8, socket: &'a TcpStream) -> Parting<'a> {
+    pub fn new(bells: &'a Bells, place: u8, socket: &'a TcpStream) -> Parting<'a>
+        ensures { (result.bells ≡ bells.entry) × (result.place ≡ place) × (result.socket ≡ socket.entry) }
+    {
         Parting {
             bells,
             place,

@@ -1,3 +1,5 @@
+ghost use Rattle.std.specs.Prelude.{◌≡◌};
+
 use bells::Bells;
 use std::sync::atomic::{AtomicU64, Ordering};
 use std::sync::{Mutex, Wait};
@@ -39,7 +41,9 @@ impl<'a, R: Wait> ReaderGate<'a, R> {
         bells: &'a Bells,
         session: &'a Mutex<Numbered>,
         place: u8,
-    ) -> ReaderGate<'a, R> {
+    ) -> ReaderGate<'a, R>
+        ensures { (result.bells ≡ bells.entry) × (result.session ≡ session.entry) × (result.place ≡ place) }
+    {
         ReaderGate {
             rt,
             bells,

@@ -1,3 +1,5 @@
+ghost use Rattle.std.specs.Prelude.{◌≡◌};
+
 use bells::Bells;
 use std::sync::atomic::{AtomicBool, Ordering};
 use std::sync::{Mutex, Wait};
@@ -26,7 +28,9 @@ impl<'a, R: Wait> WriterGate<'a, R> {
         bells: &'a Bells,
         session: &'a Mutex<Numbered>,
         place: u8,
-    ) -> WriterGate<'a, R> {
+    ) -> WriterGate<'a, R>
+        ensures { (result.bells ≡ bells.entry) × (result.session ≡ session.entry) × (result.place ≡ place) }
+    {
         WriterGate {
             rt,
             bells,
