@@ -211,6 +211,10 @@ class Subscription:
     def consumer(self, key):
         return next((consumer for consumer in self.consumers if consumer.key == key), None)
 
+    def permits(self):
+        """How many its consumers have left together, up to what 64 bits hold."""
+        return min(sum(consumer.granted - consumer.sent for consumer in self.consumers), 2**64 - 1)
+
     def acknowledge(self, first, last):
         self.acked.add(first, last)
         for known in (self.holders, self.times):
@@ -283,6 +287,9 @@ class Topic:
                 self.changes.append(f"made {name} {start}")
             self.named(name).attach(mode, Consumer(key, ranges))
         return refusal
+
+    def summaries(self):
+        return "".join(f"{sub.name} {sub.acked} {sub.mode} {len(sub.consumers)} {sub.permits()}, " for sub in self.subs)
 
     def statuses(self):
         return "".join(f"{sub.name} {sub.acked}, " for sub in sorted(self.subs, key=lambda sub: sub.name.encode()))
@@ -389,6 +396,9 @@ class TopicLines:
 
     def statuses(self):
         return self.at.statuses()
+
+    def summaries(self):
+        return self.at.summaries()
 
     def leave(self, session):
         for sub in self.at.subs:
@@ -507,7 +517,7 @@ def action(chance, mode):
 
 def topic_at_random(chance, mode):
     begin = ["topic", f"slots {' '.join(map(str, SLOTS))}", "commit 6", f"subscribe s {mode} 0.2 Earliest {KEYS['0.2']}", "grant 0.2 3"]
-    return ["", *begin, *(action(chance, mode) for _ in range(ACTIONS)), "statuses", "changes"]
+    return ["", *begin, *(action(chance, mode) for _ in range(ACTIONS)), "statuses", "summaries", "changes"]
 
 
 def step(chance):

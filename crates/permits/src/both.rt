@@ -1,5 +1,5 @@
 // The two ends of a permit word in one place.
-ghost use Rattle.std.specs.Prelude.{◌≡◌, ◌≤◌, max, Some, None};
+ghost use Rattle.std.specs.Prelude.{◌≡◌, ◌-◌, ◌≤◌, max, Some, None};
 
 use crate::ends::{Granter, Taker, permits};
 use crate::gauge::{Fresh, Gauge, Grant};
@@ -45,6 +45,10 @@ impl Gauge for BothEnds {
 
     fn count(&self) -> u64 {
         self.taker.count()
+    }
+
+    fn left(&self) -> u64 {
+        self.granter.count() - self.taker.count()
     }
 
     fn learn(&mut self, told: PlainTold) {

@@ -29,6 +29,10 @@ or_else None other = other
 abbrev pub advertised_in : ArgMatches → List ℕ
 advertised_in words = or_else (first_value (found_of words) (codes "advertise")) (address_in words)
 
+-- where `serve` is to show status pages, if it is
+abbrev pub status_in : ArgMatches → Option (List ℕ)
+status_in words = first_value (found_of words) (codes "status")
+
 -- the text that says how many entries a ledger is to have
 abbrev pub entries_in : ArgMatches → Option (List ℕ)
 entries_in words = one_text (found_of words) (codes "entries")

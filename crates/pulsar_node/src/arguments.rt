@@ -1,7 +1,7 @@
 ghost use Rattle.std.specs.Prelude.{◌≡◌, ◌*◌, ℕ, List, ◌⊎◌, option_map, IfSome, IfNone};
 ghost use Rattle.std.specs.Duration.{as_nanos};
 ghost use Rattle.clap.specs.Words.{ReadsOne};
-ghost use Rattle.pulsar_node.specs.Arguments.{file_of, folder_in, address_in, advertised_in, entries_in, silence_in};
+ghost use Rattle.pulsar_node.specs.Arguments.{file_of, folder_in, address_in, advertised_in, status_in, entries_in, silence_in};
 
 use clap::{Arg, ArgMatches, Command, value_parser};
 use log::LevelFilter;
@@ -71,13 +71,18 @@ fn serve_command<'a>(alloc: Global) -> Result<Command<'a>, AllocError> {
         .value_parser(value_parser!(u32).range(0..=86400))
         .default_value("600")
         .help("How long a client may say nothing before it is cut off, 0 to 86400; 0 is for ever");
+    let status = Arg::new(alloc, "status")
+        .long("status")
+        .value_name("ADDR")
+        .help("Where to show status pages over HTTP, as 127.0.0.1:8080; without it nowhere");
     Command::new(alloc, "serve")
         .about("Serves the broker of a folder to clients, until it is killed")
         .arg(address)?
         .arg(folder_argument(alloc))?
         .arg(advertise)?
         .arg(idle)?
-        .arg(log)
+        .arg(log)?
+        .arg(status)
 }
 
 fn inspect_command<'a>(alloc: Global) -> Result<Command<'a>, AllocError> {
@@ -114,6 +119,13 @@ pub(crate) fn advertised_of<'a>(words: &ArgMatches<'a>) -> &'a str
         Some(advertised) => advertised,
         None => address_of(words),
     }
+}
+
+/// Where `serve` is to show status pages, if it is.
+pub(crate) fn status_address_of<'a>(words: &ArgMatches<'a>) -> Option<&'a str>
+    ensures { option_map (λ address. address.now) result ≡ status_in words.now }
+{
+    words.get_str("status")
 }
 
 /// How much the log of `serve` tells.

@@ -11,7 +11,7 @@ mod stamped;
 
 use crate::arguments::{
     address_of, advertised_of, command, entries_per_ledger, folder_of, level_of, longest_silence,
-    script_file,
+    script_file, status_address_of,
 };
 use crate::descriptors::{NULL, StandIns};
 use crate::stamped::Stamped;
@@ -142,13 +142,8 @@ where
     R::Dir: Send + Sync,
 {
     let logged = Logged::new(rt, level_of(words), Stamped(rt));
-    let settings = Settings {
-        address: address_of(words),
-        advertised: advertised_of(words),
-        idle: longest_silence(words),
-    };
-    let served = match server::bind(&logged, rt, settings.address) {
-        Ok(listener) => server::serve(&logged, &listener, folder_of(words), &settings),
+    let served = match bind(rt, &logged, words) {
+        Ok((listener, status)) => serve_at(&logged, words, &listener, status.as_ref()),
         Err(fault) => Err(fault),
     };
     match served {
@@ -160,6 +155,38 @@ where
             server::exit_status(&fault)
         }
     }
+}
+
+// Listens where clients are to be served, and where status pages are to be shown, if they are.
+fn bind<N: Net<Stream = TcpStream, Listener = TcpListener>, R: Log>(
+    net: &N,
+    rt: &R,
+    words: &ArgMatches<'_>,
+) -> Result<(TcpListener, Option<TcpListener>), ServeFault> {
+    let listener = server::bind(rt, net, address_of(words))?;
+    let status = server::bind_status(rt, net, status_address_of(words))?;
+    Ok((listener, status))
+}
+
+// Serves a folder as the command line says, where the addresses are listened at.
+fn serve_at<R>(
+    rt: &R,
+    words: &ArgMatches<'_>,
+    listener: &TcpListener,
+    status: Option<&TcpListener>,
+) -> Result<(), ServeFault>
+where
+    R: AllocGlobal + Print + Clock + Log + Files<File = File> + Threads + Wait + Sync,
+    R: Net<Stream = TcpStream, Listener = TcpListener>,
+    R::Dir: Send + Sync,
+{
+    let settings = Settings {
+        address: address_of(words),
+        advertised: advertised_of(words),
+        idle: longest_silence(words),
+        status,
+    };
+    server::serve(rt, listener, folder_of(words), &settings)
 }
 
 fn inspect<R: AllocGlobal + Print + Eprint + Log + Files<File = File>>(

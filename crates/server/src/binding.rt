@@ -1,4 +1,6 @@
 // Where a server listens.
+ghost use Rattle.std.specs.Prelude.{◌≡◌, Ok, None};
+
 use crate::fault::ServeFault;
 use log::{Log, error};
 use std::net::{Net, TcpListener, TcpStream};
@@ -17,4 +19,19 @@ pub fn bind<N: Net<Stream = TcpStream, Listener = TcpListener>, R: Log>(
             Err(ServeFault::CannotBind)
         }
     }
+}
+
+/// Listens at the address where status pages are to be shown, if they are; as `bind` otherwise.
+pub fn bind_status<N: Net<Stream = TcpStream, Listener = TcpListener>, R: Log>(
+    rt: &R,
+    net: &N,
+    address: Option<&str>,
+) -> Result<Option<TcpListener>, ServeFault>
+    ensures { address.entry ≡ None → result ≡ Ok None }
+{
+    let Some(address) = address else {
+        return Ok(None);
+    };
+    let listener = bind(rt, net, address)?;
+    Ok(Some(listener))
 }

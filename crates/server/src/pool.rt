@@ -1,5 +1,5 @@
 // The places of connections that are free.
-ghost use Rattle.std.specs.Prelude.{◌≡◌, ◌<◌, ◌++◌, [], ◌∷◌, vec_len, vec_capacity, IfSome, IfNone};
+ghost use Rattle.std.specs.Prelude.{◌≡◌, ◌<◌, ◌++◌, [], ◌∷◌, length, vec_len, vec_capacity, IfSome, IfNone};
 
 use std::alloc::{AllocError, Global};
 use topic_lock::{PortShares, Tallies};
@@ -12,6 +12,9 @@ pub struct Free<K: Tallies> {
     pub reader: PortShares<K>,
     pub writer: PortShares<K>,
 }
+
+/// How many connections are served at a time at most. Our own rule.
+pub const MOST_CONNECTIONS: usize = 256;
 
 /// The places that are free. A connection that finds none is closed.
 #[derive(Drop)]
@@ -35,6 +38,13 @@ impl<K: Tallies> Pool<K> {
             })?;
         }
         Ok(Pool { free })
+    }
+
+    /// How many places are free.
+    pub fn count(&self) -> usize
+        ensures { result ≡ length self.now.free.items }
+    {
+        self.free.len()
     }
 
     /// A place that is free, which is then taken. There is room for it to come back.

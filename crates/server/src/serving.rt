@@ -15,8 +15,8 @@ use log::{Log, error, info};
 use std::alloc::{AllocError, Global};
 use std::fs::File;
 use std::marker::Brand;
-use std::net::TcpListener;
-use std::rt::Files;
+use std::net::{Net, TcpListener, TcpStream};
+use std::rt::{Clock, Files};
 use std::sync::atomic::AtomicBool;
 use std::sync::{Mutex, Wait};
 use std::thread::Threads;
@@ -63,7 +63,8 @@ pub fn serve<R>(
     settings: &Settings<'_>,
 ) -> Result<(), ServeFault>
 where
-    R: AllocGlobal + Print + Log + Files<File = File> + Threads + Wait + Sync,
+    R: AllocGlobal + Print + Log + Clock + Files<File = File> + Threads + Wait + Sync,
+    R: Net<Stream = TcpStream, Listener = TcpListener>,
     R::Dir: Send + Sync,
 {
     let folder = Folder::open(rt, folder)?;
@@ -83,7 +84,8 @@ pub fn serve_shelves<F, R>(
 ) -> Result<(), ServeFault>
 where
     F: Shelves,
-    R: AllocGlobal + Print + Log + Threads + Wait + Sync,
+    R: AllocGlobal + Print + Log + Clock + Threads + Wait + Sync,
+    R: Net<Stream = TcpStream, Listener = TcpListener>,
 {
     tell_flaw(rt, settings.advertised);
     let offer = Offer::new(rt.alloc(), settings)?;
@@ -94,14 +96,15 @@ where
 fn serve_counted<K, F, R>(
     rt: &R,
     listener: &TcpListener,
-    offer: Offer,
+    offer: Offer<'_>,
     shelves: &F,
     blanks: Blanks,
 ) -> Result<(), ServeFault>
 where
     K: Tallies + Send + Sync,
     F: Shelves,
-    R: AllocGlobal + Print + Log + Threads + Wait + Sync,
+    R: AllocGlobal + Print + Log + Clock + Threads + Wait + Sync,
+    R: Net<Stream = TcpStream, Listener = TcpListener>,
     requires accepted { IsOf blanks.accepted_topics K.accepted.one 64 × IsOf blanks.accepted_ports K.accepted.other 512 }
     requires handed { IsOf blanks.handed_topics K.handed.one 64 × IsOf blanks.handed_ports K.handed.other 512 }
     requires durable { IsOf blanks.durable_stores K.durable.one 64 × IsOf blanks.durable_topics K.durable.other 192 }
@@ -124,7 +127,7 @@ fn serve_devices<S, K, R>(
     rt: &R,
     alloc: Global,
     listener: &TcpListener,
-    offer: Offer,
+    offer: Offer<'_>,
     devices: Devices<S>,
     topics: Vec<TopicParts<K>>,
     totals: Totals<K>,
@@ -134,10 +137,16 @@ fn serve_devices<S, K, R>(
 where
     S: Shelf + Drop + Send,
     K: Tallies + Send + Sync,
-    R: Print + Log + Threads + Wait + Sync,
+    R: Print + Log + Clock + Threads + Wait + Sync,
+    R: Net<Stream = TcpStream, Listener = TcpListener>,
     requires { (length devices.topics.items ≡ 64) × (length topics.items ≡ 64) }
 {
-    let Offer { address, url, idle } = offer;
+    let Offer {
+        address,
+        url,
+        idle,
+        status,
+    } = offer;
     let pool = Mutex::new(Pool::new(alloc, ports)?);
     let places = empty_places::<FileStores, S, K>(alloc)?;
     let places = places.as_slice();
@@ -151,6 +160,7 @@ where
         flushers: Mutex::new(flushers),
         stop: AtomicBool::new(false),
         idle,
+        status,
         is_told: AtomicBool::new(false),
     };
     serve_hall(rt, alloc, listener, address.as_str(), &hall)
@@ -167,16 +177,28 @@ fn serve_hall<'a, S, K, R>(
 where
     S: Shelf + Drop + Send,
     K: Tallies + Send + Sync,
-    R: Print + Log + Threads + Wait + Sync,
+    R: Print + Log + Clock + Threads + Wait + Sync,
+    R: Net<Stream = TcpStream, Listener = TcpListener>,
 {
     let topics = hall.broker.catalog.lock(rt).topics();
     match listener.local_addr() {
         Ok(bound) => info!(rt; "serving {topics} topics at {bound}"),
         Err(_) => info!(rt; "serving {topics} topics"),
     }
+    if let Some(status) = hall.status {
+        tell_status(rt, status);
+    }
     if let Err(why) = println!(rt; "listening on {address}") {
         error!(rt; "standard output: {why}");
         return Err(ServeFault::Device);
     }
     serve_connections(rt, alloc, listener, hall, u64::MAX)
+}
+
+// Says where status pages are shown.
+fn tell_status<R: Log>(rt: &R, listener: &TcpListener) {
+    match listener.local_addr() {
+        Ok(bound) => info!(rt; "status at http://{bound}/"),
+        Err(why) => info!(rt; "status at an address that isn't told: {why}"),
+    }
 }

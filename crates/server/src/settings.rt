@@ -7,10 +7,11 @@ use crate::advertised::service_url;
 use crate::fault::ServeFault;
 use commands::ReplyText;
 use std::alloc::Global;
+use std::net::TcpListener;
 use std::time::Duration;
 
 /// How a folder is served.
-#[derive(Clone, Copy, Debug)]
+#[derive(Clone, Copy)]
 pub struct Settings<'a> {
     /// Where to listen, as `127.0.0.1:6650`.
     pub address: &'a str,
@@ -18,21 +19,25 @@ pub struct Settings<'a> {
     pub advertised: &'a str,
     /// How long a client may say nothing before its connection is ended; for ever, where that is none.
     pub idle: Option<Duration>,
+    /// Where status pages are shown over HTTP; nowhere, where that is none.
+    pub status: Option<&'a TcpListener>,
 }
 
 /// The same, once it is known how clients find the broker.
 #[derive(Drop)]
-pub(crate) struct Offer {
+pub(crate) struct Offer<'a> {
     pub(crate) address: String,
     pub(crate) url: ReplyText,
     pub(crate) idle: Option<Duration>,
+    pub(crate) status: Option<&'a TcpListener>,
 }
 
-impl Offer {
-    pub(crate) fn new(alloc: Global, settings: &Settings<'_>) -> Result<Offer, ServeFault>
+impl<'a> Offer<'a> {
+    pub(crate) fn new(alloc: Global, settings: &Settings<'a>) -> Result<Offer<'a>, ServeFault>
         ensures address { IfOk result (λ offer. string_bytes offer.address ≡ settings.now.address.now) }
         ensures url { IfOk result (λ offer. offer.url ≡ url_of settings.now.advertised.now) }
         ensures idle { IfOk result (λ offer. offer.idle ≡ settings.now.idle) }
+        ensures status { IfOk result (λ offer. offer.status ≡ settings.now.status) }
     {
         let address = String::from_str(alloc, settings.address)?;
         match service_url(alloc, settings.advertised) {
@@ -40,6 +45,7 @@ impl Offer {
                 address,
                 url,
                 idle: settings.idle,
+                status: settings.status,
             }),
             Err(fault) => {
                 drop(address);

@@ -2,13 +2,15 @@
 use crate::connection::serve_socket;
 use crate::fault::ServeFault;
 use crate::pool::Pool;
+use crate::showing::{show_pages, wake_pages};
 use bells::Bells;
 use disk::Shelf;
 use gates::FlusherGate;
 use log::{Log, error, warn};
 use std::alloc::Global;
 use std::fmt::Display;
-use std::net::TcpListener;
+use std::net::{Net, TcpListener, TcpStream};
+use std::rt::Clock;
 use std::sync::atomic::{AtomicBool, Ordering};
 use std::sync::{Mutex, Wait};
 use std::thread;
@@ -22,7 +24,7 @@ use workers::flush_loop;
 const TOPICS: u64 = 64;
 
 /// How long nobody is let in after an arrival failed, as where too many files are open, in milliseconds.
-const PAUSE: u64 = 100;
+pub(crate) const PAUSE: u64 = 100;
 
 /// What the threads of a server share: the broker, the places for connections, the flushers that have no topic yet, whether
 /// flushers are to stop, and how long a client may say nothing before its connection is ended; for ever, where that is none.
@@ -33,6 +35,8 @@ pub struct Hall<'a, T: TopicStore, S: Shelf + Drop, K: Tallies> {
     pub flushers: Mutex<Vec<Flusher<K>>>,
     pub stop: AtomicBool,
     pub idle: Option<Duration>,
+    /// Where status pages are shown over HTTP; nowhere, where that is none.
+    pub status: Option<&'a TcpListener>,
     /// Whether the log tells that a client isn't served, and none was given a place since.
     pub is_told: AtomicBool,
 }
@@ -49,7 +53,7 @@ where
     T: TopicStore + Send,
     S: Shelf + Drop + Send,
     K: Tallies + Send + Sync,
-    R: Threads + Wait + Log + Sync,
+    R: Threads + Wait + Log + Clock + Net<Stream = TcpStream, Listener = TcpListener> + Sync,
 {
     thread::scope(thread::scope_env(), rt, |scope| {
         let mut is_well = true;
@@ -57,12 +61,23 @@ where
             is_well = is_well && scope.spawn(move || flush(rt, hall, topic)).is_ok();
         }
         is_well = is_well && scope.spawn(move || ring(rt, hall)).is_ok();
+        let status = hall.status;
         if is_well {
+            if let Some(status) = status
+                && scope
+                    .spawn(move || show_pages(rt, alloc, hall, status))
+                    .is_err()
+            {
+                warn!(rt; "no status pages are shown: a thread can't be made");
+            }
             serve_arrivals(rt, alloc, listener, hall, connections);
         }
         hall.stop.store(true, Ordering::SeqCst);
         ring_flushers(&hall.broker.bells);
         hall.broker.bells.wake_ringer();
+        if let Some(status) = status {
+            wake_pages(rt, status);
+        }
         if is_well {
             Ok(())
         } else {

@@ -136,17 +136,15 @@ module _ (t : Subscriptions) (key : ConsumerKey) where
   admits committed i p s at read a = subst (λ (o : Option Subscription). AdmitsAt o key t.slots committed i) (sym (finds (is_on key) t.subs p s at read)) a
 
   -- a mode's answer to a consumer that has a permit
-  pub picks_some : (committed : ℕ) (p : ℕ) (s : Subscription) (slots : List ℕ) (r : Option ℕ) → position (is_on key) t.subs ≡ Some p → s ≡ get_or t.subs p s → slots ≡ t.slots → has_permit (find (is_consumer key) s.consumers) ≡ true
-      → IfSome r (AdmitsBy s.mode key s slots (IsOpenAt committed s.acked s.deliveries)) → IfSome r (Admits t key committed)
-  picks_some committed p s slots (Some i) at read same permit a =
-      admits committed i p s at read (record { permit = permit; served = subst (λ (slots : List ℕ). AdmitsBy s.mode key s slots (IsOpenAt committed s.acked s.deliveries) i) same a })
-  picks_some committed p s slots None at read same permit a = tt
+  pub picks_some : (committed : ℕ) (p : ℕ) (s : Subscription) (r : Option ℕ) → position (is_on key) t.subs ≡ Some p → s ≡ get_or t.subs p s → has_permit (find (is_consumer key) s.consumers) ≡ true
+      → IfSome r (AdmitsBy s.mode key s t.slots (IsOpenAt committed s.acked s.deliveries)) → IfSome r (Admits t key committed)
+  picks_some committed p s (Some i) at read permit a = admits committed i p s at read (record { permit = permit; served = a })
+  picks_some committed p s None at read permit a = tt
 
-  pub picks_none : (committed : ℕ) (p : ℕ) (s : Subscription) (slots : List ℕ) (r : Option ℕ) → position (is_on key) t.subs ≡ Some p → s ≡ get_or t.subs p s → slots ≡ t.slots
-      → IfNone r ((i : ℕ) → AdmitsBy s.mode key s slots (IsOpenAt committed s.acked s.deliveries) i → ⊥) → IfNone r ((i : ℕ) → Admits t key committed i → ⊥)
-  picks_none committed p s slots (Some i) at read same never = tt
-  picks_none committed p s slots None at read same never =
-      λ i a. never i (subst (λ (slots : List ℕ). AdmitsBy s.mode key s slots (IsOpenAt committed s.acked s.deliveries) i) (sym same) (admitted committed i p s at read a).served)
+  pub picks_none : (committed : ℕ) (p : ℕ) (s : Subscription) (r : Option ℕ) → position (is_on key) t.subs ≡ Some p → s ≡ get_or t.subs p s
+      → IfNone r ((i : ℕ) → AdmitsBy s.mode key s t.slots (IsOpenAt committed s.acked s.deliveries) i → ⊥) → IfNone r ((i : ℕ) → Admits t key committed i → ⊥)
+  picks_none committed p s (Some i) at read never = tt
+  picks_none committed p s None at read never = λ i a. never i (admitted committed i p s at read a).served
 
   pub permits_none : (committed i : ℕ) (p : ℕ) (s : Subscription) → position (is_on key) t.subs ≡ Some p → s ≡ get_or t.subs p s → has_permit (find (is_consumer key) s.consumers) ≡ false → Admits t key committed i → ⊥
   permits_none committed i p s at read without a = true≢false (sym (admitted committed i p s at read a).permit ∙ without)

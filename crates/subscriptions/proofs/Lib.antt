@@ -20,3 +20,4 @@ pub mod Forgotten
 pub mod Learning
 pub mod Looking
 pub mod Granted
+pub mod Summed

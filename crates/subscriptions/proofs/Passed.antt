@@ -119,16 +119,14 @@ hint_by slots key s committed None fits some none = record {
 }
 
 -- what a mode by slots answers is a hint
-pub hint_picked : (known : List ℕ) (key : ConsumerKey) (s : Subscription) (slots : List ℕ) (committed : ℕ) (r : Option ℕ) → slots ≡ known → committed ≤ length known → is_key_shared s.mode ≡ true
+pub hint_picked : (slots : List ℕ) (key : ConsumerKey) (s : Subscription) (committed : ℕ) (r : Option ℕ) → committed ≤ length slots → is_key_shared s.mode ≡ true
     → IfSome r (AdmitsBy s.mode key s slots (IsOpenAt committed s.acked s.deliveries)) → IfNone r ((i : ℕ) → AdmitsBy s.mode key s slots (IsOpenAt committed s.acked s.deliveries) i → ⊥)
-    → IsHint known s (record { key = key; below = unwrap_or r committed })
-hint_picked known key s slots committed r same fits by_slots some none =
+    → IsHint slots s (record { key = key; below = unwrap_or r committed })
+hint_picked slots key s committed r fits by_slots some none =
     let mode = is_mode s.mode by_slots in
-    hint_by known key s committed r fits
-    (subst (λ (m : Mode). IfSome r (AdmitsBy m key s known (IsOpenAt committed s.acked s.deliveries))) mode
-    (subst (λ (slots : List ℕ). IfSome r (AdmitsBy s.mode key s slots (IsOpenAt committed s.acked s.deliveries))) same some))
-    (subst (λ (m : Mode). IfNone r ((i : ℕ) → AdmitsBy m key s known (IsOpenAt committed s.acked s.deliveries) i → ⊥)) mode
-    (subst (λ (slots : List ℕ). IfNone r ((i : ℕ) → AdmitsBy s.mode key s slots (IsOpenAt committed s.acked s.deliveries) i → ⊥)) same none))
+    hint_by slots key s committed r fits
+    (subst (λ (m : Mode). IfSome r (AdmitsBy m key s slots (IsOpenAt committed s.acked s.deliveries))) mode some)
+    (subst (λ (m : Mode). IfNone r ((i : ℕ) → AdmitsBy m key s slots (IsOpenAt committed s.acked s.deliveries) i → ⊥)) mode none)
 
 -- ---- the hints stay where each consumer's open positions stay or are fewer
 

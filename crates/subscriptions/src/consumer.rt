@@ -1,4 +1,4 @@
-ghost use Rattle.std.specs.Prelude.{◌≡◌, ◌^◌, ◌≤◌, ◌<◌, ℕ, OnOk, OnErr, Some, true, false, max};
+ghost use Rattle.std.specs.Prelude.{◌≡◌, ◌-◌, ◌^◌, ◌≤◌, ◌<◌, ℕ, OnOk, OnErr, Some, true, false, max};
 ghost use Rattle.subscriptions.specs.Quiet.{has_permit_of};
 ghost use Rattle.subscriptions.specs.Steps.{IsLearnt, IsLooked, granted_to, is_past, learnt_to, learnt_of, sent_one, has_permit};
 
@@ -65,6 +65,13 @@ impl<G: Gauge> Consumer<G> {
         ensures { result ≡ self.now.key }
     {
         self.key
+    }
+
+    /// How many permits it has left, as far as is known.
+    pub(crate) fn left(&self) -> u64
+        ensures { result ≡ self.now.granted - self.now.sent }
+    {
+        self.gauge.left()
     }
 
     /// Looks whether it has a permit left.

@@ -10,6 +10,7 @@ mod consumer;
 mod consumers;
 mod directory;
 mod dispatch;
+mod hash_slots;
 mod hint;
 mod hints;
 mod initial_position;
@@ -19,13 +20,16 @@ mod quiet;
 mod status;
 mod statuses;
 mod subscription;
+mod summary;
 mod table;
 
 pub use consumer::{Mode, Refusal};
+pub use hash_slots::HashSlots;
 pub use initial_position::InitialPosition;
 pub use laws::{
     counts_are_forgotten, deliveries_are_committed, learning_admits, picked_is_open, stays_sound,
     subscriptions_are_kept,
 };
 pub use status::SubscriptionStatus;
+pub use summary::SubscriptionSummary;
 pub use table::Subscriptions;

@@ -1,3 +1,5 @@
+mod summary;
+
 ghost use Rattle.std.specs.Prelude.{◌≡◌, ◌+◌, ◌^◌, ◌<◌, ◌≤◌, ◌++◌, ◌∷◌, [], ℕ, All, IfOk, IfNone, IfSome, MatchResult, OnOk, OnErr, Some, None, true, false, ◌&&◌, filter, length, nat_eq, not, nat_lt, position, cond, map as each};
 ghost use Rattle.std.specs.Option.{option_map, option_copied};
 ghost use Rattle.std.specs.List.{find, list_any};
@@ -16,6 +18,7 @@ use crate::backlog::Backlog;
 use crate::consumer::{Consumer, Mode, Refusal};
 use crate::consumers::Consumers;
 use crate::dispatch::Dispatch;
+use crate::hash_slots::HashSlots;
 use crate::progress::{Progress, lowered};
 use crate::status::SubscriptionStatus;
 use cursor::Cursor;
@@ -211,7 +214,7 @@ impl<G: Gauge> Subscription<G> {
     pub(crate) fn pick(
         &mut self,
         key: ConsumerKey,
-        slots: &[u16],
+        slots: &HashSlots,
         committed: u64,
         from: u64,
     ) -> Option<u64>

@@ -1,3 +1,5 @@
+mod summary;
+
 ghost use Rattle.std.specs.Prelude.{◌≡◌, ◌+◌, ◌^◌, ◌<◌, ◌≤◌, ◌++◌, ◌∷◌, [], ℕ, List, All, IfOk, IfNone, IfSome, OnOk, OnErr, Some, None, true, false, drop, take, length, nat_le, position, vec_len, vec_capacity, map as each};
 ghost use Rattle.std.specs.List.{AllByRecursion, AllZip, IsDistinct, find};
 ghost use Rattle.std.specs.Str.{bytes_eq};
@@ -12,6 +14,7 @@ ghost use Rattle.holds.specs.declared.consumer.ConsumerKey.{ConsumerKey as Key};
 
 use crate::consumer::{Mode, Refusal};
 use crate::directory::Directory;
+use crate::hash_slots::HashSlots;
 use crate::hint::Hint;
 use crate::hints::Hints;
 use crate::initial_position::InitialPosition;
@@ -43,7 +46,7 @@ pub struct Subscriptions<G: Gauge> {
     alloc: Global,
     subs: Vec<Subscription<G>>,
     changes: Vec<Record>,
-    slots: Vec<u16>,
+    slots: HashSlots,
     hints: Vec<Hints>,
     directory: Directory,
     quiet: Quiet,
@@ -64,9 +67,9 @@ impl<G: Gauge> Model for Subscriptions<G> {
     ghost use Rattle.subscriptions.specs.Directory.{ArePlaces};
     ghost use Rattle.subscriptions.specs.Quiet.{AreQuiet};
 
-    ghost view = { λ t. record { subs = t.subs.items; changes = t.changes.items; slots = t.slots.items } };
+    ghost view = { λ t. record { subs = t.subs.items; changes = t.changes.items; slots = t.slots } };
 
-    ghost invariant = { λ t. HasLimits (record { subs = t.subs.items; changes = t.changes.items; slots = t.slots.items }) × AreHints (record { subs = t.subs.items; changes = t.changes.items; slots = t.slots.items }) t.hints.items × ArePlaces t.subs.items t.directory × AreQuiet t.subs.items t.quiet };
+    ghost invariant = { λ t. HasLimits (record { subs = t.subs.items; changes = t.changes.items; slots = t.slots }) × AreHints (record { subs = t.subs.items; changes = t.changes.items; slots = t.slots }) t.hints.items × ArePlaces t.subs.items t.directory × AreQuiet t.subs.items t.quiet };
 }
 
 impl<G: Gauge> Subscriptions<G> {
@@ -78,7 +81,7 @@ impl<G: Gauge> Subscriptions<G> {
             alloc,
             subs: Vec::new(alloc),
             changes: Vec::new(alloc),
-            slots: Vec::new(alloc),
+            slots: HashSlots::new(alloc),
             hints: Vec::new(alloc),
             directory: Directory::new(alloc),
             quiet: Quiet::new(),
@@ -89,11 +92,11 @@ impl<G: Gauge> Subscriptions<G> {
     pub fn opened(
         alloc: Global,
         kept: Vec<KeptCursor>,
-        slots: Vec<u16>,
+        slots: HashSlots,
     ) -> Result<Subscriptions<G>, AllocError>
         requires few { length kept.items ≤ 64 }
         requires distinct { IsDistinct bytes_eq (each (λ (c : KeptCursor). c.name) kept.items) }
-        ensures { IfOk result (λ t. t ≡ slotted (opened_all (each (λ (c : KeptCursor). (c.name, c.acked)) kept.items)) slots.items) }
+        ensures { IfOk result (λ t. t ≡ slotted (opened_all (each (λ (c : KeptCursor). (c.name, c.acked)) kept.items)) slots) }
     {
         let hints = without_hints(alloc, kept.len())?;
         Ok(Subscriptions {
@@ -374,7 +377,7 @@ impl<G: Gauge> Subscriptions<G> {
         let sub = &mut self.subs[place];
         let hints = &self.hints[place];
         let from = hints.beginning(key);
-        let picked = sub.pick(key, self.slots.as_slice(), committed, from);
+        let picked = sub.pick(key, &self.slots, committed, from);
         if sub.is_key_shared() {
             let below = picked.unwrap_or(committed);
             let hints = &mut self.hints[place];

@@ -1,9 +1,9 @@
 // What a topic tells of its changes and of its subscriptions.
-use anyhow::Error;
+use anyhow::{Error, bail};
 use permits::Gauge;
 use records::Record;
 use std::alloc::{AllocError, Global};
-use subscriptions::{SubscriptionStatus, Subscriptions};
+use subscriptions::{SubscriptionStatus, SubscriptionSummary, Subscriptions};
 
 fn change(alloc: Global, change: &Record) -> Result<String, AllocError> {
     match change {
@@ -40,6 +40,35 @@ pub(crate) fn statuses<G: Gauge>(alloc: Global, subs: &Subscriptions<G>) -> Resu
     let mut said = String::new(alloc);
     for one in &subs.statuses()? {
         said.push_str(status(alloc, one)?.as_str())?;
+    }
+    Ok(said)
+}
+
+fn summary(alloc: Global, summary: &SubscriptionSummary) -> Result<String, AllocError> {
+    let SubscriptionSummary {
+        status,
+        mode,
+        consumers,
+        permits,
+    } = summary;
+    let name = status.name.as_str();
+    format!(in alloc;
+        "{name} {} {} {mode:?} {consumers} {permits}, ",
+        status.mark_delete, status.ranges
+    )
+}
+
+/// The summary of the subscription at each place. Behind the last one none is told.
+pub(crate) fn summaries<G: Gauge>(alloc: Global, subs: &Subscriptions<G>) -> Result<String, Error> {
+    let mut said = String::new(alloc);
+    for place in 0..subs.len() {
+        let Some(one) = subs.summary(place)? else {
+            bail!("no subscription at {place}");
+        };
+        said.push_str(summary(alloc, &one)?.as_str())?;
+    }
+    if subs.summary(subs.len())?.is_some() {
+        bail!("a subscription behind the last one");
     }
     Ok(said)
 }

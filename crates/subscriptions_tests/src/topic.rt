@@ -149,6 +149,7 @@ pub(crate) fn answer(topic: &mut Topic, word: &str, asked: &str) -> Result<Strin
         "changes" => told::changes(topic.alloc, &topic.subs),
         "count" => Ok(format!(in topic.alloc; "{}", topic.subs.changes().len())?),
         "statuses" => told::statuses(topic.alloc, &topic.subs),
+        "summaries" => told::summaries(topic.alloc, &topic.subs),
         _ => consumers::answer(topic, word, asked),
     }
 }

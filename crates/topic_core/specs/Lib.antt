@@ -10,3 +10,5 @@ pub mod Flush
 pub mod Crashes
 pub mod Standing
 pub mod Laws
+pub mod Summaries
+pub mod Activity

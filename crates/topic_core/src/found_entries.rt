@@ -7,16 +7,17 @@ use crate::slots::slot_of_meta;
 use commands::MessageMeta;
 use managed_ledger::EntryFold;
 use std::alloc::AllocError;
+use subscriptions::HashSlots;
 
 /// What takes the entries of an opening: it keeps the slot of each, and for proofs the entries.
 #[derive(Drop)]
 pub(crate) struct FoundEntries {
-    pub(crate) slots: Vec<u16>,
+    pub(crate) slots: HashSlots,
     pub(crate) durable: Durable,
 }
 
 impl EntryFold for FoundEntries {
-    ghost holds = { λ found entries. (found.durable.ledger ≡ entries) × (found.slots.items ≡ map slot_of_entry entries) };
+    ghost holds = { λ found entries. (found.durable.ledger ≡ entries) × (found.slots ≡ map slot_of_entry entries) };
 
     fn entry(&mut self, entry: &[u8], metadata: &MessageMeta) -> Result<(), AllocError> {
         self.slots.push(slot_of_meta(metadata))?;

@@ -7,6 +7,7 @@
 //! changes, its entries, or nothing of it; a failure of the device fails the topic until it is opened again.
 #![tactic(auto)]
 
+mod activity;
 mod closing;
 mod command;
 mod consuming;
@@ -26,9 +27,11 @@ mod read_at;
 mod recent;
 mod redelivering;
 mod slots;
+mod summary;
 mod topic;
 mod unsubscribing;
 
+pub use activity::Activity;
 pub use command::{Answer, PlainEntry, Send, SentEntry, Subscribe, TopicCommand};
 pub use dispatch::{AtHand, Outgoing};
 pub use laws::{
@@ -39,5 +42,6 @@ pub use laws::{
 pub use permits::TooManyPermits;
 pub use producer::{Producer, ProducerState};
 pub use read_at::ReadAt;
+pub use summary::TopicSummary;
 pub use topic::TopicCore;
 pub use topic_stores::{Batch, FileStores, ReadError, TopicStore, TopicStores, WriteError};

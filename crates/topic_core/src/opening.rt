@@ -22,7 +22,7 @@ use gated_log::Refusal;
 use permits::Gauge;
 use reply_queues::ReplyQueues;
 use std::alloc::Global;
-use subscriptions::Subscriptions;
+use subscriptions::{HashSlots, Subscriptions};
 use topic_stores::TopicStore;
 
 impl<G: Gauge> TopicCore<G> {
@@ -182,7 +182,7 @@ fn open_stores<G: Gauge, T: TopicStore, S: Shelf>(
     ensures kept { Counted (S.disk shelf.old) (S.disk shelf.new) }
 {
     let entries = FoundEntries {
-        slots: Vec::new(alloc),
+        slots: HashSlots::new(alloc),
         durable: Durable::none(),
     };
     let (stores, entries) = T::open(alloc, shelf, topic, per_ledger, entries)?;

@@ -1,5 +1,5 @@
 // The producers of a topic, with what is looked for among them counted.
-ghost use Rattle.std.specs.Prelude.{◌≡◌, [], ◌∷◌, ◌++◌, OnOk, OnErr, filter, map, not, nat_eq};
+ghost use Rattle.std.specs.Prelude.{◌≡◌, [], ◌∷◌, ◌++◌, OnOk, OnErr, filter, length, map, not, nat_eq};
 ghost use Rattle.std.specs.List.{list_any, list_all};
 ghost use Rattle.topic_core.specs.declared.producer.ProducerState.TheVariants.{Open};
 ghost use Rattle.topic_core.specs.Steps.{is_producer, is_open_producer, is_open, is_handed_on, closed_at};
@@ -42,6 +42,13 @@ impl Producers {
             list: Vec::new(alloc),
             counts: ProducerCounts::new(alloc),
         }
+    }
+
+    /// How many there are, open or closing.
+    pub(crate) fn len(&self) -> usize
+        ensures { result ≡ length self.now }
+    {
+        self.list.len()
     }
 
     /// Whether the session has this producer, open or closing.

@@ -6,6 +6,7 @@ mod failures;
 mod gauges;
 mod granters;
 mod recent;
+mod summaries;
 
 ghost use Rattle.std.specs.Prelude.{IfOk};
 ghost use Rattle.topic_core_tests.specs.Matching.{AreMatched};

@@ -11,3 +11,5 @@ pub mod Finding
 pub mod Opening
 pub mod Places
 pub mod Portions
+pub mod Summaries
+pub mod Activity

@@ -2,8 +2,9 @@
 pub(crate) mod flushing;
 pub(crate) mod reading;
 mod reopening;
+mod summary;
 
-ghost use Rattle.std.specs.Prelude.{◌≡◌, ◌+◌, ◌<◌, ◌≤◌, ℕ, false, true, length, Ok};
+ghost use Rattle.std.specs.Prelude.{◌≡◌, ◌+◌, ◌-◌, ◌<◌, ◌≤◌, ℕ, false, true, length, Ok};
 ghost use Rattle.subscriptions.specs.Steps.{IsLooked};
 ghost use Rattle.topic_core.specs.State.{CountsStay};
 ghost use Rattle.topic_core.specs.Steps.{TopicStep, LentBy, Collects, has_room, Fits, key_of, left, learnt, HasLearnt, has_producer, has_consumer};
@@ -12,6 +13,8 @@ ghost use Rattle.topic_core.specs.Soundness.{IsSound};
 ghost use Rattle.topic_core.specs.Standing.{GoesOn};
 ghost use Rattle.session.specs.declared.told.Member.TheVariants.{Producer as IsProducer, Consumer as IsConsumer};
 ghost use Rattle.topic_lock.specs.Hearing.{put_off};
+ghost use Rattle.topic_core.specs.Activity.{none_so_far, with_changes};
+ghost use Rattle.topic_lock.specs.Activity.{is_ack};
 ghost use Rattle.topic_lock.specs.Counting.{sends_of, receipts_collected, is_send, is_later};
 ghost use Rattle.reply_queues.specs.Replies.{is_receipt};
 
@@ -27,7 +30,7 @@ use std::snapshot::Snapshot;
 use std::sync::ledger::Share;
 use std::sync::{Mutex, Wait};
 use topic_core::{
-    Answer, Outgoing, ReadError, TopicCommand, TopicCore, commands_hand_out_nothing,
+    Activity, Answer, Outgoing, ReadError, TopicCommand, TopicCore, commands_hand_out_nothing,
     entries_are_published,
 };
 
@@ -140,6 +143,7 @@ pub struct CountedTopic<K: Tallies> {
     committed: Share<DurableByTopics<K>>,
     behind: Share<DurableByTopics<K>>,
     left: u64,
+    activity: Activity,
     pub(crate) waiting: Waiting,
     ghost accepted_counted: { (accepted.amount ≡ core.accepted) × (accepted.parts ≡ 1) },
     ghost handed_counted: { (handed.amount ≡ core.handed) × (handed.parts ≡ 1) },
@@ -156,7 +160,7 @@ impl<K: Tallies> CountedTopic<K> {
         requires handed { shares.handed.amount ≡ core.handed }
         requires committed { shares.committed.amount ≡ core.committed }
         requires behind { shares.behind.amount ≡ 0 }
-        ensures { (result.core ≡ core) × (result.number ≡ number) }
+        ensures { (result.core ≡ core) × (result.number ≡ number) × (result.activity ≡ none_so_far) }
     {
         let TopicShares {
             accepted,
@@ -172,6 +176,7 @@ impl<K: Tallies> CountedTopic<K> {
             committed,
             behind,
             left: 0,
+            activity: Activity::new(),
             waiting: Waiting::new(),
         }
     }
@@ -243,6 +248,7 @@ impl<K: Tallies> CountedTopic<K> {
         ensures number { self.new.number ≡ self.old.number }
         ensures counted { port.new.amount ≡ port.old.amount + sends_of command result.said }
         ensures parts { port.new.parts ≡ port.old.parts }
+        ensures activity { self.new.activity ≡ with_changes (is_ack command) (length self.new.core.subs.changes - length self.old.core.subs.changes) self.old.activity }
     {
         entries_are_published();
         commands_hand_out_nothing();
@@ -251,10 +257,13 @@ impl<K: Tallies> CountedTopic<K> {
             core,
             number,
             accepted,
+            activity,
             ..
         } = self;
-        let is_send = is_send(&command);
+        let (is_send, is_ack) = (is_send(&command), is_ack(&command));
+        let before = core.changes();
         let answer = core.command(who, command, granter);
+        activity.work(is_ack, before, core.changes());
         if is_send && is_later(&answer) {
             tally.lock(rt).count(accepted, port);
         }
@@ -276,6 +285,7 @@ impl<K: Tallies> CountedTopic<K> {
         ensures number { self.new.number ≡ self.old.number }
         ensures counted { port.new.amount ≡ port.old.amount + receipts_collected result.said }
         ensures parts { port.new.parts ≡ port.old.parts }
+        ensures activity { self.new.activity ≡ self.old.activity }
     {
         let number = self.number;
         let said = self.take_reply(rt, tally, port, who);
@@ -295,6 +305,7 @@ impl<K: Tallies> CountedTopic<K> {
         ensures number { self.new.number ≡ self.old.number }
         ensures counted { port.new.amount ≡ port.old.amount + receipts_collected result }
         ensures parts { port.new.parts ≡ port.old.parts }
+        ensures activity { self.new.activity ≡ self.old.activity }
     {
         let CountedTopic { core, handed, .. } = self;
         let reply = core.collect(who)?;
@@ -311,6 +322,7 @@ impl<K: Tallies> CountedTopic<K> {
         ensures goes_on { GoesOn self.old.core self.new.core }
         ensures number { self.new.number ≡ self.old.number }
         ensures counts { CountsStay self.old.core self.new.core }
+        ensures activity { self.new.activity ≡ self.old.activity }
     {
         let CountedTopic { core, number, .. } = self;
         core.look(who, consumer_id);
@@ -325,6 +337,7 @@ impl<K: Tallies> CountedTopic<K> {
         ensures goes_on { GoesOn self.old.core self.new.core }
         ensures number { self.new.number ≡ self.old.number }
         ensures counts { CountsStay self.old.core self.new.core }
+        ensures activity { self.new.activity ≡ self.old.activity }
     {
         let CountedTopic { core, number, .. } = self;
         let said = core.is_quiet(who);
@@ -337,6 +350,7 @@ impl<K: Tallies> CountedTopic<K> {
         ensures step { self.new.core ≡ left self.old.core who }
         ensures goes_on { GoesOn self.old.core self.new.core }
         ensures number { self.new.number ≡ self.old.number }
+        ensures activity { self.new.activity ≡ self.old.activity }
     {
         let CountedTopic { core, number, .. } = self;
         core.leave(who);
@@ -370,6 +384,12 @@ fn is_send(command: &TopicCommand) -> bool
     ensures { result ≡ is_send command.now }
 {
     matches!(command, TopicCommand::Send(_))
+}
+
+fn is_ack(command: &TopicCommand) -> bool
+    ensures { result ≡ is_ack command.now }
+{
+    matches!(command, TopicCommand::Ack(_))
 }
 
 fn is_later(answer: &Answer) -> bool

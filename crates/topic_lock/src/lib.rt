@@ -25,6 +25,7 @@ mod places;
 mod portion;
 mod resting;
 mod stores;
+mod summary;
 mod tally;
 mod troubles;
 mod turning;

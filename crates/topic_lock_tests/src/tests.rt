@@ -1,6 +1,7 @@
 // Each test ends by itself, whatever the schedule: whoever waits does so for so many turns at most.
 mod held;
 mod limits;
+mod summaries;
 mod talk;
 
 ghost use Rattle.std.specs.Prelude.{◌≡◌, IfOk, length};

@@ -12,6 +12,7 @@ use std::alloc::{AllocError, Global};
 use std::io::{Read, Write};
 use std::marker::Brand;
 use std::net::{Net, SocketAddr, TcpListener, TcpStream};
+use std::rt::Clock;
 use std::sync::atomic::AtomicBool;
 use std::sync::{Mutex, Wait};
 use std::test::Fail;
@@ -171,7 +172,7 @@ fn serve_a_visit<'a, K, R>(
 ) -> Option<Seen>
 where
     K: Tallies + Send + Sync,
-    R: Threads + Wait + Log + Sync + Net<Stream = TcpStream, Listener = TcpListener>,
+    R: Threads + Wait + Log + Clock + Sync + Net<Stream = TcpStream, Listener = TcpListener>,
 {
     let listener = TcpListener::bind(rt, "127.0.0.1:0").ok()?;
     let address = listener.local_addr().ok()?;
@@ -193,7 +194,7 @@ fn run_at<K, R>(
 ) -> Result<Option<Seen>, Refusal>
 where
     K: Tallies + Send + Sync,
-    R: Threads + Wait + Log + Sync + Net<Stream = TcpStream, Listener = TcpListener>,
+    R: Threads + Wait + Log + Clock + Sync + Net<Stream = TcpStream, Listener = TcpListener>,
     requires { (length places.now ≡ 64) × (length ledgers.topics.items ≡ 64) }
 {
     let Ledgers {
@@ -222,6 +223,7 @@ where
         flushers: Mutex::new(flushers),
         stop: AtomicBool::new(false),
         idle: None,
+        status: None,
         is_told: AtomicBool::new(false),
     };
     let seen = serve_a_visit(rt, alloc, &hall);
@@ -233,7 +235,7 @@ where
 fn run<K, R>(rt: &R, alloc: Global, blanks: Blanks) -> Result<Option<Seen>, Refusal>
 where
     K: Tallies + Send + Sync,
-    R: Threads + Wait + Log + Sync + Net<Stream = TcpStream, Listener = TcpListener>,
+    R: Threads + Wait + Log + Clock + Sync + Net<Stream = TcpStream, Listener = TcpListener>,
     requires accepted { IsOf blanks.accepted_topics K.accepted.one 64 × IsOf blanks.accepted_ports K.accepted.other 2 }
     requires handed { IsOf blanks.handed_topics K.handed.one 64 × IsOf blanks.handed_ports K.handed.other 2 }
     requires durable { IsOf blanks.durable_stores K.durable.one 64 × IsOf blanks.durable_topics K.durable.other 192 }

@@ -124,6 +124,10 @@ impl<'a> Gauge for Watched<'a> {
         self.permits.count()
     }
 
+    fn left(&self) -> u64 {
+        self.permits.left()
+    }
+
     fn learn(&mut self, told: PlainTold) {
         self.permits.learn(told);
     }

@@ -1,5 +1,5 @@
 // A flush in three parts, each under one lock: a topic's batch is taken, written to its stores, and ended in the topic.
-ghost use Rattle.std.specs.Prelude.{◌≡◌, ◌⊎◌, ◌+◌, ◌<◌, ◌≤◌, ◌^◌, ◌++◌, true, false, length, Ok, Err, IfOk, IfErr, IfSome, OnOk, IsErr, IsErrOf};
+ghost use Rattle.std.specs.Prelude.{◌≡◌, ◌⊎◌, ◌+◌, ◌-◌, ◌<◌, ◌≤◌, ◌^◌, ◌++◌, true, false, length, Ok, Err, IfOk, IfErr, IfSome, OnOk, IsErr, IsErrOf, is_ok};
 ghost use Rattle.disk.specs.Disk.{Kept, Failed};
 ghost use Rattle.disk.specs.Areas.{OfTopic, Within};
 ghost use Rattle.managed_ledger.specs.Entries.{Entries};
@@ -9,6 +9,8 @@ ghost use Rattle.topic_stores.specs.Views.{Settled};
 ghost use Rattle.topic_stores.specs.Writing.{IsLeft, StandsFor};
 ghost use Rattle.topic_core.specs.Flush.{TakeStep, awaits};
 ghost use Rattle.topic_core.specs.Standing.{IsFor};
+ghost use Rattle.topic_core.specs.State.{waiting_bytes};
+ghost use Rattle.topic_core.specs.Activity.{with_flush};
 ghost use Rattle.topic_lock.specs.declared.fault.FlushFault.TheVariants.{Device, NoMemory, Apart};
 ghost use Rattle.topic_lock.specs.Ends.{end_of, fault_of, may_have_added};
 ghost use Rattle.topic_lock.specs.Flushing.{FinishStep, Writes, told_of, taken_of, IfNothing, IfBatch};
@@ -94,6 +96,7 @@ impl<K: Tallies> CountedTopic<K> {
         ensures nothing { IfNothing result (λ flushed. IfOk flushed.count (λ n. n ≡ 0)) }
         ensures topic { IfBatch result (λ taken. taken.topic ≡ self.old.number) }
         ensures number { self.new.number ≡ self.old.number }
+        ensures activity { self.new.activity ≡ self.old.activity }
     {
         let CountedTopic { core, number, .. } = self;
         let topic = *number;
@@ -115,6 +118,8 @@ impl<K: Tallies> CountedTopic<K> {
         ensures step { IfOk result (λ ended. (awaits self.old.core written.batch ≡ true) × FinishStep self.old.core written.end ended.1.count self.new.core) }
         ensures other { IfErr result (λ same. (awaits self.old.core written.batch ≡ false) × (same.batch ≡ written.batch) × (same.end ≡ written.end) × (same.added ≡ written.added) × (self.new.core ≡ self.old.core)) }
         ensures number { self.new.number ≡ self.old.number }
+        ensures activity { IfOk result (λ ended. self.new.activity ≡ with_flush (is_ok ended.1.count) (waiting_bytes self.old.core - waiting_bytes self.new.core) self.old.activity) }
+        ensures unawaited { IfErr result (λ _. self.new.activity ≡ self.old.activity) }
     {
         let Written {
             batch,
@@ -135,8 +140,10 @@ impl<K: Tallies> CountedTopic<K> {
             committed,
             behind,
             left,
+            activity,
             ..
         } = self;
+        let before = core.summary().waiting_bytes;
         let ended = core.finish(batch, end_of(end));
         match end {
             Ok(()) => share.transfer(committed, added),
@@ -147,6 +154,7 @@ impl<K: Tallies> CountedTopic<K> {
             }
         }
         let count = told(end, ended);
+        activity.flush(count.is_ok(), before, core.summary().waiting_bytes);
         Ok((Flusher { share }, Flushed { count }))
     }
 }

@@ -9,6 +9,8 @@ ghost use Rattle.topic_core.specs.Dispatch.{IsReadOf};
 ghost use Rattle.topic_core.specs.Standing.{GoesOn, Phase, Standing};
 ghost use Rattle.session.specs.Broker.{SendsTo};
 ghost use Rattle.topic_lock.specs.declared.counted.reading.Next.TheVariants.{Unread};
+ghost use Rattle.topic_core.specs.Activity.{with_message};
+ghost use Rattle.topic_lock.specs.Activity.{gives, is_message};
 ghost use Rattle.topic_lock.specs.Hearing.{IfHeard, NextStep, own_read, next_of};
 
 use crate::counted::{CountedTopic, Heard, Sent};
@@ -66,17 +68,26 @@ impl<K: Tallies> CountedTopic<K> {
         ensures counts { CountsStay self.old.core self.new.core }
         ensures refused { IfHeard result (λ heard. IsErr heard.said → IsLearnt (learnt self.old.core who consumer_id) self.new.core) }
         ensures works { IfHeard result (λ heard. IsErr heard.said → self.old.core.failed ≡ false) }
+        ensures activity { self.new.activity ≡ with_message (is_message result) self.old.activity }
     {
-        let CountedTopic { core, number, .. } = self;
+        let CountedTopic {
+            core,
+            number,
+            activity,
+            ..
+        } = self;
         let topic = *number;
         let at_hand = core.dispatch_at_hand(who, consumer_id, own_read(topic, read));
         match sent_of(at_hand) {
-            Ok(said) => Next::Heard(Heard {
-                topic,
-                who,
-                asked: Snapshot::of(&consumer_id),
-                said,
-            }),
+            Ok(said) => {
+                activity.give(is_message(&said));
+                Next::Heard(Heard {
+                    topic,
+                    who,
+                    asked: Snapshot::of(&consumer_id),
+                    said,
+                })
+            }
             Err(position) => Next::Unread(position),
         }
     }
@@ -102,4 +113,11 @@ fn sent_of(at_hand: Result<AtHand, ReadError>) -> Result<Sent, u64>
         Ok(AtHand::Unread(position)) => Err(position),
         Err(why) => Ok(Err(why)),
     }
+}
+
+/// Whether a message is told.
+fn is_message(said: &Sent) -> bool
+    ensures { result ≡ gives said.now }
+{
+    matches!(said, Ok(Some(_)))
 }

@@ -41,6 +41,7 @@ impl<K: Tallies> CountedTopic<K> {
         ensures works { self.old.core.failed ≡ false → self.new.core ≡ self.old.core }
         ensures refused { IsErr result → (self.new.core ≡ self.old.core) × (stores.new.stores ≡ stores.old.stores) }
         ensures counts { CountsStay self.old.core self.new.core }
+        ensures activity { self.new.activity ≡ self.old.activity }
         ensures cause { IsErrOf result Device → Failed (S.disk stores.old.shelf) (S.disk stores.new.shelf) }
         ensures any_moment { (S.disk stores.old.shelf).honest → Leaves (S.disk stores.old.shelf).may_leave (S.disk stores.old.shelf) (S.disk stores.new.shelf) }
         ensures kept { Kept (S.disk stores.old.shelf) (S.disk stores.new.shelf) }

@@ -23,6 +23,9 @@ pub const RECEIPT: &[u8] =
 /// One message more for consumer 2.
 pub const FLOW: &[u8] = b"\0\0\0\x0c\0\0\0\x08\x08\x0b\x5a\x04\x08\x02\x10\x01";
 
+/// Of the first entry, by consumer 2, which asks for no answer.
+pub const ACK: &[u8] = b"\0\0\0\x12\0\0\0\x0e\x08\x0a\x52\x0a\x08\x02\x10\0\x1a\x04\x08\0\x10\0";
+
 /// The first entry, for consumer 2.
 pub const FIRST_MESSAGE: &[u8] =
     b"\0\0\0\x1e\0\0\0\x0c\x08\x09\x4a\x08\x08\x02\x12\x04\x08\0\x10\0\0\0\0\x0a\x0a\x01p\x10\0\x18\x01\xc0>\x05";

@@ -13,7 +13,7 @@ opened-requires-clause-distinct g c = distinct_cursors c.in_ok-cursors.cursors.i
 pub returns-clause-added : goal.returns-clause-added
 returns-clause-added g c =
     let kept = (g.T.TopicStore.view c.in_ok-stores.stores).kept in
-    let taken = c.in_ok-stores.ensures.opened (c.none.ensures.0, c.new.ensures.items) in
+    let taken = c.in_ok-stores.ensures.opened (c.none.ensures.0, c.new.ensures) in
     let ledger : c.of-durable.result.ledger ≡ taken.0 = c.of-durable.ensures.0 ∙ taken.3.0 in
     let slots = taken.3.1 ∙ ap (λ (l : List (List ℕ)). each slot_of_entry l) (sym ledger) in (
       ap (λ (l : List (List ℕ)). length l) ledger ∙ taken.2,

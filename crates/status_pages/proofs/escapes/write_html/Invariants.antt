@@ -1,0 +1,8 @@
+use Rattle.std.proofs.Common.{take}
+use Rattle.std.specs.Io.KnownBytes.{Appends}
+use Rattle.status_pages.specs.Escapes.{html_text}
+use Rattle.status_pages.proofs.escapes.write_html.Given as goal
+
+-- the first bytes are written
+abbrev pub invariant-loop-byte : goal.invariant-loop-byte
+invariant-loop-byte g l = Appends (g.W.Write.contents l.fn.writer) (g.W.Write.contents l.writer) (html_text (take l.byte-index l.bytes))

@@ -1,0 +1,3 @@
+mod board;
+mod exchanges;
+mod pages;
