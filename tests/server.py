@@ -2,6 +2,7 @@
 import fcntl
 import os
 import re
+import secrets
 import selectors
 import signal
 import socket
@@ -9,6 +10,7 @@ import subprocess
 import tempfile
 from contextlib import suppress
 
+PORTS = range(20_000, 32_000)  # below those that a client gets of the system, which would take one that is looked up and not yet bound
 SECONDS = 60  # until the program must have answered or ended; a machine that does other things too needs some
 THREADS = 66  # of a broker at rest: a flusher for each of 64 topics, the ringer, and the one that takes connections
 TOPIC_LINE = re.compile(r"T +(\d+) +(\d+) +(\d+) (\S+)")
@@ -21,9 +23,12 @@ class Wrong(Exception):
 
 
 def free_port():
-    with socket.socket() as it:
-        it.bind(("127.0.0.1", 0))
-        return it.getsockname()[1]
+    """A port that nobody has, and that the system gives no client meanwhile."""
+    while True:
+        port = secrets.choice(PORTS)
+        with socket.socket() as it, suppress(OSError):
+            it.bind(("127.0.0.1", port))
+            return port
 
 
 def told_holder(folder, process):
