@@ -2,7 +2,7 @@
 use Rattle.std.specs.Prelude.{◌≡◌, ◌⊎◌, ℕ, List, Some, length, slice_get}
 use Rattle.disk.specs.Disk.{Image}
 use Rattle.gated_log.specs.declared.refusal.Refusal.{Refusal}
-use Rattle.managed_ledger.specs.Entries.{Entries}
+use Rattle.managed_ledger.specs.Entries.{Ledger}
 use Rattle.records.specs.Maps.{Kept}
 use Rattle.node.specs.State.{State}
 use Rattle.node.specs.Driving.{StatusIn}
@@ -22,16 +22,16 @@ pub record AreTold (state : State) (statuses : List TopicStatus) : Type 0 where
   pub each : AreOf state statuses
 
 -- the topics are told of the node that the files stand for
-abbrev pub AreFound : (ℕ → Image → Entries → Kept → Type 0) → Image → List TopicStatus → Type 0
+abbrev pub AreFound : (ℕ → Image → Ledger → Kept → Type 0) → Image → List TopicStatus → Type 0
 AreFound files_stand files statuses = (state : State) × IsJustOpened files_stand files state × AreTold state statuses
 
 -- the first fault that stands in the files
-abbrev pub IsFoundFault : (ℕ → Image → Entries → Kept → Type 0) → (ℕ → Image → Refusal → Type 0) → Image → FolderFault → Type 0
+abbrev pub IsFoundFault : (ℕ → Image → Ledger → Kept → Type 0) → (ℕ → Image → Refusal → Type 0) → Image → FolderFault → Type 0
 IsFoundFault files_stand faulty files (Refused why) = IsFirstFault files_stand faulty files why
 IsFoundFault files_stand faulty files AlreadyInitialised = ⊥
 IsFoundFault files_stand faulty files HoldsTopics = ⊥
 IsFoundFault files_stand faulty files InUse = ⊥
 
 -- memory was refused, or the device failed, or that
-abbrev pub IsFaultOfLooking : (ℕ → Image → Entries → Kept → Type 0) → (ℕ → Image → Refusal → Type 0) → Image → FolderFault → Type 0
+abbrev pub IsFaultOfLooking : (ℕ → Image → Ledger → Kept → Type 0) → (ℕ → Image → Refusal → Type 0) → Image → FolderFault → Type 0
 IsFaultOfLooking files_stand faulty files fault = IsOutage fault ⊎ IsFoundFault files_stand faulty files fault

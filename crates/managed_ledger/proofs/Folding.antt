@@ -1,23 +1,20 @@
 -- A ledger's segments are read one after another.
-use Rattle.std.proofs.Common.{◌≡◌, ◌≢◌, ◌⊎◌, inl, inr, ⊎_elim, ℕ, ◌+◌, ◌<◌, ◌≤◌, ◌^◌, List, [], ◌∷◌, ◌++◌, length, refl, sym, ap, subst, arith, length-append, None, Some, Result, Ok, Err}
-use Rattle.std.specs.Result.{IfOk, IfErr, IsErrOf}
-use Rattle.disk.specs.Disk.{Disk, Image, Failed}
-use Rattle.gated_log.specs.declared.refusal.Refusal.{Refusal}
-use Rattle.gated_log.specs.declared.refusal.Refusal.TheVariants.{NoMemory, Device}
+use Rattle.std.proofs.Common.{◌≡◌, ◌≢◌, ℕ, ◌+◌, ◌≤◌, ◌^◌, List, [], ◌∷◌, ◌++◌, length, refl, sym, ap, subst, arith, length-append, None, Some}
+use Rattle.disk.specs.Disk.{Disk}
 use Rattle.gated_log.specs.Folds as folds
 use Rattle.journal.specs.Chains.{Link, Chain, links_of, grown, rolled, begun}
 use Rattle.journal.specs.Journals as journals
 use Rattle.managed_ledger.specs.declared.ledger_index.LedgerIndex.{LedgerIndex}
 use Rattle.managed_ledger.specs.declared.managed_ledger.ManagedLedger.{ManagedLedger}
 use Rattle.managed_ledger.specs.declared.segment_index.SegmentIndex.{SegmentIndex}
-use Rattle.managed_ledger.specs.Entries.{Entries, AreSegments, Stands}
+use Rattle.managed_ledger.specs.Entries.{Entries, whole, end_of, AreSegments}
 use Rattle.managed_ledger.specs.Bodies.{IsBody}
 use Rattle.managed_ledger.specs.Ledgers.{IndexHolds, Holds, counts_of}
 use Rattle.managed_ledger.specs.One.{segments_one}
 use Rattle.managed_ledger.specs.Segments.{index_total}
 use Rattle.managed_ledger.specs.Shape.{total}
 use Rattle.disk.specs.Contents.{Settled}
-use Rattle.managed_ledger.specs.Folded.{AreLedger, IsFault, HasRead, ReadsBody, ReadsSegment, position, counted, last_of, less_of, chain_segments, indexed_ledger, ledger_no_fault}
+use Rattle.managed_ledger.specs.Folded.{AreLedger, HasRead, ReadsBody, ReadsSegment, position, counted, last_of, less_of, chain_segments, indexed_ledger}
 use Rattle.managed_ledger.proofs.Indexing.{begun_indexed}
 
 snoc_one : (xs ys : List Link) (x y : Link) → xs ++ x ∷ [] ≡ ys ++ y ∷ [] → (xs ≡ ys) × (x ≡ y)
@@ -35,7 +32,7 @@ snoc_one (a ∷ xs) (b ∷ ys) x y same =
 module _ (held : Entries → Type 0) where
   -- the entries that were read
   read_entries : (index : LedgerIndex) (links : List Link) → (read : HasRead held (Some index) links) → AreSegments 0 links read.2.entries
-  read_entries index links read = subst (λ (l : List Link). AreSegments 0 l read.2.entries) (sym read.1) (chain_segments read.0 read.2.entries (indexed_ledger index read.0 read.2))
+  read_entries index links read = subst (λ (l : List Link). AreSegments 0 l read.2.entries) (sym read.1) (chain_segments read.0 (whole read.2.entries) (indexed_ledger index read.0 read.2))
 
   -- the first segment
   pub begins_first : (index : LedgerIndex) (links : List Link) (number : ℕ) → HasRead held None links → number ≡ 0 → index.closed.items ≡ [] → index.last.first ≡ 0 → index.last.places.items ≡ [] → index.end ≡ 16 → HasRead held (Some index) (links ++ folds.begun number ∷ [])
@@ -74,20 +71,20 @@ module _ (held : Entries → Type 0) where
 
   -- the ledger that was opened
   pub opened_ledger : (ledger : ManagedLedger) (index : LedgerIndex) (first disk : Disk) (chain : Chain) → (first.honest → journals.Settled ledger.journal disk chain) → HasRead held (Some index) (links_of chain) → ledger.closed.items ≡ index.closed.items → ledger.last ≡ index.last
-      → (entries : Entries) × (first.honest → Settled (Holds ledger) disk entries) × (length entries ≡ total (counts_of ledger)) × held entries
+      → (entries : Entries) × (first.honest → Settled (Holds ledger) disk (whole entries)) × (length entries ≡ total (counts_of ledger)) × held entries
   opened_ledger ledger index first disk chain settled read closed last =
       let both = snoc_one chain.closed read.0.closed chain.last read.0.last read.1 in
       let same : read.0 ≡ chain = (λ i. record { closed = (sym both.0) i; last = (sym both.1) i }) in
       let so = read.2 in
-      let holds : IndexHolds ledger.closed.items ledger.last chain so.entries =
-      subst (λ (c : Chain). IndexHolds ledger.closed.items ledger.last c so.entries) same
-      (subst (λ (l : List SegmentIndex). IndexHolds l ledger.last read.0 so.entries) (sym closed) (subst (λ (s : SegmentIndex). IndexHolds index.closed.items s read.0 so.entries) (sym last) so.holds)) in
-      let few : length so.entries ≤ 2 ^ 62 = omega (arith, index.few, counted index read.0 so) in
-      let all : first.honest → Settled (Holds ledger) disk so.entries = λ h.
+      let holds : IndexHolds ledger.closed.items ledger.last chain (whole so.entries) =
+      subst (λ (c : Chain). IndexHolds ledger.closed.items ledger.last c (whole so.entries)) same
+      (subst (λ (l : List SegmentIndex). IndexHolds l ledger.last read.0 (whole so.entries)) (sym closed) (subst (λ (s : SegmentIndex). IndexHolds index.closed.items s read.0 (whole so.entries)) (sym last) so.holds)) in
+      let few : end_of (whole so.entries) ≤ 2 ^ 62 = omega (arith, index.few, counted index read.0 so) in
+      let all : first.honest → Settled (Holds ledger) disk (whole so.entries) = λ h.
       let there = settled h in
       record {
         honest = there.honest;
         now = record { chain = chain; journal = there.now; index = holds; few = few };
         left = λ c may. record { chain = chain; journal = there.left c may; index = holds; few = few };
       } in
-      (so.entries, all, sym (index_total ledger.closed.items ledger.last chain so.entries holds), read.3)
+      (so.entries, all, sym (index_total ledger.closed.items ledger.last chain (whole so.entries) holds), read.3)

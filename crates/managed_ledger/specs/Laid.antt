@@ -1,5 +1,5 @@
 -- How the entries of a topic are laid out in its segments.
-use Rattle.std.proofs.Common.{◌≡◌, ℕ, ◌+◌, ◌<◌, ◌≤◌, List, [], ◌∷◌, ◌++◌, length, refl, sym, ◌∙◌, ap, subst, if◌then◌else◌, true, false, Bool}
+use Rattle.std.proofs.Common.{◌≡◌, ℕ, ◌+◌, ◌≤◌, List, [], ◌∷◌, ◌++◌, length, refl, sym, ◌∙◌, ap, subst, if◌then◌else◌, true, false, Bool}
 use Rattle.std.specs.Prelude.{nat_le}
 use Rattle.std.proofs.lemmas.Bool.{leb-true}
 use Rattle.disk.specs.Disk.{Image}
@@ -9,7 +9,7 @@ use Rattle.journal.specs.Chains as chains
 use Rattle.journal.specs.Links as links
 use Rattle.managed_ledger.specs.declared.segment_index.SegmentIndex.{SegmentIndex}
 use Rattle.managed_ledger.specs.declared.managed_ledger.ManagedLedger.{ManagedLedger}
-use Rattle.managed_ledger.specs.Entries.{Entries, AreBatches, body_of}
+use Rattle.managed_ledger.specs.Entries.{Entries, Ledger, AreBatches, body_of}
 use Rattle.managed_ledger.specs.Shape.{sizes_of, counts_after}
 use Rattle.managed_ledger.specs.Ledgers.{Holds, ClosedHold, ledger_topic, counts_of}
 use Rattle.managed_ledger.specs.One.{entries_one, batches_joined}
@@ -51,11 +51,11 @@ closed_laid first (i ∷ indexes) (l ∷ links) before last link hold own = (
 )
 
 -- a ledger counts its segments as they are laid out
-pub held_laid : (ledger : ManagedLedger) (image : Image) (entries : Entries) → Holds ledger image entries → IsLaidOut (ledger_topic ledger) image (counts_of ledger)
-held_laid ledger image entries holds = record {
+pub held_laid : (ledger : ManagedLedger) (image : Image) (l : Ledger) → Holds ledger image l → IsLaidOut (ledger_topic ledger) image (counts_of ledger)
+held_laid ledger image l holds = record {
   chain = holds.chain;
   segments = subst (λ (first : ℕ). chains.Stands (ledger_topic ledger) first image holds.chain) ledger.from_zero (links.holds_stands ledger.journal image holds.chain holds.journal);
-  each = closed_laid 0 ledger.closed.items holds.chain.closed holds.index.before ledger.last holds.chain.last holds.index.closed_hold (record {
+  each = closed_laid l.base ledger.closed.items holds.chain.closed holds.index.before ledger.last holds.chain.last holds.index.closed_hold (record {
     entries = holds.index.own;
     batches = holds.index.last_holds.segment.batches;
     counted = sym (found_length holds.index.last_holds);

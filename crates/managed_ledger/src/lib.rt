@@ -26,6 +26,9 @@ mod segment_index;
 
 pub use entry_fold::EntryFold;
 pub use entry_store::EntryStore;
-pub use law::{closed_segments_are_full, ledgers_have_no_fault, ledgers_have_one_fault};
+pub use law::{
+    closed_segments_are_full, ledgers_have_no_fault, ledgers_have_one_fault, publishings_join,
+    trimmed_entries_alone_are_gone,
+};
 pub use managed_ledger::ManagedLedger;
 pub use prepared::PreparedEntries;

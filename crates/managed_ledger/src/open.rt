@@ -3,7 +3,7 @@ ghost use Rattle.std.specs.Prelude.{◌≡◌, ◌⊎◌, [], false, length, IfO
 ghost use Rattle.disk.specs.Disk.{Same, Leaves, Kept, Failed};
 ghost use Rattle.disk.specs.Areas.{Agree};
 ghost use Rattle.journal.specs.Chains.{SegmentsOf};
-ghost use Rattle.managed_ledger.specs.Entries.{Entries};
+ghost use Rattle.managed_ledger.specs.Entries.{Entries, whole};
 ghost use Rattle.managed_ledger.specs.Folded.{IsFault};
 ghost use Rattle.managed_ledger.specs.Ledgers.{Holds, counts_of, ledger_topic, failed};
 ghost use Rattle.managed_ledger.specs.Shape.{total};
@@ -31,7 +31,7 @@ impl ManagedLedger {
     ) -> Result<(ManagedLedger, E), Refusal>
         // The ledger has the entries that the fold has taken; where the device isn't honest it has taken as many.
         ensures opened { E.holds fold [] →
-            IfOk result (λ opened. (entries : Entries) × ((S.disk shelf.old).honest → Settled (Holds opened.0) (S.disk shelf.new) entries) × (length entries ≡ total (counts_of opened.0)) × E.holds opened.1 entries) }
+            IfOk result (λ opened. (entries : Entries) × ((S.disk shelf.old).honest → Settled (Holds opened.0) (S.disk shelf.new) (whole entries)) × (length entries ≡ total (counts_of opened.0)) × E.holds opened.1 entries) }
         // Or the first fault that stands in the segments is told.
         ensures refused { (S.disk shelf.old).honest → E.holds fold [] → IfErr result (λ e. (e ≡ Refusal.NoMemory) ⊎ ((e ≡ Refusal.Device) ⊎ IsFault topic (S.disk shelf.old).seen e)) }
         ensures topic { IfOk result (λ opened. ledger_topic opened.0 ≡ topic) }

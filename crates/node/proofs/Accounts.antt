@@ -1,6 +1,7 @@
 -- Each life of a node accounts for what its sessions were told.
-use Rattle.std.proofs.Common.{◌≡◌, ℕ, ◌<◌, ◌+◌, ◌≤◌, false, Option, List, length, map, refl, sym, subst}
+use Rattle.std.proofs.Common.{◌≡◌, ℕ, ◌<◌, ◌+◌, ◌≤◌, false, Option, List, map, refl, sym, subst}
 use Rattle.std.specs.List.{AllByRecursion}
+use Rattle.managed_ledger.specs.Entries.{end_of}
 use Rattle.topic_core.specs.State.{Topic, receipts_due}
 use Rattle.topic_core.specs.Soundness.{IsSoundTopic}
 use Rattle.session.specs.Broker.{Broker, fresh, topic_at}
@@ -36,7 +37,7 @@ account t told u course sound quiet = record {
   sound = moves_sound t course.moves u course.steps sound;
   published = moves_publish t course.moves u course.steps quiet;
   covered = λ (none : AllByRecursion (λ move. is_crash move ≡ false) course.moves).
-      subst (λ (hs : List Handed). receipts_told hs + receipts_due u.queues ≤ length u.ledger) (sym course.tells) (moves_covered t course.moves u course.steps none sound);
+      subst (λ (hs : List Handed). receipts_told hs + receipts_due u.queues ≤ end_of u.ledger) (sym course.tells) (moves_covered t course.moves u course.steps none sound);
   found = subst (λ (hs : List Handed). FindsEach (sends_by t course.moves u course.steps) u.ledger hs) (sym course.tells) (moves_found t course.moves u course.steps quiet);
   word = word_kept t course.moves u course.steps quiet sound;
   delivered = subst (λ (hs : List Handed). DeliversEach t course.moves u.ledger hs) (sym course.tells) (moves_delivered t course.moves u course.steps quiet);

@@ -4,10 +4,10 @@ use Rattle.std.proofs.lemmas.List.{length-append, length-map}
 use Rattle.std.proofs.lemmas.Option.{none-some}
 use Rattle.disk.specs.Disk.{Disk, Image, Same, Leaves, Kept as Counted}
 use Rattle.disk.specs.Moments.{starts, joins}
-use Rattle.managed_ledger.specs.Entries.{Entries}
+use Rattle.managed_ledger.specs.Entries.{Ledger, end_of}
 use Rattle.records.specs.Maps.{Kept}
 use Rattle.topic_stores.specs.declared.store.TopicStore.{Ghosts as StoreMembers}
-use Rattle.topic_core.specs.Slots.{slot_of_entry}
+use Rattle.topic_core.specs.Slots.{slots_of}
 use Rattle.topic_core.specs.State.{Topic, opened}
 use Rattle.catalog.specs.Names.{Names}
 use Rattle.catalog.specs.Catalogs.{StandsFor as NamesStand, Holds as NamesHeld, remembered, per_ledger}
@@ -51,8 +51,8 @@ going_first {store = store} per_ledger d held none = record {
 module _ {T : Type 0} {store : StoreMembers T} (per_ledger : ℕ) (first now next : Disk) (held : List (Held T store)) (number : ℕ) (g : Going {store = store} per_ledger first now held number)
     (seen : now.honest → Same now.seen next.seen) (moments : now.honest → Leaves now.may_leave now next) (kept : Counted now next) where
   -- one more
-  pub going_more : (h : Held T store) (held' : List (Held T store)) → held' ≡ held ++ h ∷ [] → IsNumbered per_ledger number h → (now.honest → HeldStands h next) → (now.honest → store.stands number now.seen h.core.ledger h.core.kept) → length h.core.ledger ≤ 2 ^ 62
-      → h.core ≡ opened per_ledger h.core.ledger (map slot_of_entry h.core.ledger) h.core.kept → h.flight ≡ None → Going {store = store} per_ledger first next held' (number + 1)
+  pub going_more : (h : Held T store) (held' : List (Held T store)) → held' ≡ held ++ h ∷ [] → IsNumbered per_ledger number h → (now.honest → HeldStands h next) → (now.honest → store.stands number now.seen h.core.ledger h.core.kept) → end_of h.core.ledger ≤ 2 ^ 62
+      → h.core ≡ opened per_ledger h.core.ledger (slots_of h.core.ledger) h.core.kept → h.flight ≡ None → Going {store = store} per_ledger first next held' (number + 1)
   going_more h held' items numbered stands found few is rests =
       let P : (ℕ → Held T store → Type 0) → Type 0 = λ Q. (j : ℕ) (x : Held T store) → slice_get held' j ≡ Some x → Q j x in
       let both : (Q : ℕ → Held T store → Type 0) → Q number h → ((j : ℕ) (x : Held T store) → slice_get held j ≡ Some x → Q j x) → P Q = λ Q here others j x at. ⊎_elim
@@ -86,7 +86,7 @@ topic_fault {store = store} per_ledger first now held number g honest faulty cou
 }
 
 -- the files that they were opened from, and their number of entry ids, in other words
-pub opens_at : {T : Type 0} {store : StoreMembers T} (files_stand : ℕ → Image → Entries → Kept → Type 0) (n m : ℕ) (a b : Image) (held : List (Held T store)) → n ≡ m → a ≡ b → AreJustOpened files_stand n a held → AreJustOpened files_stand m b held
+pub opens_at : {T : Type 0} {store : StoreMembers T} (files_stand : ℕ → Image → Ledger → Kept → Type 0) (n m : ℕ) (a b : Image) (held : List (Held T store)) → n ≡ m → a ≡ b → AreJustOpened files_stand n a held → AreJustOpened files_stand m b held
 opens_at files_stand n m a b held is same opens = subst (λ k. AreJustOpened files_stand k b held) is (subst (λ (i : Image). AreJustOpened files_stand n i held) same opens)
 
 -- ---- the whole node
@@ -118,19 +118,19 @@ module _ {T : Type 0} {store : StoreMembers T} (n : ℕ) (url : List ℕ) (names
     topics = λ number topic at.
         let x = get_map (λ (h : Held T store). h.core) held number topic at in
         let o = opens number x.0 x.1 in
-        subst (λ (u : Topic). store.stands number files u.ledger u.kept × (u ≡ opened n u.ledger (map slot_of_entry u.ledger) u.kept)) (sym x.2) (o.stands, o.opened);
+        subst (λ (u : Topic). store.stands number files u.ledger u.kept × (u ≡ opened n u.ledger (slots_of u.ledger) u.kept)) (sym x.2) (o.stands, o.opened);
     stages = λ number. at_each (λ (s : Stage). s ≡ Resting) (λ (h : Held T store). stage_of h.flight) held number Resting refl (λ j h at. ap (λ f. stage_of f) (opens j h at).rests);
     sessions = none;
     used = refl;
   }
 
-  pub few_each : (number : ℕ) (t : Topic) → slice_get cores number ≡ Some t → length t.ledger ≤ 2 ^ 62
+  pub few_each : (number : ℕ) (t : Topic) → slice_get cores number ≡ Some t → end_of t.ledger ≤ 2 ^ 62
   few_each number topic at =
       let x = get_map (λ (h : Held T store). h.core) held number topic at in
-      subst (λ (u : Topic). length u.ledger ≤ 2 ^ 62) (sym x.2) (opens number x.0 x.1).few
+      subst (λ (u : Topic). end_of u.ledger ≤ 2 ^ 62) (sym x.2) (opens number x.0 x.1).few
 
 -- the first fault of the topics is one of the files before the catalog was opened too
-pub fault_before : (files_stand : ℕ → Image → Entries → Kept → Type 0) (faulty : ℕ → Image → Refusal → Type 0) (a b : Image) (per_ledger count : ℕ) (names : Names) (why : Refusal) → b ≡ a → NamesStand per_ledger a names → length names ≡ count
+pub fault_before : (files_stand : ℕ → Image → Ledger → Kept → Type 0) (faulty : ℕ → Image → Refusal → Type 0) (a b : Image) (per_ledger count : ℕ) (names : Names) (why : Refusal) → b ≡ a → NamesStand per_ledger a names → length names ≡ count
     → IsTopicFault files_stand faulty count b why → IsFirstFault files_stand faulty a why
 fault_before files_stand faulty a b per_ledger count names why same is many fault =
     inr (per_ledger, names, is, subst (λ (i : Image). IsTopicFault files_stand faulty (length names) i why) same (subst (λ k. IsTopicFault files_stand faulty k b why) (sym many) fault))

@@ -1,10 +1,11 @@
 -- Between two crashes receipts never outnumber the committed entries.
-use Rattle.std.proofs.Common.{◌≡◌, ⊎_elim, ◌∙◌, ℕ, ◌+◌, ◌≤◌, true, false, Result, List, [], ◌∷◌, ◌++◌, length, refl, ap, arith}
+use Rattle.std.proofs.Common.{◌≡◌, ⊎_elim, ◌∙◌, ℕ, ◌+◌, ◌≤◌, true, false, Result, List, [], ◌∷◌, ◌++◌, refl, ap, arith}
 use Rattle.std.specs.List.{AllByRecursion}
 use Rattle.commands.specs.declared.reply.Reply.{Reply}
 use Rattle.topic_core.specs.declared.command.Answer.{Answer}
 use Rattle.topic_core.specs.declared.command.TopicCommand.{TopicCommand}
 use Rattle.gated_log.specs.declared.refusal.Refusal.{Refusal}
+use Rattle.managed_ledger.specs.Entries.{end_of}
 use Rattle.topic_core.specs.State.{Topic, receipts_due}
 use Rattle.topic_core.specs.Steps.{TopicStep, receipts_of}
 use Rattle.topic_core.specs.Soundness.{IsSoundTopic}
@@ -69,7 +70,7 @@ counts_told = record {
 }
 
 pub moves_covered : (t : Topic) (moves : List Move) (u : Topic) → Moves t moves u → AllByRecursion (λ m. is_crash m ≡ false) moves → IsSoundTopic t
-    → receipts_told (told_by moves) + receipts_due u.queues ≤ length u.ledger
+    → receipts_told (told_by moves) + receipts_due u.queues ≤ end_of u.ledger
 moves_covered t moves u steps none sound =
     let s = moves_sound t moves u steps sound in
     omega (arith, respects CountsTold counts_told t moves u steps none, s.state.receipts, s.counted)

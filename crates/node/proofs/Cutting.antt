@@ -3,7 +3,7 @@ use Rattle.std.proofs.Common.{◌≡◌, ◌⊎◌, inl, inr, ⊎_elim, ℕ, ◌
 use Rattle.disk.specs.Disk.{Disk, Image, Leaves}
 use Rattle.disk.specs.Moments.{joins, weaken}
 use Rattle.gated_log.specs.declared.refusal.Refusal.TheVariants as refusal
-use Rattle.managed_ledger.specs.Entries.{Entries}
+use Rattle.managed_ledger.specs.Entries.{Ledger}
 use Rattle.records.specs.Maps.{Kept}
 use Rattle.session.specs.Broker.{Broker}
 use Rattle.node.specs.State.{State}
@@ -20,7 +20,7 @@ use Rattle.node.specs.declared.event.Verdict.TheVariants as verdict
 
 -- ---- brokers that a front of the happenings reaches
 
-module _ (files_stand : ℕ → Image → Entries → Kept → Type 0) (first : State) (happenings : List Happening) where
+module _ (files_stand : ℕ → Image → Ledger → Kept → Type 0) (first : State) (happenings : List Happening) where
   abbrev start : Life
   start = record { up = false; state = first }
 

@@ -1,8 +1,9 @@
 -- Each message that goes out was admitted, and is the entry of its position ever after.
-use Rattle.std.proofs.Common.{◌≡◌, ⊎_elim, ◌∙◌, ℕ, true, false, cond, not, Some, List, [], ◌∷◌, ◌++◌, map, take, slice_get, refl, sym, ap, subst}
+use Rattle.std.proofs.Common.{◌≡◌, ⊎_elim, ◌∙◌, ℕ, true, false, cond, not, Some, List, [], ◌∷◌, ◌++◌, map, take, refl, sym, ap, subst}
 use Rattle.std.specs.List.{AllByRecursion}
 use Rattle.commands.specs.declared.reply.Reply.{Reply}
 use Rattle.commands.specs.declared.reply.Reply.TheVariants.{Message}
+use Rattle.managed_ledger.specs.Entries.{Ledger, entry_at, lengthened}
 use Rattle.topic_core.specs.declared.command.Answer.{Answer}
 use Rattle.topic_core.specs.declared.command.TopicCommand.{TopicCommand}
 use Rattle.topic_core.specs.State.{Topic}
@@ -132,7 +133,7 @@ told_first t (Deliver id h) u ms v s rest none = (
         position = a.0;
         admitted = a.1;
         stands =
-            subst (λ (l : List (List ℕ)). slice_get l a.0 ≡ Some h.entry) (sym (p.grown ∙ ap (λ (x : Topic). x.ledger ++ p.more) s.1.sent))
+            subst (λ (l : Ledger). entry_at l a.0 ≡ Some h.entry) (sym (p.grown ∙ ap (λ (x : Topic). lengthened x.ledger p.more) s.1.sent))
             (stays t.ledger p.more a.0 h.entry a.1.published);
       },
   tt,
@@ -140,7 +141,7 @@ told_first t (Deliver id h) u ms v s rest none = (
 told_first t _ u ms v s rest none = tt
 
 -- one move before
-later : (t : Topic) (m : Move) (u : Topic) (ms : List Move) (ledger : List (List ℕ)) (h : Handed) → MoveStep t m u → Delivers u ms ledger h → Delivers t (m ∷ ms) ledger h
+later : (t : Topic) (m : Move) (u : Topic) (ms : List Move) (ledger : Ledger) (h : Handed) → MoveStep t m u → Delivers u ms ledger h → Delivers t (m ∷ ms) ledger h
 later t m u ms ledger h s found = λ is.
     let f = found is in
     record {
@@ -155,11 +156,11 @@ later t m u ms ledger h s found = λ is.
       stands = f.stands;
     }
 
-each_later : (t : Topic) (m : Move) (u : Topic) (ms : List Move) (ledger : List (List ℕ)) (hs : List Handed) → MoveStep t m u → DeliversEach u ms ledger hs → DeliversEach t (m ∷ ms) ledger hs
+each_later : (t : Topic) (m : Move) (u : Topic) (ms : List Move) (ledger : Ledger) (hs : List Handed) → MoveStep t m u → DeliversEach u ms ledger hs → DeliversEach t (m ∷ ms) ledger hs
 each_later t m u ms ledger [] s all = tt
 each_later t m u ms ledger (h ∷ hs) s all = (later t m u ms ledger h s all.0, each_later t m u ms ledger hs s all.1)
 
-both : (t : Topic) (ms : List Move) (ledger : List (List ℕ)) (xs ys : List Handed) → DeliversEach t ms ledger xs → DeliversEach t ms ledger ys → DeliversEach t ms ledger (xs ++ ys)
+both : (t : Topic) (ms : List Move) (ledger : Ledger) (xs ys : List Handed) → DeliversEach t ms ledger xs → DeliversEach t ms ledger ys → DeliversEach t ms ledger (xs ++ ys)
 both t ms ledger [] ys a b = b
 both t ms ledger (x ∷ xs) ys a b = (a.0, both t ms ledger xs ys a.1 b)
 

@@ -1,5 +1,5 @@
 -- How flushes and their parts, openings and crashes end, and that ledgers only grow.
-use Rattle.std.proofs.Common.{◌≡◌, ◌⊎◌, inl, inr, ⊎_elim, ◌∙◌, ℕ, Bool, true, false, Option, Some, None, Result, Ok, Err, List, [], ◌++◌, take, drop, map, refl, sym, ap, subst, append-nil, append_assoc}
+use Rattle.std.proofs.Common.{◌≡◌, ◌⊎◌, inl, inr, ⊎_elim, ◌∙◌, ℕ, Bool, true, false, Option, Some, None, Result, Ok, Err, List, [], ◌++◌, take, drop, refl, sym, ap, subst}
 use Rattle.std.proofs.lemmas.List.{take-append-drop}
 use Rattle.records.specs.Maps.{Kept}
 use Rattle.gated_log.specs.declared.refusal.Refusal.{Refusal}
@@ -7,7 +7,9 @@ use Rattle.gated_log.specs.declared.refusal.Refusal.TheVariants as refusal
 use Rattle.topic_stores.specs.declared.batch.Batch.{Batch}
 use Rattle.topic_stores.specs.declared.error.WriteError.{WriteError}
 use Rattle.topic_stores.specs.declared.error.WriteError.TheVariants.{Device, NoMemory}
-use Rattle.topic_core.specs.Slots.{slot_of_entry}
+use Rattle.managed_ledger.specs.Entries.{Ledger, lengthened}
+use Rattle.managed_ledger.specs.Trims.{lengthened_none, lengthened_both}
+use Rattle.topic_core.specs.Slots.{slots_of}
 use Rattle.topic_core.specs.State.{Topic, entries_of, entries_in_doubt}
 use Rattle.topic_core.specs.Flush.{TakeStep, FinishStep, FlushStep, FlushIn, FlushEnds, has_no_flush, handed_on, finished, taken_back, failed}
 use Rattle.topic_core.specs.Crashes.{IsLeft, ReopenStep, ReopenIn, ReopenEnds, reopened}
@@ -68,7 +70,7 @@ module _ (R : Topic → Topic → Type 0) (by : RespectedByFlushes R) where
 pub record Reopened (t u : Topic) : Type 0 where
   pub failed : t.failed ≡ true
   pub left : IsLeft t u.ledger u.kept
-  pub again : u ≡ reopened t u.ledger (map slot_of_entry u.ledger) u.kept
+  pub again : u ≡ reopened t u.ledger (slots_of u.ledger) u.kept
 
 reopen_ends : (t : Topic) (result : Result (Unit {0}) Refusal) (u : Topic) → t.failed ≡ true → ReopenEnds t result u → (u ≡ t) ⊎ Reopened t u
 reopen_ends t (Ok done) u failed s = inr (record { failed = failed; left = s.0; again = s.1 })
@@ -84,33 +86,33 @@ pub reopen_cases : (t : Topic) (result : Result (Unit {0}) Refusal) (u : Topic) 
 reopen_cases t result u s = reopen_in t.failed t result u refl s
 
 -- a crash leaves the ledger with a front of the entries that waited
-pub record Front (t : Topic) (ledger : List (List ℕ)) : Type 0 where
+pub record Front (t : Topic) (ledger : Ledger) : Type 0 where
   pub more : List (List ℕ)
   pub rest : List (List ℕ)
-  pub grown : ledger ≡ t.ledger ++ more
+  pub grown : ledger ≡ lengthened t.ledger more
   pub waited : t.waiting ≡ more ++ rest
 
-no_more : (t : Topic) (ledger : List (List ℕ)) → ledger ≡ t.ledger → Front t ledger
-no_more t ledger is = record { more = []; rest = t.waiting; grown = is ∙ sym (append-nil t.ledger); waited = refl }
+no_more : (t : Topic) (ledger : Ledger) → ledger ≡ t.ledger → Front t ledger
+no_more t ledger is = record { more = []; rest = t.waiting; grown = is ∙ sym (lengthened_none t.ledger); waited = refl }
 
-some_more : (t : Topic) (ledger : List (List ℕ)) (n : ℕ) → ledger ≡ t.ledger ++ take n t.waiting → Front t ledger
+some_more : (t : Topic) (ledger : Ledger) (n : ℕ) → ledger ≡ lengthened t.ledger (take n t.waiting) → Front t ledger
 some_more t ledger n is = record { more = take n t.waiting; rest = drop n t.waiting; grown = is; waited = sym (take-append-drop n t.waiting) }
 
-pub left_front : (t : Topic) (ledger : List (List ℕ)) (kept : Kept) → IsLeft t ledger kept → Front t ledger
+pub left_front : (t : Topic) (ledger : Ledger) (kept : Kept) → IsLeft t ledger kept → Front t ledger
 left_front t ledger kept (inl s) = no_more t ledger s.0
 left_front t ledger kept (inr (inl s)) = some_more t ledger (entries_of t.doubt) s.0
 left_front t ledger kept (inr (inr s)) = some_more t ledger (entries_of t.doubt) s.0
 
 -- a ledger with more behind it
-pub record Grows (old new : List (List ℕ)) : Type 0 where
+pub record Grows (old new : Ledger) : Type 0 where
   pub more : List (List ℕ)
-  pub grown : new ≡ old ++ more
+  pub grown : new ≡ lengthened old more
 
-pub same_grows : (old new : List (List ℕ)) → new ≡ old → Grows old new
-same_grows old new is = record { more = []; grown = is ∙ sym (append-nil old) }
+pub same_grows : (old new : Ledger) → new ≡ old → Grows old new
+same_grows old new is = record { more = []; grown = is ∙ sym (lengthened_none old) }
 
-pub grows_then : (a b c : List (List ℕ)) → Grows a b → Grows b c → Grows a c
-grows_then a b c p q = record { more = p.more ++ q.more; grown = q.grown ∙ ap (λ (l : List (List ℕ)). l ++ q.more) p.grown ∙ append_assoc a p.more q.more }
+pub grows_then : (a b c : Ledger) → Grows a b → Grows b c → Grows a c
+grows_then a b c p q = record { more = p.more ++ q.more; grown = q.grown ∙ ap (λ (l : Ledger). lengthened l q.more) p.grown ∙ lengthened_both a p.more q.more }
 
 abbrev GrowsTo : Topic → Topic → Type 0
 GrowsTo t u = Grows t.ledger u.ledger

@@ -1,14 +1,15 @@
 -- Each entry is that of the latest SEND for its position, and what a receipt promised is found ever after.
-use Rattle.std.proofs.Common.{◌≡◌, ◌⊎◌, inl, inr, ⊎_elim, ◌∙◌, ℕ, zero, suc, ◌<◌, ◌≤◌, Bool, true, false, Some, None, List, [], ◌∷◌, ◌++◌, length, map, take, drop, slice_get, refl, sym, ap, subst, arith, length-append, append-nil, append_assoc}
+use Rattle.std.proofs.Common.{◌≡◌, ⊎_elim, ◌∙◌, ℕ, ◌<◌, ◌≤◌, Bool, true, false, Some, None, List, [], ◌∷◌, ◌++◌, length, map, take, drop, refl, sym, ap, subst, arith, length-append, append-nil, append_assoc}
 use Rattle.std.proofs.lemmas.List.{length-take-le, take_all, take-append-drop, take-append-le}
-use Rattle.std.proofs.lemmas.Option.{slice_get_within}
 use Rattle.std.specs.List.{AllByRecursion}
 use Rattle.commands.specs.declared.reply.Reply.{Reply}
 use Rattle.commands.specs.declared.reply.Reply.TheVariants.{Connected}
 use Rattle.topic_core.specs.declared.command.Answer.{Answer}
 use Rattle.topic_core.specs.declared.command.Send.{Send}
 use Rattle.topic_core.specs.declared.command.TopicCommand.{TopicCommand}
-use Rattle.topic_core.specs.Slots.{slot_of_entry}
+use Rattle.managed_ledger.specs.Entries.{Entries, Ledger, end_of, entry_at, lengthened}
+use Rattle.managed_ledger.specs.Trims.{end_lengthened, entry_within, entry_kept, entry_last, entry_or_last, lengthened_none, lengthened_both}
+use Rattle.topic_core.specs.Slots.{slots_of}
 use Rattle.topic_core.specs.State.{Topic, next_position, opened, entries_of, entries_in_doubt}
 use Rattle.reply_queues.specs.Replies.{SessionReplies, is_receipt, due_to, hand_on, make_due, take_back, refused, refuse_pending}
 use Rattle.topic_core.specs.Steps.{TopicStep, bytes_of, accepted, receipt, collected, left}
@@ -31,31 +32,14 @@ refused_plain : (r : Reply) → is_receipt (refused r) ≡ false
 refused_plain Connected = refl
 refused_plain _ = refl
 
--- ---- lists
+-- ---- ledgers
 
-module _ {A : Type 0} where
-  -- what stands in one list stands in the other one
-  abbrev pub Extends : List A → List A → Type 0
-  Extends xs ys = (i : ℕ) (x : A) → slice_get xs i ≡ Some x → slice_get ys i ≡ Some x
+-- what stands in one ledger stands in the other one
+abbrev pub Extends : Ledger → Ledger → Type 0
+Extends l m = (i : ℕ) (entry : List ℕ) → entry_at l i ≡ Some entry → entry_at m i ≡ Some entry
 
-  pub stays : (xs ys : List A) → Extends xs (xs ++ ys)
-  stays [] ys i x is = absurd cc
-  stays (y ∷ xs) ys zero x is = is
-  stays (y ∷ xs) ys (suc i) x is = stays xs ys i x is
-
-  -- the one that is added
-  last : (xs : List A) (x : A) (n : ℕ) → n ≡ length xs → slice_get (xs ++ x ∷ []) n ≡ Some x
-  last [] x zero is = refl
-  last [] x (suc n) is = absurd (omega (arith, is))
-  last (y ∷ xs) x zero is = absurd (omega (arith, is))
-  last (y ∷ xs) x (suc n) is = last xs x n (omega (arith, is))
-
-  -- one that was there, or the one that is added
-  there_or_last : (xs : List A) (x : A) (i : ℕ) (y : A) → slice_get (xs ++ x ∷ []) i ≡ Some y → (slice_get xs i ≡ Some y) ⊎ ((length xs ≡ i) × (x ≡ y))
-  there_or_last [] x zero y is = inr (refl, cc)
-  there_or_last [] x (suc i) y is = absurd cc
-  there_or_last (z ∷ xs) x zero y is = inl is
-  there_or_last (z ∷ xs) x (suc i) y is = ⊎_elim (λ there. inl there) (λ new. inr (omega (arith, new.0), new.1)) (there_or_last xs x i y is)
+pub stays : (l : Ledger) (more : Entries) → Extends l (lengthened l more)
+stays l more i entry is = entry_kept l more i entry is
 
 -- ---- SENDs
 
@@ -77,45 +61,45 @@ latest_more sends s send other is = record {
 }
 
 -- what was found is found in a longer ledger
-finds_more : (sends : List Sent) (ledger longer : List (List ℕ)) (h : Handed) → Extends ledger longer → Finds sends ledger h → Finds sends longer h
+finds_more : (sends : List Sent) (ledger longer : Ledger) (h : Handed) → Extends ledger longer → Finds sends ledger h → Finds sends longer h
 finds_more sends ledger longer h more found = λ is.
     let f = found is in
     record { send = f.send; sent = f.sent; promised = f.promised; stands = more f.send.position f.send.entry f.stands }
 
 -- and after one more SEND for a position behind it
-finds_sent : (sends : List Sent) (s : Sent) (ledger : List (List ℕ)) (h : Handed) → length ledger ≤ s.position → Finds sends ledger h → Finds (sends ++ s ∷ []) ledger h
+finds_sent : (sends : List Sent) (s : Sent) (ledger : Ledger) (h : Handed) → end_of ledger ≤ s.position → Finds sends ledger h → Finds (sends ++ s ∷ []) ledger h
 finds_sent sends s ledger h behind found = λ is.
     let f = found is in
-    let within = slice_get_within ledger f.send.position f.send.entry f.stands in
+    let within = (entry_within ledger f.send.position f.send.entry f.stands).1 in
     record { send = f.send; sent = latest_more sends s f.send (λ same. omega (arith, same, within, behind)) f.sent; promised = f.promised; stands = f.stands }
 
 of_more : (sends : List Sent) (s : Sent) (i : ℕ) (entry : List ℕ) → i < s.position → IsOf sends i entry → IsOf (sends ++ s ∷ []) i entry
 of_more sends s i entry behind is = (is.0, latest_more sends s is.0 (λ same. omega (arith, same, behind, is.2)) is.1, is.2, is.3)
 
 -- what is in doubt are the first ones of all that wait
-in_doubt : (ledger waiting : List (List ℕ)) (n : ℕ) → Extends (ledger ++ take n waiting) (ledger ++ waiting)
+in_doubt : (ledger : Ledger) (waiting : Entries) (n : ℕ) → Extends (lengthened ledger (take n waiting)) (lengthened ledger waiting)
 in_doubt ledger waiting n =
-    subst (λ (l : List (List ℕ)). Extends (ledger ++ take n waiting) l) (append_assoc ledger (take n waiting) (drop n waiting) ∙ ap (λ (l : List (List ℕ)). ledger ++ l) (take-append-drop n waiting))
-    (stays (ledger ++ take n waiting) (drop n waiting))
+    subst (λ (l : Ledger). Extends (lengthened ledger (take n waiting)) l) (lengthened_both ledger (take n waiting) (drop n waiting) ∙ ap (λ (w : Entries). lengthened ledger w) (take-append-drop n waiting))
+    (stays (lengthened ledger (take n waiting)) (drop n waiting))
 
 -- ---- what is owed
 
 -- A due receipt has its entry in the ledger, one that a flush was handed there or among the entries in doubt, and another pending
 -- one there or among all that wait. Where something is pending the topic works.
-abbrev Found : List Sent → List (List ℕ) → List (List ℕ) → List (List ℕ) → Bool → ℕ → Debt → Type 0
+abbrev Found : List Sent → Ledger → Entries → Entries → Bool → ℕ → Debt → Type 0
 Found sends ledger entries waiting fails who (Due r) = Finds sends ledger (handed who r)
-Found sends ledger entries waiting fails who (HandedOn r) = Finds sends (ledger ++ entries) (handed who r) × (fails ≡ false)
-Found sends ledger entries waiting fails who (Pending r) = Finds sends (ledger ++ waiting) (handed who r) × (fails ≡ false)
+Found sends ledger entries waiting fails who (HandedOn r) = Finds sends (lengthened ledger entries) (handed who r) × (fails ≡ false)
+Found sends ledger entries waiting fails who (Pending r) = Finds sends (lengthened ledger waiting) (handed who r) × (fails ≡ false)
 
 abbrev FoundIn : List Sent → Topic → ℕ → Debt → Type 0
 FoundIn sends t = Found sends t.ledger (entries_in_doubt t) t.waiting t.failed
 
 -- between two moves: the entries from one position on are those of the latest SENDs, and each receipt has its entry
 record Owes (base : ℕ) (sends : List Sent) (t : Topic) : Type 0 where
-  counted : length t.ledger ≡ t.committed
+  counted : end_of t.ledger ≡ t.committed
   fits : entries_of t.doubt ≤ length t.waiting
   within : AreWithin t.queues
-  entries : (i : ℕ) (entry : List ℕ) → base ≤ i → slice_get (t.ledger ++ t.waiting) i ≡ Some entry → IsOf sends i entry
+  entries : (i : ℕ) (entry : List ℕ) → base ≤ i → entry_at (lengthened t.ledger t.waiting) i ≡ Some entry → IsOf sends i entry
   queues : AllOwed (FoundIn sends t) t.queues
 
 -- a move keeps what is owed, and what was found
@@ -130,7 +114,7 @@ module _ (base : ℕ) (before : List Sent) where
 
   -- the ledger stays
   still : (t u : Topic) → Owes base before u → u.ledger ≡ t.ledger → KeepsOn t u
-  still t u o ledger = record { owes = o; found = λ h f. subst (λ (l : List (List ℕ)). Finds before l h) (sym ledger) f }
+  still t u o ledger = record { owes = o; found = λ h f. subst (λ (l : Ledger). Finds before l h) (sym ledger) f }
 
   same_topic : (t u : Topic) → u ≡ t → Owes base before t → KeepsOn t u
   same_topic t u is o = subst (λ (x : Topic). KeepsOn t x) (sym is) (still t t o refl)
@@ -148,38 +132,38 @@ module _ (base : ℕ) (before : List Sent) where
     abbrev with_sent : List Sent
     with_sent = before ++ s ∷ []
 
-    abbrev log : List (List ℕ)
-    log = t.ledger ++ t.waiting
+    abbrev log : Ledger
+    log = lengthened t.ledger t.waiting
 
-    one_behind : t.ledger ++ u.waiting ≡ log ++ bytes_of send.entry ∷ []
-    one_behind = sym (append_assoc t.ledger t.waiting (bytes_of send.entry ∷ []))
+    one_behind : lengthened t.ledger u.waiting ≡ lengthened log (bytes_of send.entry ∷ [])
+    one_behind = sym (lengthened_both t.ledger t.waiting (bytes_of send.entry ∷ []))
 
-    size : length log ≡ s.position
-    size = omega (arith, o.counted, length-append t.ledger t.waiting)
+    size : end_of log ≡ s.position
+    size = omega (arith, o.counted, end_lengthened t.ledger t.waiting)
 
-    short : length t.ledger ≤ s.position
-    short = omega (arith, size, length-append t.ledger t.waiting)
+    short : end_of t.ledger ≤ s.position
+    short = omega (arith, size, end_lengthened t.ledger t.waiting)
 
-    longer : Extends log (t.ledger ++ u.waiting)
-    longer = subst (λ (l : List (List ℕ)). Extends log l) (sym one_behind) (stays log (bytes_of send.entry ∷ []))
+    longer : Extends log (lengthened t.ledger u.waiting)
+    longer = subst (λ (l : Ledger). Extends log l) (sym one_behind) (stays log (bytes_of send.entry ∷ []))
 
-    there : slice_get (t.ledger ++ u.waiting) s.position ≡ Some (bytes_of send.entry)
-    there = ap (λ (l : List (List ℕ)). slice_get l s.position) one_behind ∙ last log (bytes_of send.entry) s.position (sym size)
+    there : entry_at (lengthened t.ledger u.waiting) s.position ≡ Some (bytes_of send.entry)
+    there = ap (λ (l : Ledger). entry_at l s.position) one_behind ∙ entry_last log (bytes_of send.entry) s.position (sym size)
 
     -- the entries in doubt are the same
     same_doubt : entries_in_doubt u ≡ entries_in_doubt t
     same_doubt = take-append-le (entries_of t.doubt) t.waiting (bytes_of send.entry ∷ []) o.fits
 
-    in_log : length (t.ledger ++ entries_in_doubt t) ≤ s.position
-    in_log = omega (arith, o.counted, o.fits, length-append t.ledger (entries_in_doubt t), length-take-le (entries_of t.doubt) t.waiting o.fits)
+    in_log : end_of (lengthened t.ledger (entries_in_doubt t)) ≤ s.position
+    in_log = omega (arith, o.counted, o.fits, end_lengthened t.ledger (entries_in_doubt t), length-take-le (entries_of t.doubt) t.waiting o.fits)
 
     stays_found : (other : ℕ) (d : Debt) → FoundIn before t other d → FoundIn with_sent u other d
     stays_found other (Due r) f = finds_sent before s t.ledger (handed other r) short f
     stays_found other (HandedOn r) f = (
-      subst (λ (e : List (List ℕ)). Finds with_sent (t.ledger ++ e) (handed other r)) (sym same_doubt) (finds_sent before s (t.ledger ++ entries_in_doubt t) (handed other r) in_log f.0),
+      subst (λ (e : List (List ℕ)). Finds with_sent (lengthened t.ledger e) (handed other r)) (sym same_doubt) (finds_sent before s (lengthened t.ledger (entries_in_doubt t)) (handed other r) in_log f.0),
       works,
     )
-    stays_found other (Pending r) f = (finds_more with_sent log (t.ledger ++ u.waiting) (handed other r) longer (finds_sent before s log (handed other r) (omega (arith, size)) f.0), works)
+    stays_found other (Pending r) f = (finds_more with_sent log (lengthened t.ledger u.waiting) (handed other r) longer (finds_sent before s log (handed other r) (omega (arith, size)) f.0), works)
 
     accepts : Keeps base before with_sent t u
     accepts = record {
@@ -188,9 +172,9 @@ module _ (base : ℕ) (before : List Sent) where
         fits = omega (arith, o.fits, length-append t.waiting (bytes_of send.entry ∷ []));
         within = within-queued who (receipt t send.producer_id send.sequence_id) t.queues o.within;
         entries = λ i entry from stands. ⊎_elim
-            (λ old. of_more before s i entry (omega (arith, size, slice_get_within log i entry old)) (o.entries i entry from old))
+            (λ old. of_more before s i entry (omega (arith, size, (entry_within log i entry old).1)) (o.entries i entry from old))
             (λ new. (s, last_is_latest before s, sym size ∙ new.0, new.1))
-            (there_or_last log (bytes_of send.entry) i entry (ap (λ (l : List (List ℕ)). slice_get l i) (sym one_behind) ∙ stands));
+            (entry_or_last log (bytes_of send.entry) i entry (ap (λ (l : Ledger). entry_at l i) (sym one_behind) ∙ stands));
         queues =
             queued_owed (FoundIn with_sent u) t.queues (each_owed (FoundIn before t) t.queues o.queues (FoundIn with_sent u) stays_found) who (receipt t send.producer_id send.sequence_id) o.within
             (λ is. record { send = s; sent = last_is_latest before s; promised = refl; stands = there }, works);
@@ -202,7 +186,7 @@ module _ (base : ℕ) (before : List Sent) where
   alike : (t u : Topic) → u.ledger ≡ t.ledger → u.waiting ≡ t.waiting → u.doubt ≡ t.doubt → u.failed ≡ t.failed → (qs : List SessionReplies) → AllOwed (FoundIn before t) qs → AllOwed (FoundIn before u) qs
   alike t u ledger waiting doubt fails qs all =
       let first : entries_in_doubt t ≡ entries_in_doubt u = ap (λ d. take (entries_of d) t.waiting) (sym doubt) ∙ ap (λ (w : List (List ℕ)). take (entries_of u.doubt) w) (sym waiting) in
-      subst (λ (l : List (List ℕ)). AllOwed (Found before l (entries_in_doubt u) u.waiting u.failed) qs) (sym ledger)
+      subst (λ (l : Ledger). AllOwed (Found before l (entries_in_doubt u) u.waiting u.failed) qs) (sym ledger)
       (subst (λ (e : List (List ℕ)). AllOwed (Found before t.ledger e u.waiting u.failed) qs) first
       (subst (λ (w : List (List ℕ)). AllOwed (Found before t.ledger (entries_in_doubt t) w u.failed) qs) (sym waiting)
       (subst (λ (b : Bool). AllOwed (Found before t.ledger (entries_in_doubt t) t.waiting b) qs) (sym fails) all)))
@@ -210,14 +194,14 @@ module _ (base : ℕ) (before : List Sent) where
   -- one more reply at most is owed, which is no receipt
   awaits : (t u : Topic) (who : ℕ) → Awaits who t u → Owes base before t → KeepsOn t u
   awaits t u who a o = still t u (record {
-    counted = ap (λ (l : List (List ℕ)). length l) a.ledger ∙ o.counted ∙ sym a.committed;
+    counted = ap (λ (l : Ledger). end_of l) a.ledger ∙ o.counted ∙ sym a.committed;
     fits = omega (arith, o.fits, ap (λ d. entries_of d) a.doubt, ap (λ (w : List (List ℕ)). length w) a.waiting);
     within = ⊎_elim
         (λ same. subst AreWithin (sym same) o.within)
         (λ more. subst AreWithin (sym more.3) (within-queued who more.0 t.queues o.within))
         a.queues;
     entries = λ i entry from stands.
-        o.entries i entry from (ap (λ (w : List (List ℕ)). slice_get (t.ledger ++ w) i) (sym a.waiting) ∙ ap (λ (l : List (List ℕ)). slice_get (l ++ u.waiting) i) (sym a.ledger) ∙ stands);
+        o.entries i entry from (ap (λ (w : Entries). entry_at (lengthened t.ledger w) i) (sym a.waiting) ∙ ap (λ (l : Ledger). entry_at (lengthened l u.waiting) i) (sym a.ledger) ∙ stands);
     queues = alike t u a.ledger a.waiting a.doubt a.failed u.queues
         (⊎_elim
         (λ same. subst (λ (qs : List SessionReplies). AllOwed (FoundIn before t) qs) (sym same) o.queues)
@@ -263,11 +247,11 @@ module _ (base : ℕ) (before : List Sent) where
   on_hands : (t : Topic) (who : ℕ) (d : Debt) → FoundIn before t who d → FoundIn before (handed_on t) who (hands_on d)
   on_hands t who (Due r) f = f
   on_hands t who (HandedOn r) f = (
-    subst (λ (e : List (List ℕ)). Finds before (t.ledger ++ e) (handed who r)) (sym (take_all (length t.waiting) t.waiting (omega arith)))
-        (finds_more before (t.ledger ++ entries_in_doubt t) (t.ledger ++ t.waiting) (handed who r) (in_doubt t.ledger t.waiting (entries_of t.doubt)) f.0),
+    subst (λ (e : List (List ℕ)). Finds before (lengthened t.ledger e) (handed who r)) (sym (take_all (length t.waiting) t.waiting (omega arith)))
+        (finds_more before (lengthened t.ledger (entries_in_doubt t)) (lengthened t.ledger t.waiting) (handed who r) (in_doubt t.ledger t.waiting (entries_of t.doubt)) f.0),
     f.1,
   )
-  on_hands t who (Pending r) f = (subst (λ (e : List (List ℕ)). Finds before (t.ledger ++ e) (handed who r)) (sym (take_all (length t.waiting) t.waiting (omega arith))) f.0, f.1)
+  on_hands t who (Pending r) f = (subst (λ (e : List (List ℕ)). Finds before (lengthened t.ledger e) (handed who r)) (sym (take_all (length t.waiting) t.waiting (omega arith))) f.0, f.1)
 
   takes : (t : Topic) → Owes base before t → KeepsOn t (handed_on t)
   takes t o = still t (handed_on t) (record {
@@ -285,15 +269,15 @@ module _ (base : ℕ) (before : List Sent) where
   on_due : (t : Topic) (who : ℕ) (d : Debt) → FoundIn before t who d → FoundIn before (finished t) who (makes_due d)
   on_due t who (Due r) f = more_found t (handed who r) f
   on_due t who (HandedOn r) f = f.0
-  on_due t who (Pending r) f = (subst (λ (l : List (List ℕ)). Finds before l (handed who r)) (moved_on t) f.0, f.1)
+  on_due t who (Pending r) f = (subst (λ (l : Ledger). Finds before l (handed who r)) (moved_on t) f.0, f.1)
 
   finishes : (t : Topic) → Owes base before t → KeepsOn t (finished t)
   finishes t o = record {
     owes = record {
-      counted = omega (arith, o.counted, length-append t.ledger (entries_in_doubt t), length-take-le (entries_of t.doubt) t.waiting o.fits);
+      counted = omega (arith, o.counted, end_lengthened t.ledger (entries_in_doubt t), length-take-le (entries_of t.doubt) t.waiting o.fits);
       fits = omega arith;
       within = within-mapped (λ q. make_due q) (λ q. omega arith) t.queues;
-      entries = λ i entry from stands. o.entries i entry from (ap (λ (l : List (List ℕ)). slice_get l i) (moved_on t) ∙ stands);
+      entries = λ i entry from stands. o.entries i entry from (ap (λ (l : Ledger). entry_at l i) (moved_on t) ∙ stands);
       queues = turned_owed (FoundIn before t) t.queues o.queues (FoundIn before (finished t)) makes_due (map (λ q. make_due q) t.queues) (λ who. debts-made_due who t.queues) (on_due t);
     };
     found = more_found t;
@@ -302,7 +286,7 @@ module _ (base : ℕ) (before : List Sent) where
   -- it waits again
   on_back : (t : Topic) (who : ℕ) (d : Debt) → FoundIn before t who d → FoundIn before (taken_back t) who (takes_back d)
   on_back t who (Due r) f = f
-  on_back t who (HandedOn r) f = (finds_more before (t.ledger ++ entries_in_doubt t) (t.ledger ++ t.waiting) (handed who r) (in_doubt t.ledger t.waiting (entries_of t.doubt)) f.0, f.1)
+  on_back t who (HandedOn r) f = (finds_more before (lengthened t.ledger (entries_in_doubt t)) (lengthened t.ledger t.waiting) (handed who r) (in_doubt t.ledger t.waiting (entries_of t.doubt)) f.0, f.1)
   on_back t who (Pending r) f = f
 
   takes_all_back : (t : Topic) → Owes base before t → KeepsOn t (taken_back t)
@@ -345,15 +329,15 @@ module _ (base : ℕ) (before : List Sent) where
   -- ---- openings and crashes
 
   -- a topic over a ledger with a front of what waited, where nothing waits now
-  fronted : (t u : Topic) → length u.ledger ≡ u.committed → u.waiting ≡ [] → u.doubt ≡ None → Front t u.ledger → AreWithin u.queues
+  fronted : (t u : Topic) → end_of u.ledger ≡ u.committed → u.waiting ≡ [] → u.doubt ≡ None → Front t u.ledger → AreWithin u.queues
       → (((h : Handed) → Finds before t.ledger h → Finds before u.ledger h) → AllOwed (FoundIn before u) u.queues)
       → Owes base before t → KeepsOn t u
   fronted t u counted none sure front within queues o =
-      let log = t.ledger ++ t.waiting in
-      let longer : Extends t.ledger u.ledger = subst (λ (l : List (List ℕ)). Extends t.ledger l) (sym front.grown) (stays t.ledger front.more) in
-      let whole : log ≡ u.ledger ++ front.rest =
-      ap (λ (w : List (List ℕ)). t.ledger ++ w) front.waited ∙ sym (append_assoc t.ledger front.more front.rest) ∙ ap (λ (l : List (List ℕ)). l ++ front.rest) (sym front.grown) in
-      let within_log : Extends u.ledger log = subst (λ (l : List (List ℕ)). Extends u.ledger l) (sym whole) (stays u.ledger front.rest) in
+      let log = lengthened t.ledger t.waiting in
+      let longer : Extends t.ledger u.ledger = subst (λ (l : Ledger). Extends t.ledger l) (sym front.grown) (stays t.ledger front.more) in
+      let all : log ≡ lengthened u.ledger front.rest =
+      ap (λ (w : Entries). lengthened t.ledger w) front.waited ∙ sym (lengthened_both t.ledger front.more front.rest) ∙ ap (λ (l : Ledger). lengthened l front.rest) (sym front.grown) in
+      let within_log : Extends u.ledger log = subst (λ (l : Ledger). Extends u.ledger l) (sym all) (stays u.ledger front.rest) in
       let more = λ (h : Handed) (f : Finds before t.ledger h). finds_more before t.ledger u.ledger h longer f in
       record {
         owes = record {
@@ -361,7 +345,7 @@ module _ (base : ℕ) (before : List Sent) where
           fits = omega (arith, ap (λ d. entries_of d) sure);
           within = within;
           entries = λ i entry from stands.
-              o.entries i entry from (within_log i entry (ap (λ (l : List (List ℕ)). slice_get l i) (sym (ap (λ (w : List (List ℕ)). u.ledger ++ w) none ∙ append-nil u.ledger)) ∙ stands));
+              o.entries i entry from (within_log i entry (ap (λ (l : Ledger). entry_at l i) (sym (ap (λ (w : Entries). lengthened u.ledger w) none ∙ lengthened_none u.ledger)) ∙ stands));
           queues = queues more;
         };
         found = more;
@@ -375,13 +359,13 @@ module _ (base : ℕ) (before : List Sent) where
 
   opens_again : (t u : Topic) → Reopened t u → Owes base before t → KeepsOn t u
   opens_again t u s o =
-      let v : Topic = reopened t u.ledger (map slot_of_entry u.ledger) u.kept in
+      let v : Topic = reopened t u.ledger (slots_of u.ledger) u.kept in
       subst (λ (x : Topic). KeepsOn t x) (sym s.again)
       (fronted t v refl refl refl (left_front t u.ledger u.kept s.left) o.within (λ more. each_owed (FoundIn before t) t.queues o.queues (FoundIn before v) (on_again t v s.failed more)) o)
 
   crashes : (t u : Topic) → TopicCrash t u → Owes base before t → KeepsOn t u
   crashes t u s o =
-      let v : Topic = opened t.per_ledger u.ledger (map slot_of_entry u.ledger) u.kept in
+      let v : Topic = opened t.per_ledger u.ledger (slots_of u.ledger) u.kept in
       subst (λ (x : Topic). KeepsOn t x) (sym s.again) (fronted t v refl refl refl (left_front t u.ledger u.kept s.left) tt (λ more who. tt) o)
 
   -- ---- moves
@@ -410,11 +394,11 @@ module _ (base : ℕ) (before : List Sent) where
   told_found t (Deliver id h) u s o = (λ is. absurd (not_receipt h.reply (ap (λ (r : Reply). is_receipt r) s.1.reply) is), tt)
   told_found t _ u s o = tt
 
-each_found : (before : List Sent) (ledger : List (List ℕ)) (after : List Sent) (ledger' : List (List ℕ)) → ((h : Handed) → Finds before ledger h → Finds after ledger' h) → (hs : List Handed) → FindsEach before ledger hs → FindsEach after ledger' hs
+each_found : (before : List Sent) (ledger : Ledger) (after : List Sent) (ledger' : Ledger) → ((h : Handed) → Finds before ledger h → Finds after ledger' h) → (hs : List Handed) → FindsEach before ledger hs → FindsEach after ledger' hs
 each_found before ledger after ledger' f [] all = tt
 each_found before ledger after ledger' f (h ∷ hs) all = (f h all.0, each_found before ledger after ledger' f hs all.1)
 
-both_found : (sends : List Sent) (ledger : List (List ℕ)) (xs ys : List Handed) → FindsEach sends ledger xs → FindsEach sends ledger ys → FindsEach sends ledger (xs ++ ys)
+both_found : (sends : List Sent) (ledger : Ledger) (xs ys : List Handed) → FindsEach sends ledger xs → FindsEach sends ledger ys → FindsEach sends ledger (xs ++ ys)
 both_found sends ledger [] ys a b = b
 both_found sends ledger (x ∷ xs) ys a b = (a.0, both_found sends ledger xs ys a.1 b)
 
@@ -451,23 +435,23 @@ carried base before t (m ∷ ms) v steps o =
     (carried base (before ++ sends_on t m) u ms v steps.2 k.owes)
 
 -- a topic that owes nothing
-quiet_owes : (t : Topic) → IsQuiet t → Owes (length t.ledger) [] t
+quiet_owes : (t : Topic) → IsQuiet t → Owes (end_of t.ledger) [] t
 quiet_owes t quiet =
-    let all : t.ledger ++ t.waiting ≡ t.ledger = ap (λ (w : List (List ℕ)). t.ledger ++ w) quiet.waiting ∙ append-nil t.ledger in
+    let all : lengthened t.ledger t.waiting ≡ t.ledger = ap (λ (w : Entries). lengthened t.ledger w) quiet.waiting ∙ lengthened_none t.ledger in
     record {
       counted = quiet.counted;
       fits = omega (arith, quiet.sure);
       within = subst AreWithin (sym quiet.queues) tt;
-      entries = λ i entry from stands. absurd (omega (arith, from, slice_get_within t.ledger i entry (ap (λ (l : List (List ℕ)). slice_get l i) (sym all) ∙ stands)));
+      entries = λ i entry from stands. absurd (omega (arith, from, (entry_within t.ledger i entry (ap (λ (l : Ledger). entry_at l i) (sym all) ∙ stands)).1));
       queues = λ who. subst (λ (qs : List SessionReplies). AllByRecursion (FoundIn [] t who) (debts_to who qs)) (sym quiet.queues) tt;
     }
 
 pub moves_found : (t : Topic) (moves : List Move) (u : Topic) (steps : Moves t moves u) → IsQuiet t → FindsEach (sends_by t moves u steps) u.ledger (told_by moves)
-moves_found t moves u steps quiet = (carried (length t.ledger) [] t moves u steps (quiet_owes t quiet)).told
+moves_found t moves u steps quiet = (carried (end_of t.ledger) [] t moves u steps (quiet_owes t quiet)).told
 
 pub moves_publish : (t : Topic) (moves : List Move) (u : Topic) (steps : Moves t moves u) → IsQuiet t → IsPublished (sends_by t moves u steps) t.ledger u.ledger
 moves_publish t moves u steps quiet =
-    let c = carried (length t.ledger) [] t moves u steps (quiet_owes t quiet) in
+    let c = carried (end_of t.ledger) [] t moves u steps (quiet_owes t quiet) in
     let g = moves_grow t moves u steps in
     record {
       more = g.more;

@@ -8,7 +8,7 @@ use Rattle.disk.specs.declared.file_id.FileId.{FileId}
 use Rattle.disk.specs.Contents.{Settled}
 use Rattle.disk.specs.Moments.{weaken}
 use Rattle.disk.specs.Areas.{OfTopic, Agree, Within, apart}
-use Rattle.managed_ledger.specs.Entries.{Entries}
+use Rattle.managed_ledger.specs.Entries.{Ledger, whole}
 use Rattle.records.specs.Maps.{Kept}
 use Rattle.topic_stores.specs.declared.store.TopicStore.{Ghosts as StoreMembers}
 use Rattle.topic_stores.specs.declared.batch.Batch.{Batch}
@@ -47,7 +47,7 @@ use Rattle.node.specs.Numbers.{IsNumbered, AreNumbered, StaysNumbered}
 use Rattle.node.specs.Lists.{get_set, get_map, map_set, at_map, got_set, set_beyond}
 
 -- a broker, as the one that there is
-pub here : (stands : ℕ → Image → Entries → Kept → Type 0) (b : Broker) (old new : Disk) → Leaves (StandsForBroker stands b) old new → Leaves (StandsForSome stands (λ broker. broker ≡ b)) old new
+pub here : (stands : ℕ → Image → Ledger → Kept → Type 0) (b : Broker) (old new : Disk) → Leaves (StandsForBroker stands b) old new → Leaves (StandsForSome stands (λ broker. broker ≡ b)) old new
 here stands b old new leaves = weaken _ _ old new leaves (λ files is. (b, refl, is))
 
 -- ---- another topic
@@ -64,9 +64,9 @@ undisturbed_else area other P old new honest differ w = record {
 elsewhere : (number other : ℕ) (P : Image → Type 0) (old new : Disk) → other ≢ number → new.honest → Within (OfTopic number) P old new → Undisturbed (OfTopic other) old new
 elsewhere number other P old new differ honest w = undisturbed_else (OfTopic number) (OfTopic other) P old new honest (λ f own. apart number other (λ e. differ (sym e)) f own) w
 
-module _ (stands : ℕ → Image → Entries → Kept → Type 0) (local : (t : ℕ) (a b : Image) (ledger : Entries) (k : Kept) → Agree (OfTopic t) a b → stands t a ledger k → stands t b ledger k) where
+module _ (stands : ℕ → Image → Ledger → Kept → Type 0) (local : (t : ℕ) (a b : Image) (ledger : Ledger) (k : Kept) → Agree (OfTopic t) a b → stands t a ledger k → stands t b ledger k) where
   -- files that agree stand for the same
-  pub same_files : (t : ℕ) (P : Entries → Kept → Type 0) (a b : Image) → Agree (OfTopic t) a b → StandsFor (stands t) P a → StandsFor (stands t) P b
+  pub same_files : (t : ℕ) (P : Ledger → Kept → Type 0) (a b : Image) → Agree (OfTopic t) a b → StandsFor (stands t) P a → StandsFor (stands t) P b
   same_files t P a b agree is = record { ledger = is.ledger; kept = is.kept; is_left = is.is_left; stands = local t a b is.ledger is.kept agree is.stands }
 
   holds_still : (phase : Phase) (t : Topic) (v : StoreView) → AreLaws stands v → (old new : Disk) → Undisturbed (OfTopic v.topic) old new → Holds phase t v old → Holds phase t v new
@@ -221,12 +221,12 @@ settled_still catalog names old new u x = record {
   left = λ c may. let d = u.left c may in holds_local catalog d.0 c names d.2 (x.left d.0 d.1);
 }
 
-module _ (stands : ℕ → Image → Entries → Kept → Type 0) (local : (t : ℕ) (a b : Image) (ledger : Entries) (k : Kept) → Agree (OfTopic t) a b → stands t a ledger k → stands t b ledger k) where
+module _ (stands : ℕ → Image → Ledger → Kept → Type 0) (local : (t : ℕ) (a b : Image) (ledger : Ledger) (k : Kept) → Agree (OfTopic t) a b → stands t a ledger k → stands t b ledger k) where
   pub names_moved : (doubt : Option (List ℕ)) (b : Broker) (a c : Image) → Agree Own a c → Agree (OfTopic (length b.topics)) a c → NamesLeft stands doubt b a → NamesLeft stands doubt b c
   names_moved None b a c same next is = own_file b.per_ledger a c b.names same is
   names_moved (Some name) b a c same next is = ⊎_elim
       (λ without. inl (own_file b.per_ledger a c b.names same without))
-      (λ more. inr (own_file b.per_ledger a c (b.names ++ name ∷ []) same more.0, local (length b.topics) a c [] map_of.empty next more.1))
+      (λ more. inr (own_file b.per_ledger a c (b.names ++ name ∷ []) same more.0, local (length b.topics) a c (whole []) map_of.empty next more.1))
       is
 
 module _ {T S : Type 0} {store : StoreMembers T} where
@@ -237,7 +237,7 @@ module _ {T S : Type 0} {store : StoreMembers T} where
   pub of_number : (t : Topics T S store) (number : ℕ) (h : Held T store) → slice_get t.held.items number ≡ Some h → (P : ℕ → Type 0) → P (view_in h).topic → P number
   of_number t number h was P is = subst P (t.numbered number h was).0 is
 
-  pub of_number_within : (t : Topics T S store) (number : ℕ) (h : Held T store) → slice_get t.held.items number ≡ Some h → (P : Entries → Kept → Type 0) (d0 d1 : Disk)
+  pub of_number_within : (t : Topics T S store) (number : ℕ) (h : Held T store) → slice_get t.held.items number ≡ Some h → (P : Ledger → Kept → Type 0) (d0 d1 : Disk)
       → Within (OfTopic (view_in h).topic) (StandsFor (store.stands (view_in h).topic) P) d0 d1 → Within (OfTopic number) (StandsFor (store.stands number) P) d0 d1
   of_number_within t number h was P d0 d1 w = of_number t number h was (λ i. Within (OfTopic i) (StandsFor (store.stands i) P) d0 d1) w
 
@@ -254,7 +254,7 @@ module _ {T S : Type 0} {store : StoreMembers T} where
       subst (λ (ts : List Topic). Leaves (StandsForBroker store.stands (over (broker_of t) ts)) (disk t.shelf) (disk t.shelf))
       (sym (set_beyond (broker_of t).topics number amid (λ low. high (omega (arith, low, count_is t))))) (untouched disk t t.shelf s refl)
 
-  module _ (disk : S → Disk) (laws : (s : T) → AreLaws store.stands (store.view s)) (local : (k : ℕ) (a b : Image) (ledger : Entries) (kept : Kept) → Agree (OfTopic k) a b → store.stands k a ledger kept → store.stands k b ledger kept)
+  module _ (disk : S → Disk) (laws : (s : T) → AreLaws store.stands (store.view s)) (local : (k : ℕ) (a b : Image) (ledger : Ledger) (kept : Kept) → Agree (OfTopic k) a b → store.stands k a ledger kept → store.stands k b ledger kept)
       (t : Topics T S store) (number : ℕ) (low : number < length t.held.items) (h next : Held T store) (was : slice_get t.held.items number ≡ Some h) where
     -- Each topic stands behind a call that worked on the files of this one.
     pub stand_then : (P : Image → Type 0) (d : Disk) → Within (OfTopic number) P (disk t.shelf) d → HeldStands next d → TopicsStand disk t → (j : ℕ) (x : Held T store) → slice_get (slice_set t.held.items number next) j ≡ Some x → HeldStands x d

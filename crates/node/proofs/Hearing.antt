@@ -3,6 +3,7 @@ use Rattle.std.proofs.Common.{◌≡◌, ◌⊎◌, inl, inr, ◌∙◌, ℕ, na
 use Rattle.std.proofs.lemmas.Bool.{eqb-true, eq-eqb}
 use Rattle.std.proofs.lemmas.Grind.{flat_map-append}
 use Rattle.std.specs.List.{AllByRecursion}
+use Rattle.managed_ledger.specs.Entries.{Ledger}
 use Rattle.topic_core.specs.declared.dispatch.Outgoing.{Outgoing}
 use Rattle.topic_core.specs.State.{Topic}
 use Rattle.session.specs.Broker.{Broker, topic_at}
@@ -106,7 +107,7 @@ module _ (Vouches : ℕ → Handed → Type 0) (who : ℕ) where
       (all_vouched more at_once (λ other. behind (nat_eq number other) other handed (from_topic other more) (each other)))
 
 -- what is found and delivered, each by itself
-module _ (sends : List Sent) (ledger : List (List ℕ)) (old : Topic) (moves : List Move) where
+module _ (sends : List Sent) (ledger : Ledger) (old : Topic) (moves : List Move) where
   each_vouched : (hs : List Handed) → FindsEach sends ledger hs → DeliversEach old moves ledger hs → AllByRecursion (λ h. Finds sends ledger h × Delivers old moves ledger h) hs
   each_vouched [] found delivered = tt
   each_vouched (h ∷ hs) found delivered = ((found.0, delivered.0), each_vouched hs found.1 delivered.1)

@@ -8,7 +8,7 @@ use Rattle.disk.specs.Contents.{Settled as SettledIn, BeforeOrAfter}
 use Rattle.disk.specs.Moments.{joins, weaken}
 use Rattle.disk.specs.Areas.{OfTopic, Agree, Within, apart}
 use Rattle.disk.specs.declared.file_id.FileId.{FileId}
-use Rattle.managed_ledger.specs.Entries.{Entries}
+use Rattle.managed_ledger.specs.Entries.{Ledger, whole}
 use Rattle.records.specs.Maps.{Kept}
 use Rattle.topic_stores.specs.declared.store.TopicStore.{Ghosts as StoreMembers}
 use Rattle.topic_stores.specs.Views.{AreLaws}
@@ -66,7 +66,7 @@ some_of None is = absurd (true≢false (sym is))
 some_of (Some x) is = (x, refl)
 
 -- a fresh topic leaves nothing in doubt
-pub fresh_only : (n : ℕ) (l : Entries) (k : Kept) → IsLeft (fresh n) l k → (l ≡ []) × (k ≡ map_of.empty)
+pub fresh_only : (n : ℕ) (l : Ledger) (k : Kept) → IsLeft (fresh n) l k → (l ≡ whole []) × (k ≡ map_of.empty)
 fresh_only n l k (inl is) = is
 fresh_only n l k (inr (inl is)) = is
 fresh_only n l k (inr (inr is)) = is
@@ -81,7 +81,7 @@ same_parts {n} {n'} {u} {u'} {ns} {ns'} {d} {d'} {ts} {ts'} e0 e1 e2 e3 e4 =
 
 -- ---- files of a broker
 
-module _ (stands : ℕ → Image → Entries → Kept → Type 0) (local : (t : ℕ) (a b : Image) (ledger : Entries) (k : Kept) → Agree (OfTopic t) a b → stands t a ledger k → stands t b ledger k) where
+module _ (stands : ℕ → Image → Ledger → Kept → Type 0) (local : (t : ℕ) (a b : Image) (ledger : Ledger) (k : Kept) → Agree (OfTopic t) a b → stands t a ledger k → stands t b ledger k) where
   -- the topics stand where their files are left alone
   topics_moved : (b : Broker) (a c : Image) → ((j : ℕ) → j < length b.topics → Agree (OfTopic j) a c) → ((j : ℕ) (t : Topic) → slice_get b.topics j ≡ Some t → StandsFor (stands j) (IsLeft t) a)
       → (j : ℕ) (t : Topic) → slice_get b.topics j ≡ Some t → StandsFor (stands j) (IsLeft t) c
@@ -97,7 +97,7 @@ module _ (stands : ℕ → Image → Entries → Kept → Type 0) (local : (t : 
 
   -- a name may have been added, of a topic whose files stand for a fresh one
   pub broker_doubts : (b : Broker) (name : List ℕ) (a c : Image) → ((j : ℕ) → j < length b.topics → Agree (OfTopic j) a c) → StandsForBroker stands b a
-      → BeforeOrAfter (NamesStand b.per_ledger) b.names (b.names ++ name ∷ []) c → stands (length b.topics) c [] map_of.empty → StandsForSome stands (λ broker. Gains b broker) c
+      → BeforeOrAfter (NamesStand b.per_ledger) b.names (b.names ++ name ∷ []) c → stands (length b.topics) c (whole []) map_of.empty → StandsForSome stands (λ broker. Gains b broker) c
   broker_doubts b name a c same s either new = (
     doubting b name,
     record { more = []; doubt = Some name; gained = doubting_is b name },
@@ -137,12 +137,12 @@ module _ {T : Type 0} {store : StoreMembers T} where
       ∙ one_more_at (map (λ (x : Held T store). stage_of x.flight) xs) number Resting
 
   -- the files of a fresh topic that is held stand for one
-  pub fresh_files : (h : Held T store) (n number : ℕ) (d : Disk) → h.core ≡ fresh n → (view_in h).topic ≡ number → HeldStands h d → (files : Image) → d.may_leave files → store.stands number files [] map_of.empty
+  pub fresh_files : (h : Held T store) (n number : ℕ) (d : Disk) → h.core ≡ fresh n → (view_in h).topic ≡ number → HeldStands h d → (files : Image) → d.may_leave files → store.stands number files (whole []) map_of.empty
   fresh_files h n number d core topic here files may =
       let s = here.left files may in
       let none = fresh_only n s.ledger s.kept (subst (λ (u : Topic). IsLeft u s.ledger s.kept) core s.is_left) in
-      subst (λ k. store.stands k files [] map_of.empty) topic
-      (subst (λ (l : Entries). store.stands (view_in h).topic files l map_of.empty) none.0 (subst (λ k. store.stands (view_in h).topic files s.ledger k) none.1 s.stands))
+      subst (λ k. store.stands k files (whole []) map_of.empty) topic
+      (subst (λ (l : Ledger). store.stands (view_in h).topic files l map_of.empty) none.0 (subst (λ k. store.stands (view_in h).topic files s.ledger k) none.1 s.stands))
 
   pub numbered_push : (xs : List (Held T store)) (h : Held T store) (n : ℕ) → AreNumbered n xs → IsNumbered n (length xs) h → AreNumbered n (xs ++ h ∷ [])
   numbered_push xs h n each here j x is = ⊎_elim
@@ -182,7 +182,7 @@ module _ {T S : Type 0} {store : StoreMembers T} (disk : S → Disk) where
             (subst (λ (x : S). (disk t.shelf).faults ≤ (disk x).faults) (sym shelf) (omega arith)),
       )
 
-  module _ (laws : (s : T) → AreLaws store.stands (store.view s)) (local : (k : ℕ) (a b : Image) (ledger : Entries) (kept : Kept) → Agree (OfTopic k) a b → store.stands k a ledger kept → store.stands k b ledger kept) where
+  module _ (laws : (s : T) → AreLaws store.stands (store.view s)) (local : (k : ℕ) (a b : Image) (ledger : Ledger) (kept : Kept) → Agree (OfTopic k) a b → store.stands k a ledger kept → store.stands k b ledger kept) where
     -- a topic stands where its files are left alone
     pub held_still : (h : Held T store) (number : ℕ) (d0 d1 : Disk) → (view_in h).topic ≡ number → Undisturbed (OfTopic number) d0 d1 → HeldStands h d0 → HeldStands h d1
     held_still h number d0 d1 is u s = standing_still store.stands local (phase_in h) h.core (view_in h) (laws h.stores) d0 d1 (subst (λ k. Undisturbed (OfTopic k) d0 d1) (sym is) u) s
@@ -299,7 +299,7 @@ module _ {T S : Type 0} {store : StoreMembers T} (disk : S → Disk) where
         -- ---- and its name is added
 
         module _ (h : Held T store) (fresh_core : h.core ≡ fresh (per_ledger t.catalog)) (rests : h.flight ≡ None) (numbered : (view_in h).topic ≡ length t.held.items) (here : HeldStands h d1)
-            (files_new : (files : Image) → d1.may_leave files → store.stands (length t.held.items) files [] map_of.empty)
+            (files_new : (files : Image) → d1.may_leave files → store.stands (length t.held.items) files (whole []) map_of.empty)
             (name : List ℕ) (new : Topics T S store) (kept' : Counted d1 (disk new.shelf)) (w' : Within Own (BeforeOrAfter (NamesStand (per_ledger t.catalog)) (remembered t.catalog) (remembered t.catalog ++ name ∷ [])) d1 (disk new.shelf)) where
           d2_honest : (disk new.shelf).honest
           d2_honest = kept'.honest (kept.honest s.honest)
@@ -314,13 +314,13 @@ module _ {T S : Type 0} {store : StoreMembers T} (disk : S → Disk) where
           added_here = held_still h (length t.held.items) d1 (disk new.shelf) numbered (alone (length t.held.items)) here
 
           -- the files of the new topic, after it
-          added_files : (from files : Image) → d1.may_leave from → ((f : FileId) → ¬ Own f → files f ≡ from f) → store.stands (length t.held.items) files [] map_of.empty
-          added_files from files may same = local (length t.held.items) from files [] map_of.empty (λ f of. same f (not_own (length t.held.items) f of)) (files_new from may)
+          added_files : (from files : Image) → d1.may_leave from → ((f : FileId) → ¬ Own f → files f ≡ from f) → store.stands (length t.held.items) files (whole []) map_of.empty
+          added_files from files may same = local (length t.held.items) from files (whole []) map_of.empty (λ f of. same f (not_own (length t.held.items) f of)) (files_new from may)
 
           added_moments : Leaves (StandsForSome store.stands (λ broker. Gains (broker_of t) broker)) (disk t.shelf) (disk new.shelf)
           added_moments = joins _ _ _ (disk t.shelf) d1 (disk new.shelf) some_moments w'.any_moment (λ files is. is) (λ files out.
               broker_doubts store.stands local (broker_of t) name out.from files (λ j low f of. out.elsewhere f (not_own j f of)) (made_moments.now out.from out.left) out.own
-              (subst (λ n. store.stands n files [] map_of.empty) (sym (count_is t)) (added_files out.from files out.left out.elsewhere)))
+              (subst (λ n. store.stands n files (whole []) map_of.empty) (sym (count_is t)) (added_files out.from files out.left out.elsewhere)))
 
           -- the device failed in it: the name is in doubt
           pub worked_doubting : new.held.items ≡ t.held.items → broker_of new ≡ doubting (broker_of t) name → failed new.catalog ≡ true → Worked disk t new
@@ -330,7 +330,7 @@ module _ {T S : Type 0} {store : StoreMembers T} (disk : S → Disk) where
                 honest = d2_honest;
                 each = subst (λ (l : List (Held T store)). (j : ℕ) (x : Held T store) → slice_get l j ≡ Some x → HeldStands x (disk new.shelf)) (sym items) added_each;
                 names = λ files may. subst (λ (b : Broker). NamesLeft store.stands b.doubtful b files) (sym broker)
-                    (let out = w'.any_moment.now files may in ⊎_elim (λ without. inl without) (λ more. inr (more, subst (λ n. store.stands n files [] map_of.empty) (sym (count_is t)) (added_files out.from files out.left out.elsewhere))) out.own);
+                    (let out = w'.any_moment.now files may in ⊎_elim (λ without. inl without) (λ more. inr (more, subst (λ n. store.stands n files (whole []) map_of.empty) (sym (count_is t)) (added_files out.from files out.left out.elsewhere))) out.own);
                 settled = λ works'. absurd (true≢false (sym fails ∙ works'));
               })
               (record { more = []; doubt = Some name; gained = broker ∙ doubting_is (broker_of t) name }) added_moments

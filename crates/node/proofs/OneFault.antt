@@ -3,13 +3,13 @@ use Rattle.std.proofs.Common.{◌≡◌, inl, inr, ⊎_elim, ℕ, ◌<◌, lengt
 use Rattle.std.proofs.lemmas.Bool.{cases_lt}
 use Rattle.disk.specs.Disk.{Image}
 use Rattle.gated_log.specs.declared.refusal.Refusal.{Refusal}
-use Rattle.managed_ledger.specs.Entries.{Entries}
+use Rattle.managed_ledger.specs.Entries.{Ledger}
 use Rattle.records.specs.Maps.{Kept}
 use Rattle.catalog.specs.Laws.{one_fault, no_fault}
 use Rattle.node.specs.Opening.{IsTopicFault, HaveOneFault}
 
-module _ (stands : ℕ → Image → Entries → Kept → Type 0) (faulty : ℕ → Image → Refusal → Type 0) (one : (t : ℕ) (files : Image) (one other : Refusal) → faulty t files one → faulty t files other → one ≡ other)
-    (sound : (t : ℕ) (files : Image) (ledger : Entries) (k : Kept) (refusal : Refusal) → stands t files ledger k → ¬ faulty t files refusal) where
+module _ (stands : ℕ → Image → Ledger → Kept → Type 0) (faulty : ℕ → Image → Refusal → Type 0) (one : (t : ℕ) (files : Image) (one other : Refusal) → faulty t files one → faulty t files other → one ≡ other)
+    (sound : (t : ℕ) (files : Image) (ledger : Ledger) (k : Kept) (refusal : Refusal) → stands t files ledger k → ¬ faulty t files refusal) where
   -- no topic before the first one with a fault has one
   not_before : (n m : ℕ) (files : Image) (a b : Refusal) (x : IsTopicFault stands faulty n files a) (y : IsTopicFault stands faulty m files b) → ¬ (x.number < y.number)
   not_before n m files a b x y = λ low. let s = y.first x.number low in sound x.number files s.0 s.1 a s.2 x.fault

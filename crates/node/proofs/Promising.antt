@@ -4,6 +4,7 @@ use Rattle.std.specs.List.{AllByRecursion, find}
 use Rattle.commands.specs.declared.reply.Reply.{Reply}
 use Rattle.commands.specs.declared.reply.Reply.TheVariants.{ProducerSuccess, Success, Error, AckResponse}
 use Rattle.commands.specs.declared.server_error.ServerError.{ServerError}
+use Rattle.managed_ledger.specs.Entries.{Ledger}
 use Rattle.records.specs.declared.record.Record.{Record}
 use Rattle.records.specs.Maps.{Kept}
 use Rattle.records.specs.Records.{after_all, AreFormed}
@@ -251,7 +252,7 @@ abbrev HoldsAt : Topic → Word → Type 0
 HoldsAt t word = HoldsIn t t.kept word
 
 -- what a crash leaves is what a front of the changes makes of the durable subscriptions
-left_front : (t : Topic) (ledger : List (List ℕ)) (kept : Kept) → IsLeft t ledger kept → (n : ℕ) × (kept ≡ after_all (take n t.subs.changes) t.kept)
+left_front : (t : Topic) (ledger : Ledger) (kept : Kept) → IsLeft t ledger kept → (n : ℕ) × (kept ≡ after_all (take n t.subs.changes) t.kept)
 left_front t ledger kept (inl s) = (0, s.1)
 left_front t ledger kept (inr (inl s)) = (0, s.1)
 left_front t ledger kept (inr (inr s)) = (changes_of t.doubt, s.1)

@@ -3,7 +3,7 @@ use Rattle.std.proofs.Common.{◌≡◌, inl, inr, List, [], ◌∷◌, ◌++◌
 use Rattle.std.proofs.Math.Seq.{take-append_seam}
 use Rattle.disk.specs.Disk.{Disk, Image, Leaves}
 use Rattle.disk.specs.Moments.{joins, starts}
-use Rattle.managed_ledger.specs.Entries.{Entries}
+use Rattle.managed_ledger.specs.Entries.{Ledger}
 use Rattle.records.specs.Maps.{Kept}
 use Rattle.node.specs.State.{State}
 use Rattle.node.specs.Steps.{Amid}
@@ -21,10 +21,10 @@ pub front_of : {A B : Type 0} (all done rest : List A) (answers : List B) → al
 front_of all done rest answers is same = ap (λ n. take n all) same ∙ ap (λ xs. take (length done) xs) is ∙ take-append_seam done rest
 
 -- the files stand for what a crash leaves of a broker that a front of the events reaches
-abbrev pub Crashed : (ℕ → Image → Entries → Kept → Type 0) → State → List Event → Image → Type 0
+abbrev pub Crashed : (ℕ → Image → Ledger → Kept → Type 0) → State → List Event → Image → Type 0
 Crashed files_stand old events files = StandsForSome files_stand (λ broker. Reached old events broker) files
 
-module _ (files_stand : ℕ → Image → Entries → Kept → Type 0) (old : State) (events : List Event) where
+module _ (files_stand : ℕ → Image → Ledger → Kept → Type 0) (old : State) (events : List Event) where
   -- before the first event
   pub crash_first : (disk : Disk) → ((files : Image) → disk.may_leave files → StandsForBroker files_stand old.broker files) → Leaves (Crashed files_stand old events) disk disk
   crash_first disk left = starts (Crashed files_stand old events) disk (λ files may.

@@ -2,7 +2,7 @@
 use Rattle.std.proofs.Common.{◌≡◌, ◌⊎◌, inl, ⊎_elim, ℕ, ◌≤◌, refl, subst, sym, Bool, false, [], arith}
 use Rattle.disk.specs.Disk.{Disk, Image, Same, Advances, Leaves, Stays, Kept, Failed}
 use Rattle.disk.specs.Moments.{starts, call, joins, weaken}
-use Rattle.managed_ledger.specs.Entries.{Entries}
+use Rattle.managed_ledger.specs.Entries.{Ledger}
 use Rattle.records.specs.Maps.{Kept as Cursors}
 use Rattle.topic_stores.specs.declared.store.TopicStore.{Ghosts as StoreMembers}
 use Rattle.gated_log.specs.declared.refusal.Refusal.{Refusal}
@@ -37,7 +37,7 @@ refused_opening old before disk why output was more cause is =
     cause)
 
 -- a device that has failed more often is the device of the same files
-pub rests_later : (stands : ℕ → Image → Entries → Cursors → Type 0) (old : State) (disk : Disk) → AtRest stands old disk → AtRest stands (record old { faults = disk.faults }) disk
+pub rests_later : (stands : ℕ → Image → Ledger → Cursors → Type 0) (old : State) (disk : Disk) → AtRest stands old disk → AtRest stands (record old { faults = disk.faults }) disk
 rests_later stands old disk r = record { honest = r.honest; left = r.left; faults = omega arith }
 
 -- a device in which nothing changed
@@ -49,7 +49,7 @@ armed old new stays = record {
 }
 
 -- what a crash leaves is left by the next one
-pub after_crash : (stands : ℕ → Image → Entries → Cursors → Type 0) (s : State) (old new : Disk) → AtRest stands s old → Advances Same old new → Kept old new → AtRest stands s new
+pub after_crash : (stands : ℕ → Image → Ledger → Cursors → Type 0) (s : State) (old new : Disk) → AtRest stands s old → Advances Same old new → Kept old new → AtRest stands s new
 after_crash stands s old new r time kept = record {
   honest = kept.honest r.honest;
   left = λ c may. let was = time.crash c may in subst (λ (i : Image). StandsForBroker stands s.broker i) (sym was.2) (r.left was.0 was.1);
@@ -57,7 +57,7 @@ after_crash stands s old new r time kept = record {
 }
 
 -- at each moment of a crash and of the opening after it
-module _ (stands : ℕ → Image → Entries → Cursors → Type 0) (s : State) where
+module _ (stands : ℕ → Image → Ledger → Cursors → Type 0) (s : State) where
   abbrev Left : Image → Type 0
   Left files = StandsForBroker stands s.broker files
 
@@ -69,7 +69,7 @@ module _ (stands : ℕ → Image → Entries → Cursors → Type 0) (s : State)
       joins Left Left Left old mid new (call Left Same old mid time (λ c was. subst Left (sym was.2) (r.left was.0 was.1))) leaves (λ c left. left) (λ c left. left)
 
 -- a node that is down leaves the device alone
-down_leaves : (stands : ℕ → Image → Entries → Cursors → Type 0) (life : Life) (event : Event) (d : Disk) → AtRest stands life.state d → life.up ≡ false
+down_leaves : (stands : ℕ → Image → Ledger → Cursors → Type 0) (life : Life) (event : Event) (d : Disk) → AtRest stands life.state d → life.up ≡ false
     → Leaves (StandsForSome stands (λ broker. AmidEvent life.up life.state.broker event broker)) d d
 down_leaves stands life event d r down =
     subst (λ (up : Bool). Leaves (StandsForSome stands (λ broker. AmidEvent up life.state.broker event broker)) d d) (sym down)

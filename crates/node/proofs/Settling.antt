@@ -6,10 +6,10 @@ use Rattle.std.proofs.lemmas.List.{length-append}
 use Rattle.disk.specs.Disk.{Disk, Image}
 use Rattle.disk.specs.Contents.{Settled as SettledIn}
 use Rattle.gated_log.specs.declared.refusal.Refusal.{Refusal}
-use Rattle.managed_ledger.specs.Entries.{Entries}
+use Rattle.managed_ledger.specs.Entries.{Ledger, end_of, whole}
 use Rattle.records.specs.Maps.{Kept}
 use Rattle.topic_stores.specs.declared.store.TopicStore.{Ghosts as StoreMembers}
-use Rattle.topic_core.specs.Slots.{slot_of_entry}
+use Rattle.topic_core.specs.Slots.{slots_of}
 use Rattle.topic_core.specs.State.{Topic, opened}
 use Rattle.topic_core.specs.Crashes.{IsLeft}
 use Rattle.catalog.specs.declared.catalog.Catalog.{Catalog}
@@ -51,8 +51,8 @@ pub one_more_name : (again names held : ℕ) → (again ≡ names) ⊎ (again �
 one_more_name again names held (inl is) named more = absurd (omega (arith, is, named, more))
 one_more_name again names held (inr is) named more = omega (arith, is, named)
 
-pub opened_so : (core : Topic) (n m : ℕ) → n ≡ m → core ≡ opened n core.ledger (map slot_of_entry core.ledger) core.kept → core ≡ opened m core.ledger (map slot_of_entry core.ledger) core.kept
-opened_so core n m is opens = opens ∙ ap (λ k. opened k core.ledger (map slot_of_entry core.ledger) core.kept) is
+pub opened_so : (core : Topic) (n m : ℕ) → n ≡ m → core ≡ opened n core.ledger (slots_of core.ledger) core.kept → core ≡ opened m core.ledger (slots_of core.ledger) core.kept
+opened_so core n m is opens = opens ∙ ap (λ k. opened k core.ledger (slots_of core.ledger) core.kept) is
 
 module _ {T S : Type 0} {store : StoreMembers T} (disk : S → Disk) (t : Topics T S store) (s : TopicsStand disk t) (lawful : (disk t.shelf).may_leave (disk t.shelf).seen) where
   -- the catalog's file has no fault
@@ -80,21 +80,21 @@ module _ {T S : Type 0} {store : StoreMembers T} (disk : S → Disk) (t : Topics
         same_parts
         f.per_ledger refl (f.names_are ∙ ap (λ (b : Broker). b.names) is) refl refl
 
-    module _ (one : (k : ℕ) (files : Image) (one other : Entries) (i j : Kept) → length one ≤ 2 ^ 62 → store.stands k files one i → store.stands k files other j → (one ≡ other) × (i ≡ j))
+    module _ (one : (k : ℕ) (files : Image) (one other : Ledger) (i j : Kept) → end_of one ≤ 2 ^ 62 → store.stands k files one i → store.stands k files other j → (one ≡ other) × (i ≡ j))
         (more : length (remembered again) ≡ length t.held.items + 1) where
       abbrev pub with_name : (name : List ℕ) × (t.doubtful ≡ Some name) × (f.settled ≡ made (sure (broker_of t)) name)
       with_name = settled_with t.doubtful (broker_of t) f.settled doubts f.settles (omega (arith, f.count, more, count_is t))
 
       -- the topic of the name is a fresh one
-      pub fresh_there : (core : Topic) → core ≡ opened (per_ledger again) core.ledger (map slot_of_entry core.ledger) core.kept → length core.ledger ≤ 2 ^ 62 → store.stands (length t.held.items) d1.seen core.ledger core.kept → core ≡ fresh (per_ledger t.catalog)
+      pub fresh_there : (core : Topic) → core ≡ opened (per_ledger again) core.ledger (slots_of core.ledger) core.kept → end_of core.ledger ≤ 2 ^ 62 → store.stands (length t.held.items) d1.seen core.ledger core.kept → core ≡ fresh (per_ledger t.catalog)
       fresh_there core is few here =
           let n = length t.held.items in
           let x = f.topics n (omega (arith, more)) in
           let left = subst (λ (u : Topic). IsLeft u x.ledger x.kept) (get_or_past (broker_of t).topics n (fresh (per_ledger t.catalog)) (omega (arith, count_is t))) x.is_left in
           let none = fresh_only (per_ledger t.catalog) x.ledger x.kept left in
           let same = one n (disk t.shelf).seen core.ledger x.ledger core.kept x.kept few (subst (λ (i : Image). store.stands n i core.ledger core.kept) seen here) x.stands in
-          is ∙ ap (λ m. opened m core.ledger (map slot_of_entry core.ledger) core.kept) f.per_ledger
-          ∙ ap (λ (l : Entries). opened (per_ledger t.catalog) l (map slot_of_entry l) core.kept) (same.0 ∙ none.0) ∙ ap (λ k. opened (per_ledger t.catalog) [] [] k) (same.1 ∙ none.1)
+          is ∙ ap (λ m. opened m core.ledger (slots_of core.ledger) core.kept) f.per_ledger
+          ∙ ap (λ (l : Ledger). opened (per_ledger t.catalog) l (slots_of l) core.kept) (same.0 ∙ none.0) ∙ ap (λ k. opened (per_ledger t.catalog) (whole []) [] k) (same.1 ∙ none.1)
 
       abbrev pub name_there : List ℕ
       name_there = with_name.0
@@ -110,7 +110,7 @@ module _ {T S : Type 0} {store : StoreMembers T} (disk : S → Disk) (t : Topics
       settles_with new is = subst (λ d. Settles d (broker_of t) new) (sym with_name.1) (inr is)
 
     -- what the files of the next topic stand for
-    pub no_topic_fault : (faulty : ℕ → Image → Refusal → Type 0) → ((k : ℕ) (files : Image) (ledger : Entries) (kept : Kept) (why : Refusal) → store.stands k files ledger kept → ¬ faulty k files why)
+    pub no_topic_fault : (faulty : ℕ → Image → Refusal → Type 0) → ((k : ℕ) (files : Image) (ledger : Ledger) (kept : Kept) (why : Refusal) → store.stands k files ledger kept → ¬ faulty k files why)
         → length t.held.items < length (remembered again) → (why : Refusal) → ¬ faulty (length t.held.items) d1.seen why
     no_topic_fault faulty sound low why =
         let x = f.topics (length t.held.items) low in

@@ -3,6 +3,7 @@ use Rattle.std.proofs.Common.{◌≡◌, ◌∙◌, ℕ, ◌<◌, Bool, true, fa
 use Rattle.std.specs.Ordering.{nat_cmp}
 use Rattle.std.specs.Cmp.Lexicographic.{slice_cmp}
 use Rattle.std.specs.FinMap as map
+use Rattle.managed_ledger.specs.Entries.{whole}
 use Rattle.topic_core.specs.State.{Topic}
 use Rattle.reply_queues.specs.Replies.{due_to}
 use Rattle.topic_core.specs.Steps.{Collects, collected}
@@ -84,8 +85,8 @@ durable_empty = record {
 
 pub fresh_sound : (n : ℕ) → 0 < n → IsSoundTopic (fresh n)
 fresh_sound n some = record {
-  state = sound-opened n [] [] map.empty some (omega arith) refl durable_empty;
-  receipts = receipts-opened n [] [] map.empty;
+  state = sound-opened n (whole []) [] map.empty some (omega arith) refl durable_empty;
+  receipts = receipts-opened n (whole []) [] map.empty;
   counted = refl;
   kept = are_kept.slot 0 map.empty (subscriptions.opened map.empty) [] (are_kept.opened 0 map.empty durable_empty);
   slots = refl;

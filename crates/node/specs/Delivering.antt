@@ -1,5 +1,6 @@
 -- Which messages go out.
-use Rattle.std.specs.Prelude.{◌≡◌, ℕ, true, Some, List, [], ◌∷◌, ◌++◌, slice_get}
+use Rattle.std.specs.Prelude.{◌≡◌, ℕ, true, Some, List, [], ◌∷◌, ◌++◌}
+use Rattle.managed_ledger.specs.Entries.{Ledger, entry_at}
 use Rattle.topic_core.specs.State.{Topic}
 use Rattle.topic_core.specs.Laws.{IsAdmitted}
 use Rattle.node.specs.Moves.{Handed, outgoing, Move, Deliver, Moves}
@@ -7,7 +8,7 @@ use Rattle.node.specs.Telling.{is_message}
 
 -- a message went out on moves: there its position was open and admitted to the session's consumer, and its entry, which
 -- stood in the ledger, stands in it still
-pub record IsDelivered (old : Topic) (moves : List Move) (ledger : List (List ℕ)) (handed : Handed) : Type 0 where
+pub record IsDelivered (old : Topic) (moves : List Move) (ledger : Ledger) (handed : Handed) : Type 0 where
   pub consumer : ℕ
   pub before : List Move
   pub after : List Move
@@ -16,12 +17,12 @@ pub record IsDelivered (old : Topic) (moves : List Move) (ledger : List (List �
   pub steps : Moves old before there
   pub position : ℕ
   pub admitted : IsAdmitted there handed.session consumer (outgoing handed) position
-  pub stands : slice_get ledger position ≡ Some handed.entry
+  pub stands : entry_at ledger position ≡ Some handed.entry
 
 -- what is a message was delivered
-abbrev pub Delivers : Topic → List Move → List (List ℕ) → Handed → Type 0
+abbrev pub Delivers : Topic → List Move → Ledger → Handed → Type 0
 Delivers old moves ledger handed = is_message handed.reply ≡ true → IsDelivered old moves ledger handed
 
-abbrev pub DeliversEach : Topic → List Move → List (List ℕ) → List Handed → Type 0
+abbrev pub DeliversEach : Topic → List Move → Ledger → List Handed → Type 0
 DeliversEach old moves ledger [] = Unit {0}
 DeliversEach old moves ledger (handed ∷ more) = Delivers old moves ledger handed × DeliversEach old moves ledger more

@@ -11,7 +11,7 @@ use Rattle.topic_core.specs.Standing.{Phase, Before, Written, Lost}
 use Rattle.session.specs.Broker.{topic_at}
 use Rattle.node.specs.State.{State, place_in}
 use Rattle.node.specs.Standing.{state_of, phase_in, Stands, AtRest, StandsForSome}
-use Rattle.managed_ledger.specs.Entries.{Entries}
+use Rattle.managed_ledger.specs.Entries.{Ledger, end_of}
 use Rattle.records.specs.Maps.{Kept}
 use Rattle.node.specs.Runs.{Life, AllowedRun}
 use Rattle.node.specs.Cuts.{Amidst}
@@ -29,7 +29,7 @@ use Rattle.node.specs.declared.power.Machine.TheVariants as machine
 -- what is told of the topic at a place: its name, how many entries its ledger has, and the statuses of its subscriptions
 abbrev pub StatusIn : Option ℕ → State → Option TopicStatus → Type 0
 StatusIn (Some number) state (Some status) =
-    (status.number ≡ number) × (slice_get state.broker.names number ≡ Some status.name) × (status.entries ≡ length (topic_at state.broker number).ledger) × AreStatuses (topic_at state.broker number).subs.subs status.subscriptions.items
+    (status.number ≡ number) × (slice_get state.broker.names number ≡ Some status.name) × (status.entries ≡ end_of (topic_at state.broker number).ledger) × AreStatuses (topic_at state.broker number).subs.subs status.subscriptions.items
 StatusIn (Some number) state None = ⊥
 StatusIn None state told = told ≡ None
 
@@ -54,7 +54,7 @@ SegmentsAt laid number held files (Some status) = (h : Held _ _) → slice_get h
 SegmentsAt laid number held files None = Unit {0}
 
 -- the files stand for what a crash leaves of a broker that a front of the happenings reaches, the first opening before them
-abbrev pub StandsAmidst : (ℕ → Image → Entries → Kept → Type 0) → State → List Happening → Image → Type 0
+abbrev pub StandsAmidst : (ℕ → Image → Ledger → Kept → Type 0) → State → List Happening → Image → Type 0
 StandsAmidst files_stand first happenings files =
     StandsForSome files_stand (λ broker. Amidst (record { up = false; state = first }) (happening.Crash ∷ happenings) broker) files
 

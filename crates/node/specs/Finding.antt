@@ -1,7 +1,8 @@
 -- What receipts promise, and where it is found.
-use Rattle.std.specs.Prelude.{◌≡◌, ◌≢◌, ◌≤◌, ℕ, true, Some, List, [], ◌∷◌, ◌++◌, length, slice_get}
+use Rattle.std.specs.Prelude.{◌≡◌, ◌≢◌, ◌≤◌, ℕ, true, Some, List, [], ◌∷◌, ◌++◌}
 use Rattle.std.specs.List.{AllByRecursion}
 use Rattle.commands.specs.declared.reply.Reply.TheVariants.{SendReceipt}
+use Rattle.managed_ledger.specs.Entries.{Ledger, end_of, entry_at, lengthened}
 use Rattle.topic_core.specs.declared.command.Answer.{Answer}
 use Rattle.topic_core.specs.declared.command.Answer.TheVariants.{Now, Later, Nothing, NoMemory}
 use Rattle.topic_core.specs.declared.command.Send.{Send}
@@ -70,29 +71,29 @@ pub record IsLatest (sends : List Sent) (send : Sent) : Type 0 where
   pub latest : AllByRecursion (λ (other : Sent). other.position ≢ send.position) after
 
 -- it is the receipt of the latest SEND for its position, to the session that sent, and the ledger has that SEND's entry there
-pub record IsFound (sends : List Sent) (ledger : List (List ℕ)) (handed : Handed) : Type 0 where
+pub record IsFound (sends : List Sent) (ledger : Ledger) (handed : Handed) : Type 0 where
   pub send : Sent
   pub sent : IsLatest sends send
   pub promised : handed ≡ send.receipt
-  pub stands : slice_get ledger send.position ≡ Some send.entry
+  pub stands : entry_at ledger send.position ≡ Some send.entry
 
 -- a reply that is a receipt is found
-abbrev pub Finds : List Sent → List (List ℕ) → Handed → Type 0
+abbrev pub Finds : List Sent → Ledger → Handed → Type 0
 Finds sends ledger handed = is_receipt handed.reply ≡ true → IsFound sends ledger handed
 
-abbrev pub FindsEach : List Sent → List (List ℕ) → List Handed → Type 0
+abbrev pub FindsEach : List Sent → Ledger → List Handed → Type 0
 FindsEach sends ledger [] = Unit {0}
 FindsEach sends ledger (handed ∷ more) = Finds sends ledger handed × FindsEach sends ledger more
 
 -- The ledger only grows, and each entry behind the old ones is that of the latest SEND for its position.
-pub record IsPublished (sends : List Sent) (old new : List (List ℕ)) : Type 0 where
+pub record IsPublished (sends : List Sent) (old new : Ledger) : Type 0 where
   pub more : List (List ℕ)
-  pub grown : new ≡ old ++ more
-  pub each : (i : ℕ) (entry : List ℕ) → length old ≤ i → slice_get new i ≡ Some entry → (send : Sent) × IsLatest sends send × (send.position ≡ i) × (send.entry ≡ entry)
+  pub grown : new ≡ lengthened old more
+  pub each : (i : ℕ) (entry : List ℕ) → end_of old ≤ i → entry_at new i ≡ Some entry → (send : Sent) × IsLatest sends send × (send.position ≡ i) × (send.entry ≡ entry)
 
 -- a topic that owes no reply, with no entry that waits and none in doubt, which counts its ledger
 pub record IsQuiet (t : Topic) : Type 0 where
   pub queues : t.queues ≡ []
   pub waiting : t.waiting ≡ []
   pub sure : entries_of t.doubt ≡ 0
-  pub counted : length t.ledger ≡ t.committed
+  pub counted : end_of t.ledger ≡ t.committed

@@ -3,7 +3,7 @@ use Rattle.std.proofs.Common.{◌≡◌, ℕ, Option, List, [], ◌++◌, map, r
 use Rattle.std.proofs.lemmas.List.{length-map, length-append}
 use Rattle.disk.specs.Disk.{Disk, Image}
 use Rattle.disk.specs.Moments.{joins, weaken}
-use Rattle.managed_ledger.specs.Entries.{Entries}
+use Rattle.managed_ledger.specs.Entries.{Ledger}
 use Rattle.records.specs.Maps.{Kept}
 use Rattle.topic_stores.specs.declared.store.TopicStore.{Ghosts as StoreMembers}
 use Rattle.topic_core.specs.State.{Topic}
@@ -51,7 +51,7 @@ formed_with b more doubt formed = record {
 }
 
 -- What a broker that has grown may gain, the one before it may.
-pub regained : (files_stand : ℕ → Image → Entries → Kept → Type 0) (a b : Broker) (files : Image) → IsFormed a → Grows a b → StandsForSome files_stand (λ broker. Gains b broker) files → StandsForSome files_stand (λ broker. Gains a broker) files
+pub regained : (files_stand : ℕ → Image → Ledger → Kept → Type 0) (a b : Broker) (files : Image) → IsFormed a → Grows a b → StandsForSome files_stand (λ broker. Gains b broker) files → StandsForSome files_stand (λ broker. Gains a broker) files
 regained files_stand a b files formed g is =
     let e = is.1 in
     let x = with_names b e.more e.doubt in

@@ -1,6 +1,7 @@
 -- What holds of every step and every run.
-use Rattle.std.specs.Prelude.{◌≡◌, ◌<◌, ◌≤◌, ℕ, ◌+◌, false, Option, List, length, map}
+use Rattle.std.specs.Prelude.{◌≡◌, ◌<◌, ◌≤◌, ℕ, ◌+◌, false, Option, List, map}
 use Rattle.std.specs.List.{AllByRecursion}
+use Rattle.managed_ledger.specs.Entries.{end_of}
 use Rattle.topic_core.specs.State.{Topic, receipts_due}
 use Rattle.topic_core.specs.Soundness.{IsSoundTopic}
 use Rattle.topic_core.specs.declared.dispatch.Outgoing.{Outgoing}
@@ -49,7 +50,7 @@ MovesPublish = (old : Topic) (moves : List Move) (new : Topic) (steps : Moves ol
 -- between two crashes the receipts that were told on moves from a sound topic, and those that are due, never outnumber the committed entries
 abbrev pub ReceiptsAreCovered : Type 0
 ReceiptsAreCovered = (old : Topic) (moves : List Move) (new : Topic) → Moves old moves new → AllByRecursion (λ move. is_crash move ≡ false) moves → IsSoundTopic old
-    → receipts_told (told_by moves) + receipts_due new.queues ≤ length new.ledger
+    → receipts_told (told_by moves) + receipts_due new.queues ≤ end_of new.ledger
 
 -- each receipt that was told on moves from a quiet topic is that of an accepted SEND, whose entry stands in the ledger
 abbrev pub ReceiptsAreFound : Type 0
@@ -80,7 +81,7 @@ pub record Account (old : Topic) (told : List Handed) (new : Topic) : Type 0 whe
   pub tells : told ≡ told_by moves
   pub sound : IsSoundTopic new
   pub published : IsPublished (sends_by old moves new steps) old.ledger new.ledger
-  pub covered : AllByRecursion (λ move. is_crash move ≡ false) moves → receipts_told told + receipts_due new.queues ≤ length new.ledger
+  pub covered : AllByRecursion (λ move. is_crash move ≡ false) moves → receipts_told told + receipts_due new.queues ≤ end_of new.ledger
   pub found : FindsEach (sends_by old moves new steps) new.ledger told
   pub word : WordIsKept old moves new steps
   pub delivered : DeliversEach old moves new.ledger told

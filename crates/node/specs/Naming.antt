@@ -1,6 +1,6 @@
 -- Names that a broker has, and gains.
 use Rattle.std.specs.Prelude.{◌≡◌, ℕ, Option, List, ◌++◌, length, map}
-use Rattle.managed_ledger.specs.Entries.{Entries}
+use Rattle.managed_ledger.specs.Entries.{Ledger}
 use Rattle.records.specs.Maps.{Kept}
 use Rattle.topic_core.specs.Crashes.{IsLeft}
 use Rattle.session.specs.Broker.{Broker, fresh, topic_at}
@@ -27,4 +27,4 @@ pub record Grows (old new : Broker) : Type 0 where
   pub service_url : new.service_url ≡ old.service_url
   pub more : List (List ℕ)
   pub names : new.names ≡ old.names ++ more
-  pub left : (number : ℕ) (ledger : Entries) (kept : Kept) → IsLeft (topic_at new number) ledger kept → IsLeft (topic_at old number) ledger kept
+  pub left : (number : ℕ) (ledger : Ledger) (kept : Kept) → IsLeft (topic_at new number) ledger kept → IsLeft (topic_at old number) ledger kept

@@ -1,12 +1,12 @@
 -- A node, and a topic of it again, that are opened, whatever the files hold.
-use Rattle.std.specs.Prelude.{◌≡◌, ◌⊎◌, ◌<◌, ◌≤◌, ◌^◌, ℕ, true, Some, None, Result, Ok, Err, List, [], length, map, slice_get}
+use Rattle.std.specs.Prelude.{◌≡◌, ◌⊎◌, ◌<◌, ◌≤◌, ◌^◌, ℕ, true, Some, None, Result, Ok, Err, List, [], length, slice_get}
 use Rattle.disk.specs.Disk.{Disk, Image, Failed}
 use Rattle.gated_log.specs.declared.refusal.Refusal.{Refusal}
 use Rattle.gated_log.specs.declared.refusal.Refusal.TheVariants as refusal
-use Rattle.managed_ledger.specs.Entries.{Entries}
+use Rattle.managed_ledger.specs.Entries.{Ledger, end_of}
 use Rattle.records.specs.Maps.{Kept}
 use Rattle.topic_stores.specs.declared.store.TopicStore.{Ghosts as StoreMembers}
-use Rattle.topic_core.specs.Slots.{slot_of_entry}
+use Rattle.topic_core.specs.Slots.{slots_of}
 use Rattle.topic_core.specs.State.{Topic, opened}
 use Rattle.topic_core.specs.Crashes.{IsShorter, reopened}
 use Rattle.session.specs.Broker.{Broker, topic_at}
@@ -28,37 +28,37 @@ use Rattle.node.specs.declared.node.Node.{Node}
 
 -- The files stand for these names, and for the entries and subscriptions of each topic; the node has them, and nothing happened to
 -- it since.
-pub record IsJustOpened (files_stand : ℕ → Image → Entries → Kept → Type 0) (files : Image) (state : State) : Type 0 where
+pub record IsJustOpened (files_stand : ℕ → Image → Ledger → Kept → Type 0) (files : Image) (state : State) : Type 0 where
   pub names : NamesStand state.broker.per_ledger files state.broker.names
   pub formed : IsFormed state.broker
   pub sure : state.broker.doubtful ≡ None
   pub topics : (number : ℕ) (t : Topic) → slice_get state.broker.topics number ≡ Some t
-      → files_stand number files t.ledger t.kept × (t ≡ opened state.broker.per_ledger t.ledger (map slot_of_entry t.ledger) t.kept)
+      → files_stand number files t.ledger t.kept × (t ≡ opened state.broker.per_ledger t.ledger (slots_of t.ledger) t.kept)
   pub stages : (number : ℕ) → stage_at state number ≡ Resting
   pub sessions : state.sessions ≡ []
   pub used : state.used ≡ 0
 
 -- the first fault of so many topics: that of the first one whose files have a fault
-pub record IsTopicFault (files_stand : ℕ → Image → Entries → Kept → Type 0) (faulty : ℕ → Image → Refusal → Type 0) (count : ℕ) (files : Image) (why : Refusal) : Type 0 where
+pub record IsTopicFault (files_stand : ℕ → Image → Ledger → Kept → Type 0) (faulty : ℕ → Image → Refusal → Type 0) (count : ℕ) (files : Image) (why : Refusal) : Type 0 where
   pub number : ℕ
   pub there : number < count
   pub fault : faulty number files why
-  pub first : (before : ℕ) → before < number → (ledger : Entries) × (kept : Kept) × files_stand before files ledger kept
+  pub first : (before : ℕ) → before < number → (ledger : Ledger) × (kept : Kept) × files_stand before files ledger kept
 
 -- the first fault that stands in the files of a node: the catalog's, or that of its topics, by their numbers
-abbrev pub IsFirstFault : (ℕ → Image → Entries → Kept → Type 0) → (ℕ → Image → Refusal → Type 0) → Image → Refusal → Type 0
+abbrev pub IsFirstFault : (ℕ → Image → Ledger → Kept → Type 0) → (ℕ → Image → Refusal → Type 0) → Image → Refusal → Type 0
 IsFirstFault files_stand faulty files why =
     CatalogFault files why ⊎ ((per_ledger : ℕ) × (names : Names) × NamesStand per_ledger files names × IsTopicFault files_stand faulty (length names) files why)
 
 -- a node's files have one first fault
-abbrev pub HaveOneFault : (ℕ → Image → Entries → Kept → Type 0) → (ℕ → Image → Refusal → Type 0) → Type 0
+abbrev pub HaveOneFault : (ℕ → Image → Ledger → Kept → Type 0) → (ℕ → Image → Refusal → Type 0) → Type 0
 HaveOneFault files_stand faulty = (files : Image) (one other : Refusal) → IsFirstFault files_stand faulty files one → IsFirstFault files_stand faulty files other → one ≡ other
 
 -- it has what the files stand for, which can be counted, and nothing happened to it since
-pub record IsOpened {T : Type 0} {store : StoreMembers T} (files_stand : ℕ → Image → Entries → Kept → Type 0) (per_ledger number : ℕ) (files : Image) (h : Held T store) : Type 0 where
+pub record IsOpened {T : Type 0} {store : StoreMembers T} (files_stand : ℕ → Image → Ledger → Kept → Type 0) (per_ledger number : ℕ) (files : Image) (h : Held T store) : Type 0 where
   pub stands : files_stand number files h.core.ledger h.core.kept
-  pub few : length h.core.ledger ≤ 2 ^ 62
-  pub opened : h.core ≡ opened per_ledger h.core.ledger (map slot_of_entry h.core.ledger) h.core.kept
+  pub few : end_of h.core.ledger ≤ 2 ^ 62
+  pub opened : h.core ≡ opened per_ledger h.core.ledger (slots_of h.core.ledger) h.core.kept
   pub rests : h.flight ≡ None
 
 module _ {T : Type 0} {store : StoreMembers T} where
@@ -67,7 +67,7 @@ module _ {T : Type 0} {store : StoreMembers T} where
   AllStand topics disk = (number : ℕ) (h : Held T store) → slice_get topics number ≡ Some h → HeldStands h disk
 
   -- each has what its files stand for, and nothing happened to it since
-  abbrev pub AreJustOpened : (ℕ → Image → Entries → Kept → Type 0) → ℕ → Image → List (Held T store) → Type 0
+  abbrev pub AreJustOpened : (ℕ → Image → Ledger → Kept → Type 0) → ℕ → Image → List (Held T store) → Type 0
   AreJustOpened files_stand per_ledger files topics = (number : ℕ) (h : Held T store) → slice_get topics number ≡ Some h → IsOpened files_stand per_ledger number files h
 
 module _ {T S : Type 0} {store : StoreMembers T} where
@@ -85,22 +85,22 @@ module _ {T S : Type 0} {store : StoreMembers T} (disk : S → Disk) where
 -- What the opening of a failed topic tells: a failure of the device only where the device failed. Where that is honest a topic
 -- that is opened has what the files stand for; else memory was refused, the device failed, this is the first fault that stands
 -- in the files, or they stand for fewer entries than it had committed.
-pub record ReopenTells (files_stand : ℕ → Image → Entries → Kept → Type 0) (faulty : ℕ → Image → Refusal → Type 0) (number : ℕ) (old new : Topic) (before after : Disk) (told : Verdict) : Type 0 where
+pub record ReopenTells (files_stand : ℕ → Image → Ledger → Kept → Type 0) (faulty : ℕ → Image → Refusal → Type 0) (number : ℕ) (old new : Topic) (before after : Disk) (told : Verdict) : Type 0 where
   pub cause : told ≡ verdict.Refused refusal.Device → Failed before after
   pub found : before.honest → old.failed ≡ true → told ≡ verdict.Done
-      → files_stand number before.seen new.ledger new.kept × (new ≡ reopened old new.ledger (map slot_of_entry new.ledger) new.kept)
+      → files_stand number before.seen new.ledger new.kept × (new ≡ reopened old new.ledger (slots_of new.ledger) new.kept)
   pub refused : before.honest → (why : Refusal) → told ≡ verdict.Refused why
       → (why ≡ refusal.NoMemory) ⊎ ((why ≡ refusal.Device) ⊎ (faulty number before.seen why ⊎ IsShorter files_stand number old before.seen why))
 
 -- of an event that opens no topic it says nothing
-abbrev pub TellsOn : (ℕ → Image → Entries → Kept → Type 0) → (ℕ → Image → Refusal → Type 0) → TopicEvent → ℕ → Topic → Topic → Disk → Disk → Verdict → Type 0
+abbrev pub TellsOn : (ℕ → Image → Ledger → Kept → Type 0) → (ℕ → Image → Refusal → Type 0) → TopicEvent → ℕ → Topic → Topic → Disk → Disk → Verdict → Type 0
 TellsOn files_stand faulty Flush number old new before after told = Unit {0}
 TellsOn files_stand faulty Take number old new before after told = Unit {0}
 TellsOn files_stand faulty Write number old new before after told = Unit {0}
 TellsOn files_stand faulty Finish number old new before after told = Unit {0}
 TellsOn files_stand faulty Reopen number old new before after told = ReopenTells files_stand faulty number old new before after told
 
-abbrev pub TellsIn : (ℕ → Image → Entries → Kept → Type 0) → (ℕ → Image → Refusal → Type 0) → Event → Broker → Broker → Disk → Disk → Verdict → Type 0
+abbrev pub TellsIn : (ℕ → Image → Ledger → Kept → Type 0) → (ℕ → Image → Refusal → Type 0) → Event → Broker → Broker → Disk → Disk → Verdict → Type 0
 TellsIn files_stand faulty Open old new before after told = Unit {0}
 TellsIn files_stand faulty (Bytes who bytes) old new before after told = Unit {0}
 TellsIn files_stand faulty (Pump who) old new before after told = Unit {0}

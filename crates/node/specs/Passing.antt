@@ -8,7 +8,7 @@ use Rattle.disk.specs.Moments.{starts, joins, weaken}
 use Rattle.disk.specs.Contents.{Settled as SettledIn}
 use Rattle.gated_log.specs.declared.read_error.ReadError.{ReadError}
 use Rattle.gated_log.specs.declared.read_error.ReadError.TheVariants as read
-use Rattle.managed_ledger.specs.Entries.{Entries}
+use Rattle.managed_ledger.specs.Entries.{Ledger, whole}
 use Rattle.records.specs.Maps.{Kept}
 use Rattle.topic_stores.specs.declared.store.TopicStore.{Ghosts as StoreMembers}
 use Rattle.topic_stores.specs.Views.{StoreView, Settled}
@@ -30,7 +30,7 @@ use Rattle.node.specs.Lists.{get_set, map_set, get_map, at_map, at_each}
 use Rattle.node.specs.Brokers.{set_at}
 
 -- what a crash leaves of a topic it left before the topic went on
-left_before : (old new : Topic) → GoesOn old new → (l : Entries) (k : Kept) → IsLeft new l k → IsLeft old l k
+left_before : (old new : Topic) → GoesOn old new → (l : Ledger) (k : Kept) → IsLeft new l k → IsLeft old l k
 left_before old new go =
     left_like new.ledger old.ledger new.kept old.kept (entries_in_doubt new) (entries_in_doubt old) (changes_in_doubt new) (changes_in_doubt old) go.ledger go.durable go.entries go.changes
 
@@ -41,7 +41,7 @@ pub record OnlyReads (old new : Disk) : Type 0 where
   pub kept : Counted old new
 
 -- a settled store stays so
-settled_read : (v : StoreView) (old new : Disk) (ledger : Entries) (kept : Kept) → OnlyReads old new → Settled v old ledger kept → Settled v new ledger kept
+settled_read : (v : StoreView) (old new : Disk) (ledger : Ledger) (kept : Kept) → OnlyReads old new → Settled v old ledger kept → Settled v new ledger kept
 settled_read v old new ledger kept reads x = record {
   settled = record {
     honest = reads.kept.honest x.settled.honest;
@@ -74,7 +74,7 @@ refused_of first second a b c d (read.Damaged file offset) same before after may
 refused_within : (first second : List Stage) (a b c d : ℕ) (why : ReadError) → second ≡ first → a ≤ b → c ≤ d → MayRefuse second b c why → MayRefuse first a d why
 refused_within first second a b c d why same before after may = (may.0, refused_of (stage_in first may.0) (stage_in second may.0) a b c d why (ap (λ ss. stage_in ss may.0) same) before after may.1)
 
-module _ (stands : ℕ → Image → Entries → Kept → Type 0) where
+module _ (stands : ℕ → Image → Ledger → Kept → Type 0) where
   -- a topic stands on a device that only read
   pub standing_read : (phase : Phase) (t : Topic) (v : StoreView) (old new : Disk) → OnlyReads old new → Standing stands phase t v old → Standing stands phase t v new
   standing_read phase t v old new reads h = record {
@@ -113,7 +113,7 @@ pub count_is : {T S : Type 0} {store : StoreMembers T} (t : Topics T S store) �
 count_is t = length-map t.held.items (λ h. h.core)
 
 -- the names that a crash leaves are those of the broker where its catalog, its count of topics and the name in doubt are the same
-pub names_as : (files_stand : ℕ → Image → Entries → Kept → Type 0) (doubt : Option (List ℕ)) (b c : Broker) (files : Image) → c.per_ledger ≡ b.per_ledger → c.names ≡ b.names → length c.topics ≡ length b.topics
+pub names_as : (files_stand : ℕ → Image → Ledger → Kept → Type 0) (doubt : Option (List ℕ)) (b c : Broker) (files : Image) → c.per_ledger ≡ b.per_ledger → c.names ≡ b.names → length c.topics ≡ length b.topics
     → NamesLeft files_stand doubt b files → NamesLeft files_stand doubt c files
 names_as files_stand None b c files ledgers names count is =
     subst (λ n. NamesStand n files c.names) (sym ledgers) (subst (λ (ns : List (List ℕ)). NamesStand b.per_ledger files ns) (sym names) is)
@@ -121,7 +121,7 @@ names_as files_stand (Some name) b c files ledgers names count is = ⊎_elim
     (λ without. inl (subst (λ n. NamesStand n files c.names) (sym ledgers) (subst (λ (ns : List (List ℕ)). NamesStand b.per_ledger files ns) (sym names) without)))
     (λ with'. inr (
       subst (λ n. NamesStand n files (c.names ++ name ∷ [])) (sym ledgers) (subst (λ (ns : List (List ℕ)). NamesStand b.per_ledger files (ns ++ name ∷ [])) (sym names) with'.0),
-      subst (λ n. files_stand n files [] map_of.empty) (sym count) with'.1,
+      subst (λ n. files_stand n files (whole []) map_of.empty) (sym count) with'.1,
     ))
     is
 
@@ -133,8 +133,8 @@ formed_of t = record {
 }
 
 -- Files that stand for a broker stand for one of the same names, of whose topics a crash leaves what it leaves of that one's.
-pub stands_before : (files_stand : ℕ → Image → Entries → Kept → Type 0) (b c : Broker) (files : Image) → IsFormed c → c.per_ledger ≡ b.per_ledger → c.names ≡ b.names → c.doubtful ≡ b.doubtful
-    → ((number : ℕ) (l : Entries) (k : Kept) → IsLeft (topic_at b number) l k → IsLeft (topic_at c number) l k) → StandsForBroker files_stand b files → StandsForBroker files_stand c files
+pub stands_before : (files_stand : ℕ → Image → Ledger → Kept → Type 0) (b c : Broker) (files : Image) → IsFormed c → c.per_ledger ≡ b.per_ledger → c.names ≡ b.names → c.doubtful ≡ b.doubtful
+    → ((number : ℕ) (l : Ledger) (k : Kept) → IsLeft (topic_at b number) l k → IsLeft (topic_at c number) l k) → StandsForBroker files_stand b files → StandsForBroker files_stand c files
 stands_before files_stand b c files formed ledgers names doubtful left s =
     let count : length c.topics ≡ length b.topics = formed.named ∙ ap (λ (l : List (List ℕ)). length l) names ∙ sym s.formed.named in
     record {
@@ -235,9 +235,9 @@ module _ {T S : Type 0} {store : StoreMembers T} (disk : S → Disk) where
     settled_on : (d : Disk) → (failed t.catalog ≡ false → SettledIn (NamesHeld t.catalog) d (remembered t.catalog)) → failed new.catalog ≡ false → SettledIn (NamesHeld new.catalog) d (remembered new.catalog)
     settled_on d settled = subst (λ (c : Catalog). failed c ≡ false → SettledIn (NamesHeld c) d (remembered c)) (sym catalog) settled
 
-    left_on : (j : ℕ) (l : Entries) (k : Kept) → IsLeft (topic_at (broker_of new) j) l k → IsLeft (topic_at (broker_of t) j) l k
+    left_on : (j : ℕ) (l : Ledger) (k : Kept) → IsLeft (topic_at (broker_of new) j) l k → IsLeft (topic_at (broker_of t) j) l k
     left_on j l k is =
-        let R : Topic → Topic → Type 0 = λ x y. (l : Entries) (k : Kept) → IsLeft y l k → IsLeft x l k in
+        let R : Topic → Topic → Type 0 = λ x y. (l : Ledger) (k : Kept) → IsLeft y l k → IsLeft x l k in
         let here : R (topic_at (broker_of t) number) next.core = subst (λ (u : Topic). R u next.core) (sym (at_map (λ (x : Held T store). x.core) t.held.items number h (fresh (per_ledger t.catalog)) was)) (left_before h.core next.core go) in
         set_at R (λ u l k left. left) (broker_of t).topics number j next.core (fresh (per_ledger t.catalog)) here l k (subst (λ (b : Broker). IsLeft (topic_at b j) l k) changed_to is)
 

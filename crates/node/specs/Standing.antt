@@ -5,7 +5,7 @@ use Rattle.disk.specs.Disk.{Disk, Image, Leaves}
 use Rattle.disk.specs.Contents.{Settled}
 use Rattle.catalog.specs.Catalogs.{StandsFor as NamesStand, Holds as NamesHeld, remembered, per_ledger, failed}
 use Rattle.gated_log.specs.declared.read_error.ReadError.{ReadError}
-use Rattle.managed_ledger.specs.Entries.{Entries}
+use Rattle.managed_ledger.specs.Entries.{Ledger, whole}
 use Rattle.records.specs.Maps.{Kept}
 use Rattle.topic_stores.specs.declared.store.TopicStore.{Ghosts as StoreMembers}
 use Rattle.topic_stores.specs.Views.{StoreView}
@@ -24,19 +24,19 @@ use Rattle.node.specs.declared.node.Node.{Node}
 
 -- The catalog's file stands for the broker's names; where a name is in doubt, for these or for that one too, and the files of its
 -- topic stand for a fresh one.
-abbrev pub NamesLeft : (ℕ → Image → Entries → Kept → Type 0) → Option (List ℕ) → Broker → Image → Type 0
+abbrev pub NamesLeft : (ℕ → Image → Ledger → Kept → Type 0) → Option (List ℕ) → Broker → Image → Type 0
 NamesLeft files_stand None b files = NamesStand b.per_ledger files b.names
 NamesLeft files_stand (Some name) b files =
-    NamesStand b.per_ledger files b.names ⊎ (NamesStand b.per_ledger files (b.names ++ name ∷ []) × files_stand (length b.topics) files [] map.empty)
+    NamesStand b.per_ledger files b.names ⊎ (NamesStand b.per_ledger files (b.names ++ name ∷ []) × files_stand (length b.topics) files (whole []) map.empty)
 
 -- the files stand for what a crash leaves of the broker: its names, and each topic
-pub record StandsForBroker (files_stand : ℕ → Image → Entries → Kept → Type 0) (b : Broker) (files : Image) : Type 0 where
+pub record StandsForBroker (files_stand : ℕ → Image → Ledger → Kept → Type 0) (b : Broker) (files : Image) : Type 0 where
   pub formed : IsFormed b
   pub names : NamesLeft files_stand b.doubtful b files
   pub topics : (number : ℕ) (t : Topic) → slice_get b.topics number ≡ Some t → StandsFor (files_stand number) (IsLeft t) files
 
 -- they stand for what a crash leaves of one of these brokers
-abbrev pub StandsForSome : (ℕ → Image → Entries → Kept → Type 0) → (Broker → Type 0) → Image → Type 0
+abbrev pub StandsForSome : (ℕ → Image → Ledger → Kept → Type 0) → (Broker → Type 0) → Image → Type 0
 StandsForSome files_stand Is files = (broker : Broker) × Is broker × StandsForBroker files_stand broker files
 
 -- ---- one topic
@@ -86,7 +86,7 @@ module _ {T S : Type 0} {store : StoreMembers T} where
     -- so at any moment of the call.
     pub record Passed (old new : Topics T S store) : Type 0 where
       pub standing : TopicsStand new
-      pub left : (number : ℕ) (ledger : Entries) (kept : Kept) → IsLeft (topic_at (broker_of new) number) ledger kept → IsLeft (topic_at (broker_of old) number) ledger kept
+      pub left : (number : ℕ) (ledger : Ledger) (kept : Kept) → IsLeft (topic_at (broker_of new) number) ledger kept → IsLeft (topic_at (broker_of old) number) ledger kept
       pub any_moment : Leaves (StandsForBroker store.stands (broker_of old)) (disk old.shelf) (disk new.shelf)
       pub url : new.url ≡ old.url
       pub catalog : new.catalog ≡ old.catalog
@@ -129,7 +129,7 @@ module _ {T S : Type 0} {store : StoreMembers T} where
     Stands n = TopicsStand n.topics
 
 -- a node that is down: whatever a crash now leaves of the device stands for what a crash leaves of this state
-pub record AtRest (files_stand : ℕ → Image → Entries → Kept → Type 0) (state : State) (disk : Disk) : Type 0 where
+pub record AtRest (files_stand : ℕ → Image → Ledger → Kept → Type 0) (state : State) (disk : Disk) : Type 0 where
   pub honest : disk.honest
   pub left : (files : Image) → disk.may_leave files → StandsForBroker files_stand state.broker files
   pub faults : state.faults ≤ disk.faults

@@ -1,9 +1,10 @@
 // A topic of a node is made, or opened.
-ghost use Rattle.std.specs.Prelude.{◌≡◌, ◌⊎◌, ◌≤◌, ◌^◌, None, length, map, IfOk, IfErr, IsErr, IsErrOf};
+ghost use Rattle.std.specs.Prelude.{◌≡◌, ◌⊎◌, ◌≤◌, ◌^◌, None, IfOk, IfErr, IsErr, IsErrOf};
 ghost use Rattle.disk.specs.Disk.{Same, Leaves, Kept, Failed};
 ghost use Rattle.disk.specs.Areas.{Agree, OfTopic, Within};
 ghost use Rattle.gated_log.specs.declared.refusal.Refusal.TheVariants.{Device, NoMemory};
-ghost use Rattle.topic_core.specs.Slots.{slot_of_entry};
+ghost use Rattle.managed_ledger.specs.Entries.{end_of};
+ghost use Rattle.topic_core.specs.Slots.{slots_of};
 ghost use Rattle.topic_core.specs.State.{opened};
 ghost use Rattle.topic_core.specs.Standing.{Match, resting};
 ghost use Rattle.session.specs.Broker.{fresh};
@@ -58,8 +59,8 @@ impl<T: TopicStore> Held<T> {
         per_ledger: u32,
     ) -> Result<Held<T>, Refusal>
         requires { 1 ≤ per_ledger }
-        ensures opened { IfOk result (λ held. held.core ≡ opened per_ledger held.core.ledger (map slot_of_entry held.core.ledger) held.core.kept) }
-        ensures few { IfOk result (λ held. length held.core.ledger ≤ 2 ^ 62) }
+        ensures opened { IfOk result (λ held. held.core ≡ opened per_ledger held.core.ledger (slots_of held.core.ledger) held.core.kept) }
+        ensures few { IfOk result (λ held. end_of held.core.ledger ≤ 2 ^ 62) }
         ensures rests { IfOk result (λ held. held.flight ≡ None) }
         ensures numbered { IfOk result (λ held. IsNumbered per_ledger number held) }
         ensures stands { (S.disk shelf.old).honest → IfOk result (λ held. HeldStands held (S.disk shelf.new)) }

@@ -8,7 +8,7 @@ use Rattle.subscriptions.specs.Steps as subscriptions
 use Rattle.commands.specs.declared.reply.Reply.TheVariants.{SendError, Error, AckResponse}
 use Rattle.commands.specs.declared.server_error.ServerError.{ServerError}
 use Rattle.commands.specs.declared.server_error.ServerError.TheVariants.{NotAllowedError, ConsumerNotFound}
-use Rattle.topic_core.specs.State.{Topic, opened}
+use Rattle.topic_core.specs.State.{Topic, just_made}
 use Rattle.reply_queues.specs.Replies.{due_to}
 use Rattle.topic_core.specs.declared.command.Send.{Send}
 use Rattle.topic_core.specs.declared.command.TopicCommand.{TopicCommand}
@@ -62,7 +62,7 @@ none_opened = ap (λ es. subscriptions.opened_all es) none_kept-entries
 
 -- a topic over no entry and no durable subscription
 abbrev over : ℕ → Subscriptions → Topic
-over n subs = record (opened n [] [] none_kept) { subs = subs }
+over n subs = record (just_made n) { subs = subs }
 
 -- a fresh topic has no subscription
 fresh-over : (n : ℕ) → fresh n ≡ over n no_subs

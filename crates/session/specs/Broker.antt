@@ -1,7 +1,6 @@
 -- The abstract broker as its sessions see it: topics by their numbers.
 use Rattle.std.specs.Prelude.{◌≡◌, ◌<◌, ◌≤◌, ◌⊎◌, ℕ, Option, Some, None, List, [], ◌∷◌, ◌++◌, length, map, position, IfSome, slice_index_or, slice_set, Result, Ok, Err}
 use Rattle.std.specs.Str.{bytes_eq}
-use Rattle.std.specs.FinMap as each
 use Rattle.commands.specs.declared.reply.Reply.{Reply}
 use Rattle.commands.specs.declared.reply.Reply.TheVariants as reply
 use Rattle.topic_core.specs.declared.command.TopicCommand.{TopicCommand}
@@ -9,7 +8,7 @@ use Rattle.topic_core.specs.declared.command.Answer.{Answer}
 use Rattle.topic_core.specs.declared.dispatch.Outgoing.{Outgoing}
 use Rattle.gated_log.specs.declared.read_error.ReadError.{ReadError}
 use Rattle.permits.specs.declared.plain.TooManyPermits.{TooManyPermits}
-use Rattle.topic_core.specs.State.{Topic, opened}
+use Rattle.topic_core.specs.State.{Topic, just_made}
 use Rattle.reply_queues.specs.Replies.{due_to}
 use Rattle.topic_core.specs.Steps.{TopicStep, GrantStep, key_of, collected, left}
 use Rattle.topic_core.specs.Dispatch.{Admits, DispatchStep}
@@ -25,7 +24,7 @@ pub record Broker : Type 0 where
 
 -- a topic that nothing happened to yet
 abbrev pub fresh : ℕ → Topic
-fresh per_ledger = opened per_ledger [] [] each.empty
+fresh per_ledger = just_made per_ledger
 
 -- the topic of a number; one that isn't there is as a fresh one
 abbrev pub topic_at : Broker → ℕ → Topic

@@ -5,6 +5,8 @@ use Rattle.std.proofs.lemmas.Bool.{eqb-true, false≢true, true≢false}
 use Rattle.std.proofs.lemmas.List.{take_all, drop_all}
 use Rattle.commands.specs.declared.reply.Reply.{Reply}
 use Rattle.topic_stores.specs.declared.error.WriteError.{WriteError}
+use Rattle.managed_ledger.specs.Entries.{Ledger, lengthened}
+use Rattle.managed_ledger.specs.Trims.{lengthened_none}
 use Rattle.records.specs.Maps.{Kept}
 use Rattle.records.specs.Records.{after_all}
 use Rattle.topic_core.specs.Steps.{is_open}
@@ -17,11 +19,11 @@ use Rattle.topic_core.proofs.States.{closed_gone, all_back}
 use Rattle.topic_core.specs.Flush.{has_no_flush, is_idle, handed_on, finished, taken_back, flushed, FlushStep, FlushIn, FlushEnds}
 
 -- two cores whose parts that a flush changes agree
-alike : (t : Topic) (c : ℕ) (l l' : List (List ℕ)) (k k' : Kept) (w w' : List (List ℕ)) (ch ch' : List Record) (qs qs' : List SessionReplies) (ps ps' : List Producer) (d d' : Option Doubt) → l ≡ l' → k ≡ k' → w ≡ w' → ch ≡ ch' → qs ≡ qs' → ps ≡ ps' → d ≡ d'
+alike : (t : Topic) (c : ℕ) (l l' : Ledger) (k k' : Kept) (w w' : List (List ℕ)) (ch ch' : List Record) (qs qs' : List SessionReplies) (ps ps' : List Producer) (d d' : Option Doubt) → l ≡ l' → k ≡ k' → w ≡ w' → ch ≡ ch' → qs ≡ qs' → ps ≡ ps' → d ≡ d'
     → (let a : Topic = record t { committed = c; ledger = l; kept = k; waiting = w; subs = record t.subs { changes = ch }; queues = qs; producers = ps; doubt = d } in
     let b : Topic = record t { committed = c; ledger = l'; kept = k'; waiting = w'; subs = record t.subs { changes = ch' }; queues = qs'; producers = ps'; doubt = d' } in a ≡ b)
 alike t c l l' k k' w w' ch ch' qs qs' ps ps' d d' el ek ew ech eqs eps ed =
-    ap (λ (x : List (List ℕ)). let a : Topic = record t { committed = c; ledger = x; kept = k; waiting = w; subs = record t.subs { changes = ch }; queues = qs; producers = ps; doubt = d } in a) el
+    ap (λ (x : Ledger). let a : Topic = record t { committed = c; ledger = x; kept = k; waiting = w; subs = record t.subs { changes = ch }; queues = qs; producers = ps; doubt = d } in a) el
     ∙ ap (λ (x : Kept). let a : Topic = record t { committed = c; ledger = l'; kept = x; waiting = w; subs = record t.subs { changes = ch }; queues = qs; producers = ps; doubt = d } in a) ek
     ∙ ap (λ (x : List (List ℕ)). let a : Topic = record t { committed = c; ledger = l'; kept = k'; waiting = x; subs = record t.subs { changes = ch }; queues = qs; producers = ps; doubt = d } in a) ew
     ∙ ap (λ (x : List Record). let a : Topic = record t { committed = c; ledger = l'; kept = k'; waiting = w'; subs = record t.subs { changes = x }; queues = qs; producers = ps; doubt = d } in a) ech
@@ -42,8 +44,8 @@ all-due (q ∷ qs) = ap (λ x. x ∷ map (λ y. make_due y) (map (λ y. hand_on 
 -- the good end of a flush of all that waits
 pub finished-handed_on : (t : Topic) → finished (handed_on t) ≡ flushed t
 finished-handed_on t =
-    alike t (t.committed + length t.waiting) _ (t.ledger ++ t.waiting) _ (after_all t.subs.changes t.kept) (drop (length t.waiting) t.waiting) [] (drop (length t.subs.changes) t.subs.changes) [] _ _ _ _ None None
-    (ap (λ (x : List (List ℕ)). t.ledger ++ x) (take_all (length t.waiting) t.waiting (omega arith))) (ap (λ (x : List Record). after_all x t.kept) (take_all (length t.subs.changes) t.subs.changes (omega arith)))
+    alike t (t.committed + length t.waiting) _ (lengthened t.ledger t.waiting) _ (after_all t.subs.changes t.kept) (drop (length t.waiting) t.waiting) [] (drop (length t.subs.changes) t.subs.changes) [] _ _ _ _ None None
+    (ap (λ (x : List (List ℕ)). lengthened t.ledger x) (take_all (length t.waiting) t.waiting (omega arith))) (ap (λ (x : List Record). after_all x t.kept) (take_all (length t.subs.changes) t.subs.changes (omega arith)))
     (drop_all (length t.waiting) t.waiting (omega arith)) (drop_all (length t.subs.changes) t.subs.changes (omega arith)) (all-due t.queues) (closed_gone t.producers) refl
 
 -- its end without an effect
@@ -73,6 +75,9 @@ empty (x ∷ xs) h = absurd (omega (arith, h))
 pub idle-append : {A : Type 0} (xs ys : List A) → [] ≡ ys → xs ++ ys ≡ xs
 idle-append [] ys h = sym h
 idle-append (x ∷ xs) ys h = ap (λ zs. x ∷ zs) (idle-append xs ys h)
+
+pub idle-lengthened : (l : Ledger) (ys : List (List ℕ)) → [] ≡ ys → lengthened l ys ≡ l
+idle-lengthened l ys h = ap (λ (zs : List (List ℕ)). lengthened l zs) (sym h) ∙ lengthened_none l
 
 -- but for closing producers
 idle-others : (t : Topic) → is_idle t ≡ true → (nat_eq (length t.waiting) 0 && nat_eq (length t.subs.changes) 0 && list_all (λ q. nat_eq (length q.pending) 0) t.queues) ≡ true

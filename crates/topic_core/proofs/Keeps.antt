@@ -1,6 +1,6 @@
 -- Each step keeps a topic sound; what a flush commits.
-use Rattle.std.proofs.lemmas.List.{length-map, map-append, length-take, length-take-le, take-append-le, take-append-drop}
-use Rattle.std.proofs.Common.{◌≡◌, ⊎_elim, ℕ, ◌+◌, ◌≤◌, ◌^◌, Bool, true, false, cond, not, ◌&&◌, nat_eq, Option, Some, None, Result, Ok, Err, List, [], ◌∷◌, ◌++◌, length, map, take, refl, subst, sym, ap, ◌∙◌, arith, length-append, append_assoc, append-nil}
+use Rattle.std.proofs.lemmas.List.{length-take, length-take-le, take-append-le, take-append-drop}
+use Rattle.std.proofs.Common.{◌≡◌, ⊎_elim, ℕ, ◌+◌, ◌≤◌, ◌^◌, Bool, true, false, cond, not, ◌&&◌, nat_eq, Option, Some, None, Result, Ok, Err, List, [], ◌∷◌, ◌++◌, length, map, take, refl, subst, sym, ap, ◌∙◌, arith}
 use Rattle.commands.specs.declared.reply.Reply.{Reply}
 use Rattle.topic_core.specs.declared.producer.Producer.{Producer}
 use Rattle.gated_log.specs.declared.refusal.Refusal.{Refusal}
@@ -35,7 +35,10 @@ use Rattle.subscriptions.proofs.Limits.{each_sound, each_committed, picked}
 use Rattle.subscriptions.proofs.Durable.{are_kept}
 use Rattle.topic_core.specs.declared.dispatch.Outgoing.{Outgoing}
 use Rattle.reply_queues.specs.Replies.{SessionReplies, is_for, due_to, pending_to, make_all_due}
-use Rattle.topic_core.specs.Slots.{slot_of_entry}
+use Rattle.managed_ledger.specs.Entries.{Ledger, end_of, lengthened}
+use Rattle.managed_ledger.specs.Trims.{end_lengthened, lengthened_both}
+use Rattle.topic_core.specs.Slots.{slot_of_entry, slots_of}
+use Rattle.topic_core.proofs.Slotted.{length_slots, slots_lengthened, slots_none}
 use Rattle.topic_core.specs.State.{Topic, opened, entries_of, changes_of, entries_in_doubt, changes_in_doubt}
 use Rattle.topic_core.specs.Soundness.{IsSound, AreReceipts, IsSoundTopic}
 use Rattle.topic_core.specs.Steps.{TopicStep, Outcome, Collects, GrantStep, outcome_of, refused_or, first_standing, producer_refusals, send_refusals, bytes_of, subscribe_refusal, close_refusals, unsubscribe_refusal, ack_refusals, ack_accepted, detach_refusals, asked_back, has_consumer, key_of, seat_of, start_of, granted, grants_too_many, learnt, HasLearnt, left}
@@ -51,7 +54,7 @@ use Rattle.topic_core.proofs.States.{AreKeptBack, all_opened}
 use Rattle.topic_core.proofs.Meeting.{met}
 use Rattle.topic_core.proofs.Closings.{sound-producers, receipts-producers, close-works, sound-closing, receipts-closing, sound-unsubscribed, receipts-unsubscribed, kept-unsubscribed, changes-unsubscribed}
 use Rattle.topic_core.proofs.Flushes.{sound-handed_on, receipts-handed_on, sound-finished, receipts-finished, sound-taken_back, receipts-taken_back, sound-failed, receipts-failed}
-use Rattle.topic_core.proofs.Flushing.{finished-handed_on, empty, and_first, and_second, idle-append, idle-waiting, idle-changes, idle-queues-of, idle-producers, idle-where}
+use Rattle.topic_core.proofs.Flushing.{finished-handed_on, empty, and_first, and_second, idle-append, idle-lengthened, idle-waiting, idle-changes, idle-queues-of, idle-producers, idle-where}
 use Rattle.topic_core.proofs.States.{open_stay}
 use Rattle.permits.specs.Ends.{Seen, Word}
 
@@ -70,7 +73,7 @@ pub record Stays (old new : Topic) : Type 0 where
   pub durable : new.kept ≡ old.kept
   pub doubt : new.doubt ≡ old.doubt
   -- where each entry had its slot, each has
-  pub slots : (ledger : List (List ℕ)) → old.subs.slots ≡ map slot_of_entry (ledger ++ old.waiting) → new.subs.slots ≡ map slot_of_entry (ledger ++ new.waiting)
+  pub slots : (ledger : Ledger) → old.subs.slots ≡ slots_of (lengthened ledger old.waiting) → new.subs.slots ≡ slots_of (lengthened ledger new.waiting)
 
 abbrev pub Keeps : Topic → Topic → Type 0
 Keeps old new = IsSound old → AreReceipts old → Stays old new
@@ -81,7 +84,7 @@ framed t new = record t { waiting = new.waiting; accepted = new.accepted; handed
 
 stays : (t new : Topic) → new ≡ framed t new → IsSound new → AreReceipts new → ((kept : Kept) → IsKept t.committed kept t.subs → IsKept t.committed kept new.subs)
     → entries_in_doubt new ≡ entries_in_doubt t
-    → changes_in_doubt new ≡ changes_in_doubt t → ((ledger : List (List ℕ)) → t.subs.slots ≡ map slot_of_entry (ledger ++ t.waiting) → new.subs.slots ≡ map slot_of_entry (ledger ++ new.waiting))
+    → changes_in_doubt new ≡ changes_in_doubt t → ((ledger : Ledger) → t.subs.slots ≡ slots_of (lengthened ledger t.waiting) → new.subs.slots ≡ slots_of (lengthened ledger new.waiting))
     → Stays t new
 stays t new frame sound receipts kept entries changes slots = record {
   sound = sound;
@@ -124,18 +127,18 @@ changes-acked : (t : Topic) (who : ℕ) (ack : Ack) → changes_of t.doubt ≤ l
 changes-acked t who ack low None = first-acked (changes_of t.doubt) ack.ack_type t.subs _ _ low
 changes-acked t who ack low (Some request) = first-acked (changes_of t.doubt) ack.ack_type t.subs _ _ low
 
-slots-answered : (t : Topic) (who : ℕ) (ack : Ack) (ledger : List (List ℕ)) → t.subs.slots ≡ map slot_of_entry (ledger ++ t.waiting)
-    → (request : Option ℕ) → (ack_accepted t who ack request).topic.subs.slots ≡ map slot_of_entry (ledger ++ (ack_accepted t who ack request).topic.waiting)
+slots-answered : (t : Topic) (who : ℕ) (ack : Ack) (ledger : Ledger) → t.subs.slots ≡ slots_of (lengthened ledger t.waiting)
+    → (request : Option ℕ) → (ack_accepted t who ack request).topic.subs.slots ≡ slots_of (lengthened ledger (ack_accepted t who ack request).topic.waiting)
 slots-answered t who ack ledger is None = slots-acked ack.ack_type t.subs _ _ ∙ is
 slots-answered t who ack ledger is (Some request) = slots-acked ack.ack_type t.subs _ _ ∙ is
 
 -- the slot of an accepted entry comes last
-slots-accepted : (t : Topic) (ledger : List (List ℕ)) (entry : List ℕ) → t.subs.slots ≡ map slot_of_entry (ledger ++ t.waiting)
-    → t.subs.slots ++ slot_of_entry entry ∷ [] ≡ map slot_of_entry (ledger ++ (t.waiting ++ entry ∷ []))
+slots-accepted : (t : Topic) (ledger : Ledger) (entry : List ℕ) → t.subs.slots ≡ slots_of (lengthened ledger t.waiting)
+    → t.subs.slots ++ slot_of_entry entry ∷ [] ≡ slots_of (lengthened ledger (t.waiting ++ entry ∷ []))
 slots-accepted t ledger entry is =
     ap (λ (slots : List ℕ). slots ++ slot_of_entry entry ∷ []) is
-    ∙ sym (map-append slot_of_entry (ledger ++ t.waiting) (entry ∷ []))
-    ∙ ap (λ (entries : List (List ℕ)). map slot_of_entry entries) (append_assoc ledger t.waiting (entry ∷ []))
+    ∙ sym (slots_lengthened (lengthened ledger t.waiting) (entry ∷ []))
+    ∙ ap (λ (l : Ledger). slots_of l) (lengthened_both ledger t.waiting (entry ∷ []))
 
 -- the subscriptions alone change, and add no change
 with-subs : (t : Topic) (subs : Subscriptions) → (AreSound t.subs → AreSound subs) → (IsCommitted t.committed t.subs → IsCommitted t.committed subs)
@@ -200,9 +203,9 @@ pub stays-sound : (old new : Topic) → Stays old new → IsSoundTopic old → I
 stays-sound old new stays sound = record {
   state = stays.sound;
   receipts = stays.receipts;
-  counted = ap (λ (l : List (List ℕ)). length l) stays.ledger ∙ sound.counted ∙ sym stays.committed;
+  counted = ap (λ (l : Ledger). end_of l) stays.ledger ∙ sound.counted ∙ sym stays.committed;
   kept = let P : Kept → Type 0 = λ k. IsKept new.committed k new.subs in subst P (sym stays.durable) (subst (λ c. IsKept c old.kept new.subs) (sym stays.committed) (stays.kept old.kept sound.kept));
-  slots = stays.slots old.ledger sound.slots ∙ ap (λ (l : List (List ℕ)). map slot_of_entry (l ++ new.waiting)) (sym stays.ledger);
+  slots = stays.slots old.ledger sound.slots ∙ ap (λ (l : Ledger). slots_of (lengthened l new.waiting)) (sym stays.ledger);
 }
 
 pub command-sound : (old : Topic) (who : ℕ) (c : TopicCommand) (answer : Answer) (new : Topic) → TopicStep old who c answer new → IsSoundTopic old → IsSoundTopic new
@@ -275,8 +278,8 @@ dispatch-admits old who id outgoing new step = (
 )
 
 -- what was handed on goes from the waiting entries to the ledger
-pub moved : (t : Topic) → t.ledger ++ t.waiting ≡ (t.ledger ++ entries_in_doubt t) ++ (finished t).waiting
-moved t = ap (λ (z : List (List ℕ)). t.ledger ++ z) (sym (take-append-drop (entries_of t.doubt) t.waiting)) ∙ sym (append_assoc t.ledger (entries_in_doubt t) (finished t).waiting)
+pub moved : (t : Topic) → lengthened t.ledger t.waiting ≡ lengthened (lengthened t.ledger (entries_in_doubt t)) (finished t).waiting
+moved t = ap (λ (z : List (List ℕ)). lengthened t.ledger z) (sym (take-append-drop (entries_of t.doubt) t.waiting)) ∙ sym (lengthened_both t.ledger (entries_in_doubt t) (finished t).waiting)
 
 pub kept-finished : (t : Topic) → IsKept t.committed t.kept t.subs → IsKept (finished t).committed (finished t).kept (finished t).subs
 kept-finished t is = are_kept.longer t.committed (finished t).committed (finished t).kept (finished t).subs (omega arith) (are_kept.settle t.committed t.kept t.subs (changes_of t.doubt) is)
@@ -286,9 +289,9 @@ finished-sound : (old : Topic) → IsSoundTopic old → IsSoundTopic (finished o
 finished-sound old sound = record {
   state = sound-finished old sound.state;
   receipts = receipts-finished old sound.state sound.receipts;
-  counted = omega (arith, length-append old.ledger (entries_in_doubt old), length-take-le (entries_of old.doubt) old.waiting (omega (arith, sound.state.promises)), sound.counted);
+  counted = omega (arith, end_lengthened old.ledger (entries_in_doubt old), length-take-le (entries_of old.doubt) old.waiting (omega (arith, sound.state.promises)), sound.counted);
   kept = kept-finished old sound.kept;
-  slots = sound.slots ∙ ap (λ (entries : List (List ℕ)). map slot_of_entry entries) (moved old);
+  slots = sound.slots ∙ ap (λ (l : Ledger). slots_of l) (moved old);
 }
 
 taken_back-sound : (old : Topic) → IsSoundTopic old → IsSoundTopic (taken_back old)
@@ -336,12 +339,12 @@ length-take-most : {X : Type 0} (n : ℕ) (xs : List X) → length (take n xs) �
 length-take-most n xs = omega (arith, length-take n xs)
 
 -- no crash leaves more than fits, nor fewer entries, and what it leaves is durable
-pub left-fits : (old : Topic) (ledger : List (List ℕ)) (kept : Kept) → IsSoundTopic old → IsLeft old ledger kept → (old.committed ≤ length ledger) × (length ledger ≤ 2 ^ 62) × AreDurable kept
+pub left-fits : (old : Topic) (ledger : Ledger) (kept : Kept) → IsSoundTopic old → IsLeft old ledger kept → (old.committed ≤ end_of ledger) × (end_of ledger ≤ 2 ^ 62) × AreDurable kept
 left-fits old ledger kept sound is =
     let d : ℕ = entries_of old.doubt in
-    let same : (l : List (List ℕ)) → l ≡ old.ledger → (old.committed ≤ length l) × (length l ≤ 2 ^ 62) = λ l e. (omega (arith, ap (λ (x : List (List ℕ)). length x) e, sound.counted), omega (arith, ap (λ (x : List (List ℕ)). length x) e, sound.counted, sound.state.entries)) in
-    let more : (l : List (List ℕ)) → l ≡ longer old → (old.committed ≤ length l) × (length l ≤ 2 ^ 62) = λ l e.
-    let size : length l ≡ length old.ledger + length (take d old.waiting) = ap (λ (x : List (List ℕ)). length x) e ∙ length-append old.ledger (take d old.waiting) in
+    let same : (l : Ledger) → l ≡ old.ledger → (old.committed ≤ end_of l) × (end_of l ≤ 2 ^ 62) = λ l e. (omega (arith, ap (λ (x : Ledger). end_of x) e, sound.counted), omega (arith, ap (λ (x : Ledger). end_of x) e, sound.counted, sound.state.entries)) in
+    let more : (l : Ledger) → l ≡ longer old → (old.committed ≤ end_of l) × (end_of l ≤ 2 ^ 62) = λ l e.
+    let size : end_of l ≡ end_of old.ledger + length (take d old.waiting) = ap (λ (x : Ledger). end_of x) e ∙ end_lengthened old.ledger (take d old.waiting) in
     let part : length (take d old.waiting) ≤ length old.waiting = length-take-most d old.waiting in
     (omega (arith, size, sound.counted), omega (arith, size, part, sound.counted, sound.state.entries)) in
     let kept_old : (k : Kept) → k ≡ old.kept → AreDurable k = λ k e. subst AreDurable (sym e) sound.kept.durable in
@@ -357,23 +360,23 @@ left-fits old ledger kept sound is =
 pub crash-sound : (old new : Topic) → TopicCrash old new → IsSoundTopic old → IsSoundTopic new
 crash-sound old new crash sound =
     let fits = left-fits old new.ledger new.kept sound crash.left in
-    along new (opened old.per_ledger new.ledger (map slot_of_entry new.ledger) new.kept) crash.again (record {
-      state = sound-opened old.per_ledger new.ledger (map slot_of_entry new.ledger) new.kept sound.state.numbered fits.1 (length-map new.ledger slot_of_entry) fits.2;
-      receipts = receipts-opened old.per_ledger new.ledger (map slot_of_entry new.ledger) new.kept;
+    along new (opened old.per_ledger new.ledger (slots_of new.ledger) new.kept) crash.again (record {
+      state = sound-opened old.per_ledger new.ledger (slots_of new.ledger) new.kept sound.state.numbered fits.1 (length_slots new.ledger) fits.2;
+      receipts = receipts-opened old.per_ledger new.ledger (slots_of new.ledger) new.kept;
       counted = refl;
-      kept = are_kept.slot (length new.ledger) new.kept (subscriptions.opened new.kept) (map slot_of_entry new.ledger) (are_kept.opened (length new.ledger) new.kept fits.2);
-      slots = ap (λ (entries : List (List ℕ)). map slot_of_entry entries) (sym (append-nil new.ledger));
+      kept = are_kept.slot (end_of new.ledger) new.kept (subscriptions.opened new.kept) (slots_of new.ledger) (are_kept.opened (end_of new.ledger) new.kept fits.2);
+      slots = slots_none new.ledger;
     })
 
 reopen-ends-sound : (old : Topic) (result : Result (Unit {0}) Refusal) (new : Topic) → old.failed ≡ true → ReopenEnds old result new → IsSoundTopic old → IsSoundTopic new
 reopen-ends-sound old (Ok done) new was h sound =
     let fits = left-fits old new.ledger new.kept sound h.0 in
-    along new (reopened old new.ledger (map slot_of_entry new.ledger) new.kept) h.1 (record {
-      state = sound-reopened old new.ledger (map slot_of_entry new.ledger) new.kept sound.state was fits.0 fits.1 (length-map new.ledger slot_of_entry) fits.2;
-      receipts = receipts-reopened old new.ledger (map slot_of_entry new.ledger) new.kept sound.state sound.receipts was fits.0;
+    along new (reopened old new.ledger (slots_of new.ledger) new.kept) h.1 (record {
+      state = sound-reopened old new.ledger (slots_of new.ledger) new.kept sound.state was fits.0 fits.1 (length_slots new.ledger) fits.2;
+      receipts = receipts-reopened old new.ledger (slots_of new.ledger) new.kept sound.state sound.receipts was fits.0;
       counted = refl;
-      kept = are_kept.slot (length new.ledger) new.kept (subscriptions.opened new.kept) (map slot_of_entry new.ledger) (are_kept.opened (length new.ledger) new.kept fits.2);
-      slots = ap (λ (entries : List (List ℕ)). map slot_of_entry entries) (sym (append-nil new.ledger));
+      kept = are_kept.slot (end_of new.ledger) new.kept (subscriptions.opened new.kept) (slots_of new.ledger) (are_kept.opened (end_of new.ledger) new.kept fits.2);
+      slots = slots_none new.ledger;
     })
 reopen-ends-sound old (Err refusal.NoMemory) new was h sound = along new old h sound
 reopen-ends-sound old (Err refusal.Device) new was h sound = along new old h sound
@@ -431,7 +434,7 @@ idle-commits old idle =
     let changes = empty old.subs.changes (idle-changes old idle) in
     let none : (who : ℕ) → pending_to who old.queues ≡ [] = λ who. pending_to-idle who old.queues (idle-queues-of old idle) in
     record {
-      ledger = sym (idle-append old.ledger old.waiting waiting);
+      ledger = sym (idle-lengthened old.ledger old.waiting waiting);
       count = sym (idle-waiting old idle);
       kept = ap (λ (cs : List Record). after_all cs old.kept) changes;
       changes = sym changes;

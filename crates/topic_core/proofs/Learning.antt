@@ -1,11 +1,11 @@
 -- What is learnt of the permits of a topic's consumers.
-use Rattle.std.proofs.Common.{◌≡◌, ◌⊎◌, ⊎_elim, ℕ, List, ◌<◌, Option, Some, None, Result, Err, slice_get, refl, sym, ap, subst, ◌∙◌, arith}
+use Rattle.std.proofs.Common.{◌≡◌, ◌⊎◌, ⊎_elim, ℕ, List, ◌<◌, Option, Some, None, Result, Err, refl, sym, ap, subst, ◌∙◌, arith}
 use Rattle.commands.specs.declared.reply.Reply.TheVariants.{Message}
 use Rattle.gated_log.specs.declared.read_error.ReadError.{ReadError}
 use Rattle.gated_log.specs.declared.read_error.ReadError.TheVariants.{Device, NoMemory}
 use Rattle.holds.specs.declared.consumer.ConsumerKey.{ConsumerKey}
 use Rattle.ids.specs.Ids.{message_id_at}
-use Rattle.managed_ledger.specs.Entries.{Entries}
+use Rattle.managed_ledger.specs.Entries.{Ledger, entry_at}
 use Rattle.std.specs.List.{find}
 use Rattle.subscriptions.specs.Laws.{IsOpenFor}
 use Rattle.subscriptions.specs.State.{Subscription, Subscriptions}
@@ -83,7 +83,7 @@ given exact t old key i subs is admitted l same =
 
 -- what is sent of a topic that was learnt of
 sent_of : (t new : Topic) (key : ConsumerKey) (i : ℕ) (n : Seen) (outgoing : Outgoing) → Admits t key i → outgoing.reply ≡ Message key.id (message_id_at t.per_ledger i) (subscriptions.sent_before t.subs key i)
-    → slice_get t.ledger i ≡ Some outgoing.entry → new ≡ sent (learnt t key.session key.id n) key i → IsSent (learnt t key.session key.id n) key i outgoing new
+    → entry_at t.ledger i ≡ Some outgoing.entry → new ≡ sent (learnt t key.session key.id n) key i → IsSent (learnt t key.session key.id n) key i outgoing new
 sent_of t new key i n outgoing admitted reply entry is = record {
   admitted = record { works = admitted.works; admitted = learning_admits t.subs key n t.committed i admitted.admitted };
   reply = reply ∙ ap (λ times. Message key.id (message_id_at t.per_ledger i) times) (sym (before_learnt t.subs key n i (admitted_there t.subs key t.committed i admitted.admitted)));
@@ -92,7 +92,7 @@ sent_of t new key i n outgoing admitted reply entry is = record {
 }
 
 pub is_sent : (t x new : Topic) (key : ConsumerKey) (i : ℕ) (outgoing : Outgoing) → Admits t key i → outgoing.reply ≡ Message key.id (message_id_at t.per_ledger i) (subscriptions.sent_before t.subs key i)
-    → slice_get t.ledger i ≡ Some outgoing.entry → IsLearnt (learnt t key.session key.id) x → new ≡ sent x key i → IsSent x key i outgoing new
+    → entry_at t.ledger i ≡ Some outgoing.entry → IsLearnt (learnt t key.session key.id) x → new ≡ sent x key i → IsSent x key i outgoing new
 is_sent t x new key i outgoing admitted reply entry l is =
     subst (λ (y : Topic). IsSent y key i outgoing new) (sym l.same)
     (sent_of t new key i l.seen outgoing admitted reply entry (is ∙ ap (λ (y : Topic). sent y key i) l.same))
@@ -102,13 +102,13 @@ abbrev pub Found : Type 0 → Topic → ℕ → ℕ → (Topic → Type 0) → T
 Found exact old who id Holds = (t : Topic) × IsLearnt (learnt old who id) t × (exact → t ≡ old) × Holds t
 
 found_at : (exact : Type 0) (old t new : Topic) (who id i : ℕ) (outgoing : Outgoing) → IsLearnt (learnt old who id) t → (exact → t ≡ old) → Admits t (key_of who id) i
-    → outgoing.reply ≡ Message id (message_id_at t.per_ledger i) (subscriptions.sent_before t.subs (key_of who id) i) → slice_get t.ledger i ≡ Some outgoing.entry
+    → outgoing.reply ≡ Message id (message_id_at t.per_ledger i) (subscriptions.sent_before t.subs (key_of who id) i) → entry_at t.ledger i ≡ Some outgoing.entry
     → IsGiven exact t (key_of who id) i new → Found exact old who id (λ x. (j : ℕ) × IsSent x (key_of who id) j outgoing new)
 found_at exact old t new who id i outgoing l same admitted reply entry g =
     (g.0, learnt_twice old t g.0 who id l g.1, (λ h. g.2 h ∙ same h), (i, is_sent t g.0 new (key_of who id) i outgoing admitted reply entry g.1 g.3))
 
 pub found_sent : (exact : Type 0) (old t new : Topic) (who id : ℕ) (key : ConsumerKey) (i : ℕ) (outgoing : Outgoing) → key ≡ key_of who id → IsLearnt (learnt old who id) t → (exact → t ≡ old) → Admits t (key_of who id) i
-    → outgoing.reply ≡ Message key.id (message_id_at t.per_ledger i) (subscriptions.sent_before t.subs key i) → slice_get t.ledger i ≡ Some outgoing.entry
+    → outgoing.reply ≡ Message key.id (message_id_at t.per_ledger i) (subscriptions.sent_before t.subs key i) → entry_at t.ledger i ≡ Some outgoing.entry
     → IsGiven exact t key i new → Found exact old who id (λ x. (j : ℕ) × IsSent x (key_of who id) j outgoing new)
 found_sent exact old t new who id key i outgoing its l same admitted reply entry g =
     found_at exact old t new who id i outgoing l same admitted
@@ -140,7 +140,7 @@ refused_at_hand t new key result e is why same =
     subst (λ (x : Topic). AtHandStep t key result x) (sym same) (subst (λ (r : Result AtHand ReadError). AtHandStep t key r t) (sym is) (at_hand_refused t key e why))
 
 -- the entry that a message has is the one that was found
-pub whole_entry : (ledger : Entries) (i : ℕ) (found given : List ℕ) → slice_get ledger i ≡ Some found → given ≡ found → slice_get ledger i ≡ Some given
+pub whole_entry : (ledger : Ledger) (i : ℕ) (found given : List ℕ) → entry_at ledger i ≡ Some found → given ≡ found → entry_at ledger i ≡ Some given
 whole_entry ledger i found given is same = is ∙ ap (λ (e : List ℕ). Some e) (sym same)
 
 pub refused_give : (t new : Topic) (who id : ℕ) (result : Result (Option Outgoing) ReadError) → result ≡ Err NoMemory → new ≡ t → DispatchStep t who id result new

@@ -6,6 +6,7 @@ use Rattle.std.specs.FinMap as map
 use Rattle.cursor.specs.Positions.{Positions}
 use Rattle.std.specs.List.{AllByRecursion, IsDistinct}
 use Rattle.commands.specs.declared.reply.Reply.{Reply}
+use Rattle.managed_ledger.specs.Entries.{Ledger, end_of}
 use Rattle.records.specs.Maps.{Kept}
 use Rattle.reply_queues.specs.Replies.{SessionReplies, receipts_in}
 use Rattle.subscriptions.specs.Steps as subscriptions
@@ -23,7 +24,7 @@ no_sessions : IsDistinct nat_eq []
 unfolding IsDistinct
 no_sessions = tt
 
-pub sound-opened : (n : ℕ) (ledger : List (List ℕ)) (slots : List ℕ) (kept : Kept) → 0 < n → length ledger ≤ 2 ^ 62 → length slots ≡ length ledger → AreDurable kept → IsSound (opened n ledger slots kept)
+pub sound-opened : (n : ℕ) (ledger : Ledger) (slots : List ℕ) (kept : Kept) → 0 < n → end_of ledger ≤ 2 ^ 62 → length slots ≡ end_of ledger → AreDurable kept → IsSound (opened n ledger slots kept)
 sound-opened n ledger slots kept some few each_one durable = record {
   numbered = some;
   few = omega arith;
@@ -43,10 +44,10 @@ sound-opened n ledger slots kept some few each_one durable = record {
   told = λ failed. tt;
   subs = each_sound.slot (subscriptions.opened kept) slots (each_sound.opened kept durable);
   slotted = omega (arith, each_one);
-  sent = each_committed.slot (length ledger) (subscriptions.opened kept) slots (each_committed.opened (length ledger) kept);
+  sent = each_committed.slot (end_of ledger) (subscriptions.opened kept) slots (each_committed.opened (end_of ledger) kept);
 }
 
-pub receipts-opened : (n : ℕ) (ledger : List (List ℕ)) (slots : List ℕ) (kept : Kept) → AreReceipts (opened n ledger slots kept)
+pub receipts-opened : (n : ℕ) (ledger : Ledger) (slots : List ℕ) (kept : Kept) → AreReceipts (opened n ledger slots kept)
 receipts-opened n ledger slots kept = record { each = tt; single = λ k. omega arith }
 
 -- what is durable is kept, with the slots of the entries
@@ -64,12 +65,12 @@ none-first q x = ap (λ n. take n q.pending) (none-handed q x)
 none-left : (q : SessionReplies) → (q.pending ≡ []) × (q.handed_on ≤ length q.pending) → drop q.handed_on q.pending ≡ []
 none-left q x = ap (λ n. drop n q.pending) (none-handed q x) ∙ x.0
 
-module _ (t : Topic) (ledger : List (List ℕ)) (slots : List ℕ) (kept : Kept) (sound : IsSound t) where
+module _ (t : Topic) (ledger : Ledger) (slots : List ℕ) (kept : Kept) (sound : IsSound t) where
   -- nothing of a failed topic awaits a flush
   quiet : t.failed ≡ true → AllByRecursion (λ q. (q.pending ≡ []) × (q.handed_on ≤ length q.pending)) t.queues
   quiet was = all-both (λ q. q.pending ≡ []) (λ q. q.handed_on ≤ length q.pending) t.queues (sound.told was) sound.within
 
-  pub sound-reopened : t.failed ≡ true → t.committed ≤ length ledger → length ledger ≤ 2 ^ 62 → length slots ≡ length ledger → AreDurable kept → IsSound (reopened t ledger slots kept)
+  pub sound-reopened : t.failed ≡ true → t.committed ≤ end_of ledger → end_of ledger ≤ 2 ^ 62 → length slots ≡ end_of ledger → AreDurable kept → IsSound (reopened t ledger slots kept)
   sound-reopened was more few each_one durable =
       let on = sum_by-none (λ (q : SessionReplies). receipts_in (take q.handed_on q.pending)) t.queues (all-each _ _ t.queues (λ q x. ap (λ rs. receipts_in rs) (none-first q x)) (quiet was)) in
       let left = sum_by-none (λ (q : SessionReplies). receipts_in (drop q.handed_on q.pending)) t.queues (all-each _ _ t.queues (λ q x. ap (λ rs. receipts_in rs) (none-left q x)) (quiet was)) in
@@ -92,18 +93,18 @@ module _ (t : Topic) (ledger : List (List ℕ)) (slots : List ℕ) (kept : Kept)
         told = λ failed. all-each _ _ t.queues (λ q x. x.0) (quiet was);
         subs = each_sound.slot (subscriptions.opened kept) slots (each_sound.opened kept durable);
         slotted = omega (arith, each_one);
-        sent = each_committed.slot (length ledger) (subscriptions.opened kept) slots (each_committed.opened (length ledger) kept);
+        sent = each_committed.slot (end_of ledger) (subscriptions.opened kept) slots (each_committed.opened (end_of ledger) kept);
       }
 
-  pub receipts-reopened : AreReceipts t → t.failed ≡ true → t.committed ≤ length ledger → AreReceipts (reopened t ledger slots kept)
+  pub receipts-reopened : AreReceipts t → t.failed ≡ true → t.committed ≤ end_of ledger → AreReceipts (reopened t ledger slots kept)
   receipts-reopened are was more =
       let n = t.per_ledger in
       let h = entries_of t.doubt in
       let w = length t.waiting in
       record {
-        each = all-each (λ q. HasReceipts n t.committed h w q × ((q.pending ≡ []) × (q.handed_on ≤ length q.pending))) (HasReceipts n (length ledger) 0 0) t.queues
+        each = all-each (λ q. HasReceipts n t.committed h w q × ((q.pending ≡ []) × (q.handed_on ≤ length q.pending))) (HasReceipts n (end_of ledger) 0 0) t.queues
             (λ q x. record {
-              given = all-replies (IsReceiptWithin n 0 t.committed) (IsReceiptWithin n 0 (length ledger)) q.due (λ r y. within-wider n 0 t.committed 0 (length ledger) r (omega arith) more y) x.0.given;
+              given = all-replies (IsReceiptWithin n 0 t.committed) (IsReceiptWithin n 0 (end_of ledger)) q.due (λ r y. within-wider n 0 t.committed 0 (end_of ledger) r (omega arith) more y) x.0.given;
               awaited = rw (none-first q x.1) tt;
               promised = rw (none-left q x.1) tt;
             })

@@ -1,11 +1,9 @@
 -- What a read gives of the committed entries, whether a flush is under way or not.
-use Rattle.std.proofs.Common.{◌≡◌, ◌⊎◌, inr, ℕ, ◌<◌, true, Some, Result, Ok, Err, List, ◌++◌, length, sym, ap, ◌∙◌, arith, length-append}
+use Rattle.std.proofs.Common.{◌≡◌, ◌⊎◌, inr, ℕ, ◌<◌, true, Some, Result, Ok, Err, List, sym, ◌∙◌, arith}
 use Rattle.std.specs.Prelude.{IfOk, IfErr, IsErrOf}
-use Rattle.std.specs.List.{slice_get}
-use Rattle.std.proofs.lemmas.List.{get_or_append_left}
-use Rattle.std.proofs.lemmas.Option.{slice_get-get_or, get_or_from_slice_get}
 use Rattle.disk.specs.Disk.{Disk, Image}
-use Rattle.managed_ledger.specs.Entries.{Entries}
+use Rattle.managed_ledger.specs.Entries.{Ledger, end_of, entry_at}
+use Rattle.managed_ledger.specs.Trims.{end_lengthened, entry_stays}
 use Rattle.records.specs.Maps.{Kept}
 use Rattle.gated_log.specs.declared.read_error.ReadError.{ReadError}
 use Rattle.gated_log.specs.declared.read_error.ReadError.TheVariants.{Device, NoMemory}
@@ -14,27 +12,23 @@ use Rattle.topic_core.specs.State.{Topic, entries_in_doubt}
 use Rattle.topic_core.specs.Crashes.{longer, changed}
 use Rattle.topic_core.specs.Standing.{Phase, Before, Written, Lost, Standing}
 
--- an entry of the first part
-first_part : (xs ys : Entries) (i : ℕ) (e : List ℕ) → i < length xs → slice_get (xs ++ ys) i ≡ Some e → slice_get xs i ≡ Some e
-first_part xs ys i e within is = slice_get-get_or xs i e within ∙ ap (λ x. Some x) (sym (get_or_append_left xs ys e i within) ∙ get_or_from_slice_get (xs ++ ys) i e e is)
-
 not_refused : {T : Type 0} (e : T) → (let r : Result T ReadError = Ok e in r ≡ Err Device) → ⊥
 not_refused e is = absurd (cc)
 
 same_error : {T : Type 0} (e : ReadError) → (let r : Result T ReadError = Err e in r ≡ Err Device) → e ≡ Device
 same_error e is = cc
 
-module _ {T : Type 0} (bytes : T → List ℕ) (stands : ℕ → Image → Entries → Kept → Type 0) (t : Topic) (v : StoreView) (d : Disk) (position : ℕ) (within : position < t.committed) where
+module _ {T : Type 0} (bytes : T → List ℕ) (stands : ℕ → Image → Ledger → Kept → Type 0) (t : Topic) (v : StoreView) (d : Disk) (position : ℕ) (within : position < t.committed) where
   pub reads_entry : (phase : Phase) (r : Result T ReadError) → Standing stands phase t v d
-      → ((ledger : Entries) (kept : Kept) → d.honest → v.holds d.seen ledger kept → IfOk r (λ e. slice_get ledger position ≡ Some (bytes e))) → (v.failed ≡ true → IsErrOf r Device) → IfOk r (λ e. slice_get t.ledger position ≡ Some (bytes e))
+      → ((ledger : Ledger) (kept : Kept) → d.honest → v.holds d.seen ledger kept → IfOk r (λ e. entry_at ledger position ≡ Some (bytes e))) → (v.failed ≡ true → IsErrOf r Device) → IfOk r (λ e. entry_at t.ledger position ≡ Some (bytes e))
   reads_entry Before (Ok e) h entry failed = entry t.ledger t.kept h.honest h.holds.settled.now
-  reads_entry Written (Ok e) h entry failed = first_part t.ledger (entries_in_doubt t) position (bytes e) (omega (arith, within, h.counted)) (entry (longer t) (changed t) h.honest h.holds.settled.now)
+  reads_entry Written (Ok e) h entry failed = sym (entry_stays t.ledger (entries_in_doubt t) position (omega (arith, within, h.counted))) ∙ entry (longer t) (changed t) h.honest h.holds.settled.now
   reads_entry Lost (Ok e) h entry failed = absurd (not_refused e (failed h.matched.remembers.failed))
   reads_entry phase (Err e) h entry failed = tt
 
   pub reads_refused : (phase : Phase) (r : Result T ReadError) → Standing stands phase t v d
-      → ((ledger : Entries) (kept : Kept) → d.honest → v.holds d.seen ledger kept → position < length ledger → IfErr r (λ e. (e ≡ NoMemory) ⊎ (e ≡ Device))) → (v.failed ≡ true → IsErrOf r Device) → IfErr r (λ e. (e ≡ NoMemory) ⊎ (e ≡ Device))
+      → ((ledger : Ledger) (kept : Kept) → d.honest → v.holds d.seen ledger kept → position < end_of ledger → IfErr r (λ e. (e ≡ NoMemory) ⊎ (e ≡ Device))) → (v.failed ≡ true → IsErrOf r Device) → IfErr r (λ e. (e ≡ NoMemory) ⊎ (e ≡ Device))
   reads_refused phase (Ok e) h refused failed = tt
   reads_refused Before (Err e) h refused failed = refused t.ledger t.kept h.honest h.holds.settled.now (omega (arith, within, h.counted))
-  reads_refused Written (Err e) h refused failed = refused (longer t) (changed t) h.honest h.holds.settled.now (omega (arith, within, h.counted, length-append t.ledger (entries_in_doubt t)))
+  reads_refused Written (Err e) h refused failed = refused (longer t) (changed t) h.honest h.holds.settled.now (omega (arith, within, h.counted, end_lengthened t.ledger (entries_in_doubt t)))
   reads_refused Lost (Err e) h refused failed = inr (same_error e (failed h.matched.remembers.failed))

@@ -1,5 +1,5 @@
 -- The three parts of a flush, and how a topic stands on its device after each.
-use Rattle.std.proofs.Common.{◌≡◌, inl, inr, ⊎_elim, ℕ, ◌+◌, ◌≤◌, ◌^◌, Bool, true, false, ◌||◌, ◌&&◌, not, nat_eq, None, is_some, Result, Ok, Err, List, [], ◌++◌, length, take, map, refl, sym, ap, subst, ◌∙◌, arith, append-nil, length-append}
+use Rattle.std.proofs.Common.{◌≡◌, inl, inr, ⊎_elim, ℕ, ◌+◌, ◌≤◌, ◌^◌, Bool, true, false, ◌||◌, ◌&&◌, not, nat_eq, None, is_some, Result, Ok, Err, List, [], length, take, refl, sym, ap, subst, ◌∙◌, arith}
 use Rattle.std.proofs.lemmas.Bool.{true≢false, false≢true}
 use Rattle.std.proofs.lemmas.List.{take_all, length-take-le}
 use Rattle.disk.specs.Disk.{Disk, Image}
@@ -11,14 +11,16 @@ use Rattle.topic_stores.specs.declared.error.WriteError.TheVariants.{Device, NoM
 use Rattle.topic_stores.specs.Views.{StoreView, Settled, AreLaws}
 use Rattle.topic_stores.specs.Writing as stores
 use Rattle.topic_stores.specs.Writing.{StandsFor}
-use Rattle.managed_ledger.specs.Entries.{Entries}
+use Rattle.managed_ledger.specs.Entries.{Entries, Ledger, end_of, lengthened}
+use Rattle.managed_ledger.specs.Trims.{end_lengthened, lengthened_none}
 use Rattle.records.specs.declared.record.Record.{Record}
 use Rattle.records.specs.Maps.{Kept}
 use Rattle.records.specs.Records.{AreFormed, after_all}
 use Rattle.holds.specs.declared.consumer.ConsumerKey.{ConsumerKey}
 use Rattle.subscriptions.specs.Laws.{IsKept}
 use Rattle.subscriptions.proofs.Durable.{are_kept, formed_take, formed_longer}
-use Rattle.topic_core.specs.Slots.{slot_of_entry}
+use Rattle.topic_core.specs.Slots.{slots_of}
+use Rattle.topic_core.proofs.Slotted.{slots_none}
 use Rattle.topic_core.specs.State.{Topic, entries_of, changes_of, entries_in_doubt, changes_in_doubt}
 use Rattle.topic_core.specs.Soundness.{IsSound}
 use Rattle.topic_core.specs.Flush.{has_no_flush, handed_on, finished, taken_back, failed, flushed, FinishStep, FlushStep, FlushIn}
@@ -47,18 +49,18 @@ or_second false b h = h
 
 -- ---- what a crash leaves, of parts that are the same
 
-pub left_like : (l l' : Entries) (k k' : Kept) (e e' : Entries) (c c' : List Record) → l ≡ l' → k ≡ k' → e ≡ e' → c ≡ c' → (x : Entries) (y : Kept) → stores.IsLeft l k e c x y → stores.IsLeft l' k' e' c' x y
+pub left_like : (l l' : Ledger) (k k' : Kept) (e e' : Entries) (c c' : List Record) → l ≡ l' → k ≡ k' → e ≡ e' → c ≡ c' → (x : Ledger) (y : Kept) → stores.IsLeft l k e c x y → stores.IsLeft l' k' e' c' x y
 left_like l l' k k' e e' c c' el ek ee ec x y is =
-    subst (λ (z : List Record). stores.IsLeft l' k' e' z x y) ec (subst (λ (z : Entries). stores.IsLeft l' k' z c x y) ee (subst (λ z. stores.IsLeft l' z e c x y) ek (subst (λ (z : Entries). stores.IsLeft z k e c x y) el is)))
+    subst (λ (z : List Record). stores.IsLeft l' k' e' z x y) ec (subst (λ (z : Entries). stores.IsLeft l' k' z c x y) ee (subst (λ z. stores.IsLeft l' z e c x y) ek (subst (λ (z : Ledger). stores.IsLeft z k e c x y) el is)))
 
-pub stands_like : (files_stand : Image → Entries → Kept → Type 0) (P Q : Entries → Kept → Type 0) (files : Image) → ((l : Entries) (k : Kept) → P l k → Q l k) → StandsFor files_stand P files → StandsFor files_stand Q files
+pub stands_like : (files_stand : Image → Ledger → Kept → Type 0) (P Q : Ledger → Kept → Type 0) (files : Image) → ((l : Ledger) (k : Kept) → P l k → Q l k) → StandsFor files_stand P files → StandsFor files_stand Q files
 stands_like files_stand P Q files to x = record { ledger = x.ledger; kept = x.kept; is_left = to x.ledger x.kept x.is_left; stands = x.stands }
 
 -- ---- a settled store
 
-module _ (stands : ℕ → Image → Entries → Kept → Type 0) where
+module _ (stands : ℕ → Image → Ledger → Kept → Type 0) where
   -- a store that is settled with what is committed holds the topic
-  pub standing_before : (t : Topic) (v : StoreView) (d : Disk) → AreLaws stands v → Match Before t v → length t.ledger ≡ t.committed → t.subs.slots ≡ map slot_of_entry (t.ledger ++ t.waiting) → Settled v d t.ledger t.kept → Standing stands Before t v d
+  pub standing_before : (t : Topic) (v : StoreView) (d : Disk) → AreLaws stands v → Match Before t v → end_of t.ledger ≡ t.committed → t.subs.slots ≡ slots_of (lengthened t.ledger t.waiting) → Settled v d t.ledger t.kept → Standing stands Before t v d
   standing_before t v d laws m counted slots x = record {
     matched = m;
     honest = x.settled.honest;
@@ -107,18 +109,18 @@ module _ (stands : ℕ → Image → Entries → Kept → Type 0) where
   }
 
   holds_goes_on : (phase : Phase) (old new : Topic) (v : StoreView) (d : Disk) → GoesOn old new → Holds phase old v d → Holds phase new v d
-  holds_goes_on Before old new v d go x = subst (λ k. Settled v d new.ledger k) (sym go.durable) (subst (λ (l : Entries). Settled v d l old.kept) (sym go.ledger) x)
+  holds_goes_on Before old new v d go x = subst (λ k. Settled v d new.ledger k) (sym go.durable) (subst (λ (l : Ledger). Settled v d l old.kept) (sym go.ledger) x)
   holds_goes_on Written old new v d go x =
       subst (λ k. Settled v d (longer new) k) (ap (λ (cs : List Record). after_all cs old.kept) (sym go.changes) ∙ ap (λ k. after_all (changes_in_doubt new) k) (sym go.durable))
-      (subst (λ (l : Entries). Settled v d l (changed old)) (ap (λ (e : Entries). old.ledger ++ e) (sym go.entries) ∙ ap (λ (l : Entries). l ++ entries_in_doubt new) (sym go.ledger)) x)
+      (subst (λ (l : Ledger). Settled v d l (changed old)) (ap (λ (e : Entries). lengthened old.ledger e) (sym go.entries) ∙ ap (λ (l : Ledger). lengthened l (entries_in_doubt new)) (sym go.ledger)) x)
   holds_goes_on Lost old new v d go x = tt
 
   pub standing_goes_on : (phase : Phase) (old new : Topic) (v : StoreView) (d : Disk) → GoesOn old new → Standing stands phase old v d → Standing stands phase new v d
   standing_goes_on phase old new v d go h = record {
     matched = match_goes_on phase old new v go h.matched;
     honest = h.honest;
-    counted = ap (λ (l : Entries). length l) go.ledger ∙ h.counted ∙ sym go.committed;
-    slots = go.slots old.ledger h.slots ∙ ap (λ (l : Entries). map slot_of_entry (l ++ new.waiting)) (sym go.ledger);
+    counted = ap (λ (l : Ledger). end_of l) go.ledger ∙ h.counted ∙ sym go.committed;
+    slots = go.slots old.ledger h.slots ∙ ap (λ (l : Ledger). slots_of (lengthened l new.waiting)) (sym go.ledger);
     left = λ c may. stands_like (stands v.topic) (IsLeft old) (IsLeft new) c (λ l k is. left_like _ _ _ _ _ _ _ _ (sym go.ledger) (sym go.durable) (sym go.entries) (sym go.changes) l k is) (h.left c may);
     holds = holds_goes_on phase old new v d go h.holds;
   }
@@ -184,15 +186,15 @@ module _ (stands : ℕ → Image → Entries → Kept → Type 0) where
       within_is w' = weaken_within (OfTopic v.topic) CrashLeaves (StandsFor (stands v.topic) (IsLeft on)) was is left_is w'
 
       holds_after : (r : Result (Unit {0}) WriteError)
-          → ((done : Unit {0}) → r ≡ Ok done → Settled w is (on.ledger ++ batch.entries.items) (after_all batch.changes.items on.kept)) → (r ≡ Err NoMemory → Settled w is on.ledger on.kept) → Holds (phase_after r) on w is
+          → ((done : Unit {0}) → r ≡ Ok done → Settled w is (lengthened on.ledger batch.entries.items) (after_all batch.changes.items on.kept)) → (r ≡ Err NoMemory → Settled w is on.ledger on.kept) → Holds (phase_after r) on w is
       holds_after (Ok done) ok none =
           subst (λ k. Settled w is (longer on) k) (later_is on.kept refl)
-          (subst (λ (l : Entries). Settled w is l (after_all batch.changes.items on.kept)) (ap (λ (e : Entries). on.ledger ++ e) is_for.entries) (ok done refl))
+          (subst (λ (l : Ledger). Settled w is l (after_all batch.changes.items on.kept)) (ap (λ (e : Entries). lengthened on.ledger e) is_for.entries) (ok done refl))
       holds_after (Err NoMemory) ok none = none refl
       holds_after (Err Device) ok none = tt
 
       pub written_standing : (r : Result (Unit {0}) WriteError) → Standing stands Before on v was → Counted was is → stores.Remembers v batch r w
-          → ((done : Unit {0}) → r ≡ Ok done → Settled w is (on.ledger ++ batch.entries.items) (after_all batch.changes.items on.kept)) → (r ≡ Err NoMemory → Settled w is on.ledger on.kept) → Within (OfTopic v.topic) CrashLeaves was is
+          → ((done : Unit {0}) → r ≡ Ok done → Settled w is (lengthened on.ledger batch.entries.items) (after_all batch.changes.items on.kept)) → (r ≡ Err NoMemory → Settled w is on.ledger on.kept) → Within (OfTopic v.topic) CrashLeaves was is
           → Standing stands (phase_after r) on w is
       written_standing r h counted remembers ok none within = record {
         matched = written_match v w r h.matched remembers;
@@ -224,8 +226,8 @@ module _ (stands : ℕ → Image → Entries → Kept → Type 0) where
     module _ (v : StoreView) (d : Disk) (laws : AreLaws stands v) (fits : entries_of on.doubt ≤ length on.waiting) where
       finished_standing : Standing stands Written on v d → Standing stands Before (finished on) v d
       finished_standing h = standing_before (finished on) v d laws (finished_match v h.matched)
-          (omega (arith, h.counted, length-append on.ledger (entries_in_doubt on), length-take-le (entries_of on.doubt) on.waiting fits))
-          (h.slots ∙ ap (λ (z : Entries). map slot_of_entry z) (moved on)) h.holds
+          (omega (arith, h.counted, end_lengthened on.ledger (entries_in_doubt on), length-take-le (entries_of on.doubt) on.waiting fits))
+          (h.slots ∙ ap (λ (l : Ledger). slots_of l) (moved on)) h.holds
 
       taken_back_standing : Standing stands Before on v d → Standing stands Before (taken_back on) v d
       taken_back_standing h = standing_before (taken_back on) v d laws (taken_back_match v h.matched) h.counted h.slots h.holds
@@ -268,28 +270,28 @@ module _ (t : Topic) (sound : IsSound t) (works : t.failed ≡ false) (some : ha
 
 -- ---- an opening
 
-pub reopened_standing : (stands : ℕ → Image → Entries → Kept → Type 0) (t t2 : Topic) (v : StoreView) (d : Disk) (ledger : Entries) (kept : Kept) → AreLaws stands v → t2 ≡ reopened t ledger (map slot_of_entry ledger) kept → Match Before t2 v → Settled v d ledger kept → Standing stands Before t2 v d
+pub reopened_standing : (stands : ℕ → Image → Ledger → Kept → Type 0) (t t2 : Topic) (v : StoreView) (d : Disk) (ledger : Ledger) (kept : Kept) → AreLaws stands v → t2 ≡ reopened t ledger (slots_of ledger) kept → Match Before t2 v → Settled v d ledger kept → Standing stands Before t2 v d
 reopened_standing stands t t2 v d ledger kept laws core m x =
     subst (λ (k : Topic). Match Before k v → Standing stands Before k v d) (sym core)
-    (λ m2. standing_before stands (reopened t ledger (map slot_of_entry ledger) kept) v d laws m2 refl (ap (λ (z : Entries). map slot_of_entry z) (sym (append-nil ledger))) x) m
+    (λ m2. standing_before stands (reopened t ledger (slots_of ledger) kept) v d laws m2 refl (slots_none ledger) x) m
 
 -- what was left has as many entries at least
-pub left_more : (t : Topic) (ledger : Entries) (kept : Kept) → IsLeft t ledger kept → length t.ledger ≤ length ledger
-left_more t ledger kept (inl is) = omega (arith, ap (λ (l : Entries). length l) is.0)
-left_more t ledger kept (inr (inl is)) = omega (arith, ap (λ (l : Entries). length l) is.0, length-append t.ledger (entries_in_doubt t))
-left_more t ledger kept (inr (inr is)) = omega (arith, ap (λ (l : Entries). length l) is.0, length-append t.ledger (entries_in_doubt t))
+pub left_more : (t : Topic) (ledger : Ledger) (kept : Kept) → IsLeft t ledger kept → end_of t.ledger ≤ end_of ledger
+left_more t ledger kept (inl is) = omega (arith, ap (λ (l : Ledger). end_of l) is.0)
+left_more t ledger kept (inr (inl is)) = omega (arith, ap (λ (l : Ledger). end_of l) is.0, end_lengthened t.ledger (entries_in_doubt t))
+left_more t ledger kept (inr (inr is)) = omega (arith, ap (λ (l : Ledger). end_of l) is.0, end_lengthened t.ledger (entries_in_doubt t))
 
-module _ (stands : ℕ → Image → Entries → Kept → Type 0) (v v1 : StoreView) (old new : Disk) (topic : ℕ) (ledger : Entries) (laws : AreLaws stands v1) (held : Settled v1 new ledger v1.kept) (topic_is : v1.topic ≡ topic) (same_topic : topic ≡ v.topic) (same : new.seen ≡ old.seen) where
+module _ (stands : ℕ → Image → Ledger → Kept → Type 0) (v v1 : StoreView) (old new : Disk) (topic : ℕ) (ledger : Ledger) (laws : AreLaws stands v1) (held : Settled v1 new ledger v1.kept) (topic_is : v1.topic ≡ topic) (same_topic : topic ≡ v.topic) (same : new.seen ≡ old.seen) where
   -- a store that was opened again has what the files stand for
   pub again_stands : stands v.topic old.seen ledger v1.kept
   again_stands = subst (λ (n : ℕ). stands n old.seen ledger v1.kept) (topic_is ∙ same_topic) (subst (λ (i : Image). stands v1.topic i ledger v1.kept) same (laws.stands new.seen ledger v1.kept held.settled.now))
 
   -- which is what was left of the topic
-  pub again_left : ((n : ℕ) (files : Image) (one other : Entries) (k j : Kept) → length one ≤ 2 ^ 62 → stands n files one k → stands n files other j → (one ≡ other) × (k ≡ j))
-      → (t : Topic) → length ledger ≤ 2 ^ 62 → StandsFor (stands v.topic) (IsLeft t) old.seen → IsLeft t ledger v1.kept
+  pub again_left : ((n : ℕ) (files : Image) (one other : Ledger) (k j : Kept) → end_of one ≤ 2 ^ 62 → stands n files one k → stands n files other j → (one ≡ other) × (k ≡ j))
+      → (t : Topic) → end_of ledger ≤ 2 ^ 62 → StandsFor (stands v.topic) (IsLeft t) old.seen → IsLeft t ledger v1.kept
   again_left one t few s =
       let is = one v.topic old.seen ledger s.ledger v1.kept s.kept few again_stands s.stands in
-      subst (λ (l : Entries). IsLeft t l v1.kept) (sym is.0) (subst (λ (k : Kept). IsLeft t s.ledger k) (sym is.1) s.is_left)
+      subst (λ (l : Ledger). IsLeft t l v1.kept) (sym is.0) (subst (λ (k : Kept). IsLeft t s.ledger k) (sym is.1) s.is_left)
 
 -- ---- other calls
 
@@ -375,21 +377,21 @@ topics-go_on = record {
 
 -- ---- what a crash leaves after a flush
 
-flushed_left : (old : Topic) (l : Entries) (k : Kept) → IsLeft (flushed old) l k → IsLeft (handed_on old) l k
+flushed_left : (old : Topic) (l : Ledger) (k : Kept) → IsLeft (flushed old) l k → IsLeft (handed_on old) l k
 flushed_left old l k is =
-    let all : old.ledger ++ old.waiting ≡ old.ledger ++ entries_in_doubt (handed_on old) = ap (λ (z : Entries). old.ledger ++ z) (sym (all-entries old)) in
+    let all : lengthened old.ledger old.waiting ≡ lengthened old.ledger (entries_in_doubt (handed_on old)) = ap (λ (z : Entries). lengthened old.ledger z) (sym (all-entries old)) in
     let later : after_all old.subs.changes old.kept ≡ after_all (changes_in_doubt (handed_on old)) old.kept = ap (λ (z : List Record). after_all z old.kept) (sym (all-changes old)) in
-    let none : (old.ledger ++ old.waiting) ++ [] ≡ old.ledger ++ old.waiting = append-nil (old.ledger ++ old.waiting) in
+    let none : lengthened (lengthened old.ledger old.waiting) [] ≡ lengthened old.ledger old.waiting = lengthened_none (lengthened old.ledger old.waiting) in
     ⊎_elim (λ x. inr (inr (x.0 ∙ all, x.1 ∙ later)))
     (λ xs. ⊎_elim (λ x. inr (inr (x.0 ∙ none ∙ all, x.1 ∙ later))) (λ x. inr (inr (x.0 ∙ none ∙ all, x.1 ∙ later))) xs) is
 
-pub still_left : (old : Topic) → old.doubt ≡ None → (l : Entries) (k : Kept) → IsLeft old l k → IsLeft (handed_on old) l k
+pub still_left : (old : Topic) → old.doubt ≡ None → (l : Ledger) (k : Kept) → IsLeft old l k → IsLeft (handed_on old) l k
 still_left old none l k is =
-    let nothing : longer old ≡ old.ledger = ap (λ d. old.ledger ++ take (entries_of d) old.waiting) none ∙ append-nil old.ledger in
+    let nothing : longer old ≡ old.ledger = ap (λ d. lengthened old.ledger (take (entries_of d) old.waiting)) none ∙ lengthened_none old.ledger in
     let unchanged : changed old ≡ old.kept = ap (λ d. after_all (take (changes_of d) old.subs.changes) old.kept) none in
     ⊎_elim (λ x. inl x) (λ xs. ⊎_elim (λ x. inl (x.0 ∙ nothing, x.1)) (λ x. inl (x.0 ∙ nothing, x.1 ∙ unchanged)) xs) is
 
-flush-in-keep : (failed nothing : Bool) (old : Topic) (result : Result ℕ WriteError) (new : Topic) → FlushIn failed nothing old result new → failed ≡ false → old.doubt ≡ None → (l : Entries) (k : Kept) → IsLeft new l k → IsLeft (handed_on old) l k
+flush-in-keep : (failed nothing : Bool) (old : Topic) (result : Result ℕ WriteError) (new : Topic) → FlushIn failed nothing old result new → failed ≡ false → old.doubt ≡ None → (l : Ledger) (k : Kept) → IsLeft new l k → IsLeft (handed_on old) l k
 flush-in-keep true nothing old result new h works none l k is = absurd (true≢false works)
 flush-in-keep false true old result new h works none l k is = still_left old none l k (subst (λ (x : Topic). IsLeft x l k) h.1 is)
 flush-in-keep false false old (Ok n) new h works none l k is = flushed_left old l k (subst (λ (x : Topic). IsLeft x l k) h.1 is)
@@ -400,6 +402,6 @@ pub flushes-keep : FlushesKeep
 flushes-keep old result new h works none l k is = flush-in-keep old.failed (has_no_flush old) old result new h works none l k is
 
 -- a flush that is refused before its write
-pub refused_within : (stands : ℕ → Image → Entries → Kept → Type 0) (phase : Phase) (t : Topic) (v : StoreView) (d : Disk) → t.doubt ≡ None → Standing stands phase t v d → Within (OfTopic v.topic) (StandsFor (stands v.topic) (IsLeft (handed_on t))) d d
+pub refused_within : (stands : ℕ → Image → Ledger → Kept → Type 0) (phase : Phase) (t : Topic) (v : StoreView) (d : Disk) → t.doubt ≡ None → Standing stands phase t v d → Within (OfTopic v.topic) (StandsFor (stands v.topic) (IsLeft (handed_on t))) d d
 refused_within stands phase t v d none h = stays_within (OfTopic v.topic) (StandsFor (stands v.topic) (IsLeft (handed_on t))) d
     (λ c may. stands_like (stands v.topic) (IsLeft t) (IsLeft (handed_on t)) c (λ l k is. still_left t none l k is) (h.left c may))

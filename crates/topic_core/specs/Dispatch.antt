@@ -1,5 +1,5 @@
 -- What a dispatch gives a consumer.
-use Rattle.std.specs.Prelude.{◌≡◌, ◌⊎◌, ◌≤◌, ℕ, false, Option, Some, None, Result, Ok, Err, IfOk, IfErr, length, slice_get}
+use Rattle.std.specs.Prelude.{◌≡◌, ◌⊎◌, ◌≤◌, ℕ, false, Option, Some, None, Result, Ok, Err, IfOk, IfErr, length}
 use Rattle.commands.specs.declared.reply.Reply.TheVariants.{Message}
 use Rattle.ids.specs.declared.message_id.MessageId.{MessageId}
 use Rattle.ids.specs.Ids.{message_id_at}
@@ -9,7 +9,7 @@ use Rattle.topic_core.specs.declared.dispatch.Outgoing.{Outgoing}
 use Rattle.topic_core.specs.declared.dispatch.AtHand.{AtHand}
 use Rattle.topic_core.specs.declared.dispatch.AtHand.TheVariants as at_hand
 use Rattle.topic_core.specs.declared.read_at.ReadAt.{ReadAt}
-use Rattle.managed_ledger.specs.Entries.{Entries}
+use Rattle.managed_ledger.specs.Entries.{Ledger, entry_at}
 use Rattle.gated_log.specs.declared.read_error.ReadError.{ReadError}
 use Rattle.gated_log.specs.declared.read_error.ReadError.TheVariants.{Device, Damaged, NoMemory}
 use Rattle.topic_core.specs.State.{Topic}
@@ -28,7 +28,7 @@ sent t key i = record t { subs = subscriptions.sent t.subs key i }
 pub record IsSent (old : Topic) (key : ConsumerKey) (i : ℕ) (outgoing : Outgoing) (new : Topic) : Type 0 where
   pub admitted : Admits old key i
   pub reply : outgoing.reply ≡ Message key.id (message_id_at old.per_ledger i) (subscriptions.sent_before old.subs key i)
-  pub entry : slice_get old.ledger i ≡ Some outgoing.entry
+  pub entry : entry_at old.ledger i ≡ Some outgoing.entry
   pub sent : new ≡ sent old key i
 
 -- it is a MESSAGE for this consumer, and its entry is no longer than any that is accepted
@@ -51,8 +51,8 @@ abbrev pub DispatchStep : Topic → ℕ → ℕ → Result (Option Outgoing) Rea
 DispatchStep old who id result new = Dispatches old (key_of who id) result new
 
 -- what was read is the entry at its position, or it couldn't be read
-pub record IsReadOf (ledger : Entries) (read : ReadAt) : Type 0 where
-  pub entry : IfOk read.entry (λ entry. slice_get ledger read.position ≡ Some entry)
+pub record IsReadOf (ledger : Ledger) (read : ReadAt) : Type 0 where
+  pub entry : IfOk read.entry (λ entry. entry_at ledger read.position ≡ Some entry)
   pub refused : IfErr read.entry (λ e. (e ≡ NoMemory) ⊎ (e ≡ Device))
 
 -- the same by what was read before, or stands in memory: a message of an admitted position, none exactly where none is admitted, or the

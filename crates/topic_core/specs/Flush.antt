@@ -1,6 +1,7 @@
 -- A flush of a topic, and its parts.
-use Rattle.std.specs.Prelude.{◌≡◌, ℕ, ◌+◌, Bool, true, false, ◌&&◌, ◌||◌, Option, Some, None, is_some, Result, Ok, Err, [], ◌++◌, length, drop, filter, not, map, nat_eq}
+use Rattle.std.specs.Prelude.{◌≡◌, ℕ, ◌+◌, Bool, true, false, ◌&&◌, ◌||◌, Option, Some, None, is_some, Result, Ok, Err, [], length, drop, filter, not, map, nat_eq}
 use Rattle.std.specs.List.{list_all}
+use Rattle.managed_ledger.specs.Entries.{lengthened}
 use Rattle.topic_stores.specs.declared.batch.Batch.{Batch}
 use Rattle.topic_stores.specs.declared.error.WriteError.{WriteError}
 use Rattle.topic_stores.specs.declared.error.WriteError.TheVariants.{Device, NoMemory}
@@ -63,7 +64,7 @@ awaits t batch = not t.failed && is_some t.doubt && nat_eq (entries_of t.doubt) 
 abbrev pub finished : Topic → Topic
 finished t = record t {
   committed = t.committed + entries_of t.doubt;
-  ledger = t.ledger ++ entries_in_doubt t;
+  ledger = lengthened t.ledger (entries_in_doubt t);
   kept = after_all (changes_in_doubt t) t.kept;
   waiting = drop (entries_of t.doubt) t.waiting;
   subs = settled t.subs (changes_of t.doubt);
@@ -94,7 +95,7 @@ FinishStep old (Err Device) result new = (result ≡ Err Device) × (new ≡ fai
 abbrev pub flushed : Topic → Topic
 flushed t = record t {
   committed = t.committed + length t.waiting;
-  ledger = t.ledger ++ t.waiting;
+  ledger = lengthened t.ledger t.waiting;
   kept = after_all t.subs.changes t.kept;
   waiting = [];
   subs = record t.subs { changes = [] };

@@ -1,5 +1,5 @@
 -- What holds of every step of a topic.
-use Rattle.std.specs.Prelude.{◌≡◌, ℕ, ◌+◌, ◌<◌, ◌≤◌, ◌^◌, ◌↔◌, true, false, Option, None, Some, Result, Ok, List, [], ◌∷◌, ◌++◌, length, filter, slice_get, IsTrue, IsSomeAnd}
+use Rattle.std.specs.Prelude.{◌≡◌, ℕ, ◌+◌, ◌<◌, ◌≤◌, ◌^◌, ◌↔◌, true, false, Option, None, Some, Result, Ok, List, [], ◌∷◌, ◌++◌, length, filter, IsTrue, IsSomeAnd}
 use Rattle.std.specs.List.{find}
 use Rattle.ids.specs.Ids.{message_id_at, Names}
 use Rattle.ids.specs.declared.message_id.MessageIdData.{MessageIdData}
@@ -13,6 +13,7 @@ use Rattle.permits.specs.declared.plain.TooManyPermits.{TooManyPermits}
 use Rattle.commands.specs.declared.reply.Reply.{Reply}
 use Rattle.commands.specs.declared.reply.Reply.TheVariants.{Message}
 use Rattle.gated_log.specs.declared.refusal.Refusal.{Refusal}
+use Rattle.managed_ledger.specs.Entries.{Ledger, end_of, entry_at, lengthened}
 use Rattle.topic_stores.specs.declared.batch.Batch.{Batch}
 use Rattle.topic_stores.specs.declared.error.WriteError.{WriteError}
 use Rattle.gated_log.specs.declared.read_error.ReadError.{ReadError}
@@ -85,7 +86,7 @@ pub record StaysSound : Type 0 where
 -- a message that is sent is the published entry of a position that its consumer was admitted to; nobody acknowledged it on the subscription, and nobody holds it
 pub record IsAdmitted (old : Topic) (who id : ℕ) (outgoing : Outgoing) (i : ℕ) : Type 0 where
   pub named : outgoing.reply ≡ Message id (message_id_at old.per_ledger i) (sent_before old.subs (key_of who id) i)
-  pub published : slice_get old.ledger i ≡ Some outgoing.entry
+  pub published : entry_at old.ledger i ≡ Some outgoing.entry
   pub admitted : Admits old (key_of who id) i
   pub is_open : IsOpenFor (find (is_on (key_of who id)) old.subs.subs) old.committed i
 
@@ -105,12 +106,12 @@ IdsArePositions = (n committed i : ℕ) (id : MessageIdData) → 0 < n → commi
 
 -- receipts never outnumber the committed entries
 abbrev pub ReceiptsAreCovered : Type 0
-ReceiptsAreCovered = (t : Topic) → IsSoundTopic t → t.handed + receipts_due t.queues ≤ length t.ledger
+ReceiptsAreCovered = (t : Topic) → IsSoundTopic t → t.handed + receipts_due t.queues ≤ end_of t.ledger
 
 -- A good flush makes just a session's pending replies due, behind those that were; the ledger grows by what waited, the
 -- changes are durable, and just the closing producers are gone.
 pub record IsFlushed (old : Topic) (n : ℕ) (new : Topic) : Type 0 where
-  pub ledger : new.ledger ≡ old.ledger ++ old.waiting
+  pub ledger : new.ledger ≡ lengthened old.ledger old.waiting
   pub count : n ≡ length old.waiting
   pub kept : new.kept ≡ after_all old.subs.changes old.kept
   pub changes : new.subs.changes ≡ []
@@ -124,7 +125,7 @@ FlushesCommit = (old : Topic) (count : ℕ) (new : Topic) → FlushStep old (Ok 
 -- what a crash leaves of a topic after a flush is what it may leave while the flush is under way
 abbrev pub FlushesKeep : Type 0
 FlushesKeep = (old : Topic) (result : Result ℕ WriteError) (new : Topic) → FlushStep old result new → old.failed ≡ false → old.doubt ≡ None
-    → (ledger : List (List ℕ)) (kept : Kept) → IsLeft new ledger kept → IsLeft (handed_on old) ledger kept
+    → (ledger : Ledger) (kept : Kept) → IsLeft new ledger kept → IsLeft (handed_on old) ledger kept
 
 -- commands, permits, messages, collected replies and leaving sessions leave a topic standing on its device
 pub record TopicsGoOn : Type 0 where

@@ -1,7 +1,7 @@
 -- A topic on its device: the core, its store and the files.
-use Rattle.std.specs.Prelude.{◌≡◌, ℕ, ◌+◌, ◌≤◌, ◌^◌, Bool, true, false, ◌||◌, is_some, Result, Ok, Err, ◌++◌, length, map}
+use Rattle.std.specs.Prelude.{◌≡◌, ℕ, ◌+◌, ◌≤◌, ◌^◌, Bool, true, false, ◌||◌, is_some, Result, Ok, Err, length}
 use Rattle.disk.specs.Disk.{Disk, Image}
-use Rattle.managed_ledger.specs.Entries.{Entries}
+use Rattle.managed_ledger.specs.Entries.{Ledger, end_of, lengthened}
 use Rattle.records.specs.Maps.{Kept}
 use Rattle.subscriptions.specs.Laws.{IsKept}
 use Rattle.topic_stores.specs.declared.batch.Batch.{Batch}
@@ -9,7 +9,7 @@ use Rattle.topic_stores.specs.declared.error.WriteError.{WriteError}
 use Rattle.topic_stores.specs.declared.error.WriteError.TheVariants.{Device, NoMemory}
 use Rattle.topic_stores.specs.Views.{StoreView, Settled}
 use Rattle.topic_stores.specs.Writing.{StandsFor}
-use Rattle.topic_core.specs.Slots.{slot_of_entry}
+use Rattle.topic_core.specs.Slots.{slots_of}
 use Rattle.topic_core.specs.State.{Topic, entries_of, entries_in_doubt, changes_in_doubt}
 use Rattle.topic_core.specs.Flush.{awaits}
 use Rattle.topic_core.specs.Crashes.{IsLeft, longer, changed}
@@ -88,11 +88,11 @@ Holds Lost core v disk = Unit {0}
 
 -- Topic, store and device hold a topic together, in this phase. Whatever a crash now leaves stands for what a crash leaves of the
 -- topic. Each entry has its slot.
-pub record Standing (files_stand : ℕ → Image → Entries → Kept → Type 0) (phase : Phase) (core : Topic) (v : StoreView) (disk : Disk) : Type 0 where
+pub record Standing (files_stand : ℕ → Image → Ledger → Kept → Type 0) (phase : Phase) (core : Topic) (v : StoreView) (disk : Disk) : Type 0 where
   pub matched : Match phase core v
   pub honest : disk.honest
-  pub counted : length core.ledger ≡ core.committed
-  pub slots : core.subs.slots ≡ map slot_of_entry (core.ledger ++ core.waiting)
+  pub counted : end_of core.ledger ≡ core.committed
+  pub slots : core.subs.slots ≡ slots_of (lengthened core.ledger core.waiting)
   pub left : (files : Image) → disk.may_leave files → StandsFor (files_stand v.topic) (IsLeft core) files
   pub holds : Holds phase core v disk
 
@@ -109,4 +109,4 @@ pub record GoesOn (old new : Topic) : Type 0 where
   pub changes : changes_in_doubt new ≡ changes_in_doubt old
   pub kept : (kept : Kept) → IsKept old.committed kept old.subs → IsKept new.committed kept new.subs
   pub per_ledger : new.per_ledger ≡ old.per_ledger
-  pub slots : (ledger : Entries) → old.subs.slots ≡ map slot_of_entry (ledger ++ old.waiting) → new.subs.slots ≡ map slot_of_entry (ledger ++ new.waiting)
+  pub slots : (ledger : Ledger) → old.subs.slots ≡ slots_of (lengthened ledger old.waiting) → new.subs.slots ≡ slots_of (lengthened ledger new.waiting)

@@ -1,5 +1,7 @@
 -- The abstract topic. Of what is durable the code keeps the number of entries alone.
 use Rattle.std.specs.Prelude.{◌≡◌, ℕ, ◌+◌, Bool, false, Option, Some, None, List, [], length, take, sum_by}
+use Rattle.std.specs.FinMap as map
+use Rattle.managed_ledger.specs.Entries.{Ledger, end_of, whole}
 use Rattle.subscriptions.specs.State.{Subscriptions}
 use Rattle.subscriptions.specs.Steps as subscriptions
 use Rattle.records.specs.declared.record.Record.{Record}
@@ -15,7 +17,7 @@ pub record Doubt : Type 0 where
 pub record Topic : Type 0 where
   pub per_ledger : ℕ  -- how many entry ids a ledger id has
   pub committed : ℕ  -- how many entries are committed
-  pub ledger : List (List ℕ)  -- these entries
+  pub ledger : Ledger  -- these entries
   pub kept : Kept  -- the durable subscriptions: each name's acknowledged positions
   pub waiting : List (List ℕ)  -- the accepted entries that aren't
   pub accepted : ℕ  -- how many SENDs were accepted since the node opened
@@ -32,10 +34,10 @@ pub record CountsStay (old new : Topic) : Type 0 where
   pub handed : new.handed ≡ old.handed
 
 -- a topic that was opened over these committed entries, with these slots, and these durable subscriptions, and that nothing happened to since
-abbrev pub opened : ℕ → List (List ℕ) → List ℕ → Kept → Topic
+abbrev pub opened : ℕ → Ledger → List ℕ → Kept → Topic
 opened per_ledger ledger slots kept = record {
   per_ledger = per_ledger;
-  committed = length ledger;
+  committed = end_of ledger;
   ledger = ledger;
   kept = kept;
   waiting = [];
@@ -47,6 +49,10 @@ opened per_ledger ledger slots kept = record {
   doubt = None;
   failed = false;
 }
+
+-- a topic that was just made
+abbrev pub just_made : ℕ → Topic
+just_made per_ledger = opened per_ledger (whole []) [] map.empty
 
 -- how many of the waiting entries and of the changes a flush handed on
 abbrev pub entries_of : Option Doubt → ℕ

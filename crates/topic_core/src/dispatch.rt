@@ -1,9 +1,10 @@
-ghost use Rattle.std.specs.Prelude.{◌≡◌, ◌≢◌, ◌⊎◌, ◌<◌, ◌≤◌, ℕ, IfNone, Some, None, false, true, length, slice_get, Ok, Err, IfOk, IfErr, IfSome, OnOk, OnErr, IsErr, IsErrOf};
+ghost use Rattle.std.specs.Prelude.{◌≡◌, ◌≢◌, ◌⊎◌, ◌<◌, ◌≤◌, ℕ, IfNone, Some, None, false, true, length, Ok, Err, IfOk, IfErr, IfSome, OnOk, OnErr, IsErr, IsErrOf};
 ghost use Rattle.disk.specs.Disk.{Same, Leaves, Kept, Failed};
 ghost use Rattle.gated_log.specs.declared.read_error.ReadError.TheVariants.{Device, NoMemory};
 ghost use Rattle.commands.specs.declared.reply.Reply.TheVariants.{Message};
 ghost use Rattle.ids.specs.Ids.{message_id_at};
 ghost use Rattle.subscriptions.specs.Steps.{IsLearnt, IsLooked, sent_before};
+ghost use Rattle.managed_ledger.specs.Entries.{end_of, entry_at};
 ghost use Rattle.topic_core.specs.State.{Topic, CountsStay};
 ghost use Rattle.topic_core.specs.Steps.{key_of, learnt, HasLearnt};
 ghost use Rattle.topic_core.specs.declared.dispatch.AtHand.TheVariants.{Nothing, Unread};
@@ -115,7 +116,7 @@ impl<G: Gauge> TopicCore<G> {
         consumer_id: u64,
         read: Option<ReadAt>,
     ) -> Result<AtHand, ReadError>
-        ensures step { length self.old.ledger ≡ self.old.committed → IfSome read (IsReadOf self.old.ledger) →
+        ensures step { end_of self.old.ledger ≡ self.old.committed → IfSome read (IsReadOf self.old.ledger) →
             (t : Topic) × IsLearnt (learnt self.old who consumer_id) t × (G.exact → t ≡ self.old) × AtHandStep t (key_of who consumer_id) result self.new }
 
         // Whatever the ledger is, and whatever was read.
@@ -141,7 +142,7 @@ impl<G: Gauge> TopicCore<G> {
 
     /// The entry of a position, where it is the one that was read or stands in memory.
     fn entry_at(&self, position: u64, read: Option<ReadAt>) -> Result<Option<Bytes>, ReadError>
-        ensures entry { length self.now.ledger ≡ self.now.committed → IfSome read (IsReadOf self.now.ledger) → IfOk result (λ found. IfSome found (λ entry. slice_get self.now.ledger position ≡ Some entry)) }
+        ensures entry { end_of self.now.ledger ≡ self.now.committed → IfSome read (IsReadOf self.now.ledger) → IfOk result (λ found. IfSome found (λ entry. entry_at self.now.ledger position ≡ Some entry)) }
         ensures refused { IfSome read (IsReadOf self.now.ledger) → IfErr result (λ e. (e ≡ NoMemory) ⊎ (e ≡ Device)) }
         ensures short { IfOk result (λ found. IfSome found (λ entry. length entry ≤ 1048576)) }
         ensures unread { result ≡ Ok None → IfSome read (λ at. at.position ≢ position) }

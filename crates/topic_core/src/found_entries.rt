@@ -1,5 +1,6 @@
 // The entries of a topic that is opened.
 ghost use Rattle.std.specs.Prelude.{◌≡◌, map};
+ghost use Rattle.managed_ledger.specs.Entries.{whole};
 ghost use Rattle.topic_core.specs.Slots.{slot_of_entry};
 
 use crate::durable::Durable;
@@ -17,7 +18,7 @@ pub(crate) struct FoundEntries {
 }
 
 impl EntryFold for FoundEntries {
-    ghost holds = { λ found entries. (found.durable.ledger ≡ entries) × (found.slots ≡ map slot_of_entry entries) };
+    ghost holds = { λ found entries. (found.durable.ledger ≡ whole entries) × (found.slots ≡ map slot_of_entry entries) };
 
     fn entry(&mut self, entry: &[u8], metadata: &MessageMeta) -> Result<(), AllocError> {
         self.slots.push(slot_of_meta(metadata))?;

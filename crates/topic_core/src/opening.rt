@@ -1,13 +1,14 @@
 // The opening of a topic, and of one that failed.
-ghost use Rattle.std.specs.Prelude.{◌≡◌, ◌⊎◌, ◌<◌, ◌≤◌, ◌^◌, [], true, false, length, map, IfOk, IfErr, OnOk, IsErr, IsErrOf};
+ghost use Rattle.std.specs.Prelude.{◌≡◌, ◌⊎◌, ◌<◌, ◌≤◌, ◌^◌, true, false, IfOk, IfErr, OnOk, IsErr, IsErrOf};
 ghost use Rattle.disk.specs.Disk.{Same, Leaves, Kept as Counted, Failed};
 ghost use Rattle.disk.specs.Areas.{Agree, OfTopic, Within};
 ghost use Rattle.gated_log.specs.declared.refusal.Refusal.TheVariants.{Device, NoMemory};
+ghost use Rattle.managed_ledger.specs.Entries.{end_of};
 ghost use Rattle.subscriptions.specs.Steps.{slotted, opened as opened_subscriptions};
 ghost use Rattle.subscriptions.specs.Laws.{AreDurable};
 ghost use Rattle.topic_stores.specs.Views.{Settled};
 ghost use Rattle.topic_stores.specs.Writing.{StandsFor};
-ghost use Rattle.topic_core.specs.Slots.{slot_of_entry};
+ghost use Rattle.topic_core.specs.Slots.{slots_of};
 ghost use Rattle.topic_core.specs.State.{CountsStay, opened};
 ghost use Rattle.topic_core.specs.Crashes.{IsLeft, IsShorter, ReopenStep, reopened};
 ghost use Rattle.topic_core.specs.Standing.{Phase, resting, Match, Standing, phase_then};
@@ -35,7 +36,7 @@ impl<G: Gauge> TopicCore<G> {
         per_ledger: u32,
     ) -> Result<(TopicCore<G>, T), Refusal>
         requires numbered { 0 < per_ledger }
-        ensures opened { IfOk result (λ o. (length o.0.ledger ≡ (T.view o.1).count) × (o.0 ≡ opened per_ledger o.0.ledger (map slot_of_entry o.0.ledger) (T.view o.1).kept)) }
+        ensures opened { IfOk result (λ o. (end_of o.0.ledger ≡ (T.view o.1).count) × (o.0 ≡ opened per_ledger o.0.ledger (slots_of o.0.ledger) (T.view o.1).kept)) }
         ensures settled { (S.disk shelf.old).honest → IfOk result (λ o. Settled (T.view o.1) (S.disk shelf.new) o.0.ledger (T.view o.1).kept) }
         ensures matched { IfOk result (λ o. Match (resting false) o.0 (T.view o.1)) }
         ensures few { IfOk result (λ o. (T.view o.1).count ≤ 2 ^ 62) }
@@ -87,7 +88,7 @@ impl<G: Gauge> TopicCore<G> {
 
         // Whatever the files hold: what a failed topic finds is what they stand for, or the first fault in them is told.
         ensures found { (S.disk shelf.old).honest → self.old.failed ≡ true →
-            OnOk result (T.stands (T.view stores.old).topic (S.disk shelf.old).seen self.new.ledger self.new.kept × (self.new ≡ reopened self.old self.new.ledger (map slot_of_entry self.new.ledger) self.new.kept)) }
+            OnOk result (T.stands (T.view stores.old).topic (S.disk shelf.old).seen self.new.ledger self.new.kept × (self.new ≡ reopened self.old self.new.ledger (slots_of self.new.ledger) self.new.kept)) }
         ensures told { (S.disk shelf.old).honest →
             IfErr result (λ e. (e ≡ NoMemory) ⊎ ((e ≡ Device) ⊎ (T.faulty (T.view stores.old).topic (S.disk shelf.old).seen e ⊎ IsShorter T.stands (T.view stores.old).topic self.old (S.disk shelf.old).seen e))) }
 
@@ -101,7 +102,7 @@ impl<G: Gauge> TopicCore<G> {
         ensures counts { CountsStay self.old self.new }
         ensures works { self.old.failed ≡ false → self.new ≡ self.old }
         // Whatever the device does, the entries of a topic that was opened again are as many as the store remembers.
-        ensures again { self.old.failed ≡ true → OnOk result (self.new ≡ reopened self.old self.new.ledger (map slot_of_entry self.new.ledger) self.new.kept) }
+        ensures again { self.old.failed ≡ true → OnOk result (self.new ≡ reopened self.old self.new.ledger (slots_of self.new.ledger) self.new.kept) }
         ensures as_many { self.old.failed ≡ true → OnOk result (self.new.committed ≡ (T.view stores.new).count) }
         ensures refused { IsErr result → (self.new ≡ self.old) × (stores.new ≡ stores.old) }
         ensures cause { IsErrOf result Device → Failed (S.disk shelf.old) (S.disk shelf.new) }
@@ -130,9 +131,9 @@ impl<G: Gauge> TopicCore<G> {
         requires few { (T.view again.stores).count ≤ 2 ^ 62 }
         requires works { (T.view again.stores).failed ≡ false }
         requires numbered { (T.view again.stores).per_ledger ≡ self.old.per_ledger }
-        requires added { (length again.durable.ledger ≡ (T.view again.stores).count) × (again.subs ≡ slotted (opened_subscriptions (T.view again.stores).kept) (map slot_of_entry again.durable.ledger)) × (again.durable.kept ≡ (T.view again.stores).kept) }
+        requires added { (end_of again.durable.ledger ≡ (T.view again.stores).count) × (again.subs ≡ slotted (opened_subscriptions (T.view again.stores).kept) (slots_of again.durable.ledger)) × (again.durable.kept ≡ (T.view again.stores).kept) }
         requires durable { AreDurable (T.view again.stores).kept }
-        ensures again { self.new ≡ reopened self.old again.durable.ledger (map slot_of_entry again.durable.ledger) (T.view again.stores).kept }
+        ensures again { self.new ≡ reopened self.old again.durable.ledger (slots_of again.durable.ledger) (T.view again.stores).kept }
         ensures matched { Match (resting false) self.new (T.view again.stores) }
         ensures stores { result ≡ again.stores }
     {
@@ -168,7 +169,7 @@ fn open_stores<G: Gauge, T: TopicStore, S: Shelf>(
     topic: u16,
     per_ledger: u32,
 ) -> Result<Opened<G, T>, Refusal>
-    ensures added { IfOk result (λ t. (length t.durable.ledger ≡ (T.view t.stores).count) × (t.subs ≡ slotted (opened_subscriptions (T.view t.stores).kept) (map slot_of_entry t.durable.ledger)) × (t.durable.kept ≡ (T.view t.stores).kept)) }
+    ensures added { IfOk result (λ t. (end_of t.durable.ledger ≡ (T.view t.stores).count) × (t.subs ≡ slotted (opened_subscriptions (T.view t.stores).kept) (slots_of t.durable.ledger)) × (t.durable.kept ≡ (T.view t.stores).kept)) }
     ensures durable { IfOk result (λ t. AreDurable (T.view t.stores).kept) }
     ensures settled { (S.disk shelf.old).honest → IfOk result (λ t. Settled (T.view t.stores) (S.disk shelf.new) t.durable.ledger (T.view t.stores).kept) }
     ensures refused { (S.disk shelf.old).honest → IfErr result (λ e. (e ≡ NoMemory) ⊎ ((e ≡ Device) ⊎ T.faulty topic (S.disk shelf.old).seen e)) }

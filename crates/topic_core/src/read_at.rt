@@ -1,7 +1,8 @@
 // What is read of a topic's stores.
-ghost use Rattle.std.specs.Prelude.{◌≡◌, ◌⊎◌, ◌<◌, ◌≤◌, false, true, Some, length, slice_get, IfOk, IfErr, IfSome, IsErrOf};
+ghost use Rattle.std.specs.Prelude.{◌≡◌, ◌⊎◌, ◌<◌, ◌≤◌, false, true, Some, length, IfOk, IfErr, IfSome, IsErrOf};
 ghost use Rattle.disk.specs.Disk.{Same, Leaves, Kept, Failed};
 ghost use Rattle.gated_log.specs.declared.read_error.ReadError.TheVariants.{Device, NoMemory};
+ghost use Rattle.managed_ledger.specs.Entries.{entry_at};
 ghost use Rattle.topic_core.specs.Recent.{is_short};
 ghost use Rattle.topic_core.specs.State.{Topic};
 ghost use Rattle.topic_core.specs.Standing.{Phase, Standing};
@@ -53,7 +54,7 @@ pub(crate) fn read_committed<T: TopicStore, S: Shelf>(
     position: u64,
 ) -> Result<Bytes, ReadError>
     ensures entry { (phase : Phase) (core : Topic) → Standing T.stands phase core (T.view stores.now) (S.disk shelf.old) → position < core.committed →
-        IfOk result (λ entry. slice_get core.ledger position ≡ Some entry) }
+        IfOk result (λ entry. entry_at core.ledger position ≡ Some entry) }
     ensures refused { (phase : Phase) (core : Topic) → Standing T.stands phase core (T.view stores.now) (S.disk shelf.old) → position < core.committed →
         IfErr result (λ e. (e ≡ NoMemory) ⊎ (e ≡ Device)) }
     ensures short { IfOk result (λ entry. length entry ≤ 1048576) }

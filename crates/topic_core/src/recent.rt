@@ -1,5 +1,6 @@
 // What is durable of a topic, with the entries that were committed last.
-ghost use Rattle.std.specs.Prelude.{◌≡◌, ◌≤◌, ◌++◌, Some, length, All, slice_get, IfOk, IfSome};
+ghost use Rattle.std.specs.Prelude.{◌≡◌, ◌≤◌, Some, length, All, IfOk, IfSome};
+ghost use Rattle.managed_ledger.specs.Entries.{end_of, entry_at, lengthened};
 ghost use Rattle.records.specs.Records.{after_all};
 ghost use Rattle.topic_core.specs.Recent.{IsRest};
 
@@ -27,13 +28,14 @@ pub(crate) struct Recent {
 
 impl Model for Recent {
     ghost use Rattle.std.specs.Coded.{codes};
+    ghost use Rattle.managed_ledger.specs.Entries.{ledger_code};
     ghost use Rattle.records.specs.Maps.{kept_code};
     ghost use Rattle.topic_core.specs.declared.durable.Durable.{Durable as Known};
     ghost use Rattle.topic_core.specs.Recent.{AreLast};
 
     ghost Value = { Known };
 
-    ghost coded = { Prim.hlevel (codes, kept_code) };
+    ghost coded = { Prim.hlevel (codes, ledger_code, kept_code) };
 
     ghost view = { λ r. r.durable };
 
@@ -54,7 +56,7 @@ impl Recent {
 
     /// What is durable with these entries more, and behind these changes.
     pub(crate) fn after(&self, entries: &[Bytes], changes: &[Record]) -> Durable
-        ensures { (result.ledger ≡ self.now.ledger ++ entries.now) × (result.kept ≡ after_all changes.now self.now.kept) }
+        ensures { (result.ledger ≡ lengthened self.now.ledger entries.now) × (result.kept ≡ after_all changes.now self.now.kept) }
     {
         self.durable.after(entries, changes)
     }
@@ -62,7 +64,7 @@ impl Recent {
     /// What is durable now, by these entries more, which have so many bytes. Where memory is refused for their places, none
     /// stands in memory from then on.
     pub(crate) fn commit(&mut self, durable: Durable, entries: Vec<Bytes>, bytes: u64)
-        requires more { durable.ledger ≡ self.old.ledger ++ entries.items }
+        requires more { durable.ledger ≡ lengthened self.old.ledger entries.items }
         requires each_small { All (λ entry. length entry ≤ 1048576) entries.items }
         ensures { self.new ≡ durable }
     {
@@ -82,7 +84,7 @@ impl Recent {
 
     /// The entry at a position, where it stands in memory and so many are committed.
     pub(crate) fn entry(&self, position: u64, committed: u64) -> Result<Option<Bytes>, AllocError>
-        ensures found { length self.now.ledger ≡ committed → IfOk result (λ found. IfSome found (λ entry. slice_get self.now.ledger position ≡ Some entry)) }
+        ensures found { end_of self.now.ledger ≡ committed → IfOk result (λ found. IfSome found (λ entry. entry_at self.now.ledger position ≡ Some entry)) }
         ensures short { IfOk result (λ found. IfSome found (λ entry. length entry ≤ 1048576)) }
     {
         if committed <= position {

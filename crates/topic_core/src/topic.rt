@@ -66,13 +66,14 @@ impl<G: Gauge> Model for TopicCore<G> {
     ghost use Rattle.std.specs.Coded.{codes};
     ghost use Rattle.cursor.specs.Positions.{positions_code};
     ghost use Rattle.holds.specs.Deliveries.{deliveries_code};
+    ghost use Rattle.managed_ledger.specs.Entries.{ledger_code};
     ghost use Rattle.records.specs.Maps.{kept_code};
     ghost use Rattle.topic_core.specs.State.{Topic};
     ghost use Rattle.topic_core.specs.Soundness.{IsSound, AreReceipts};
 
     ghost Value = { Topic };
 
-    ghost coded = { Prim.hlevel (codes, positions_code, deliveries_code, kept_code) };
+    ghost coded = { Prim.hlevel (codes, positions_code, deliveries_code, ledger_code, kept_code) };
 
     ghost use Rattle.topic_core.specs.Held.{core_of};
 

@@ -1,5 +1,5 @@
 -- Topics that are opened, one after another, each on its own device.
-use Rattle.std.proofs.Common.{◌≡◌, ◌≢◌, ◌⊎◌, inl, inr, ⊎_elim, ℕ, zero, suc, ◌+◌, ◌<◌, Some, Err, List, [], ◌∷◌, ◌++◌, length, map, slice_get, slice_set, refl, sym, ap, subst, ◌∙◌, arith}
+use Rattle.std.proofs.Common.{◌≡◌, ◌≢◌, ◌⊎◌, inl, inr, ⊎_elim, ℕ, zero, suc, ◌+◌, ◌<◌, Some, Err, List, [], ◌∷◌, ◌++◌, length, slice_get, slice_set, refl, sym, ap, subst, ◌∙◌, arith}
 use Rattle.std.proofs.lemmas.Option.{same_Some, none-some, slice_get_within}
 use Rattle.std.proofs.lemmas.List.{length-append}
 use Rattle.std.proofs.lemmas.Result.{IfErr-at_err}
@@ -10,11 +10,11 @@ use Rattle.disk.specs.Areas.{Area, OfTopic}
 use Rattle.disk.specs.Contents.{Settled}
 use Rattle.disk.specs.Moments.{starts, joins}
 use Rattle.gated_log.specs.declared.refusal.Refusal.{Refusal}
-use Rattle.managed_ledger.specs.Entries.{Entries}
+use Rattle.managed_ledger.specs.Entries.{Ledger, whole}
 use Rattle.records.specs.Maps.{Kept}
 use Rattle.topic_stores.specs.declared.store.TopicStore.{Ghosts as StoreMembers}
 use Rattle.topic_stores.specs.Views.{StoreView, Settled as Holding, AreLaws}
-use Rattle.topic_core.specs.Slots.{slot_of_entry}
+use Rattle.topic_core.specs.Slots.{slots_of}
 use Rattle.topic_core.specs.State.{Topic, opened}
 use Rattle.topic_core.specs.Standing.{Before, Match, Standing}
 use Rattle.topic_core.proofs.Standings.{reopened_standing}
@@ -27,20 +27,20 @@ use Rattle.topic_lock.specs.declared.part.OpenPart.{OpenPart}
 use Rattle.topic_lock.specs.Opening.{IsOpened, IsCatalogOpened, OnlyReads, AreHonest, AreNumbered, AreOnlyRead, AllOnlyRead, AreOpened, FilesStand, OneFailed, IsTopicFault}
 
 -- a topic over a store that was just opened
-module _ (stands : ℕ → Image → Entries → Kept → Type 0) (n : ℕ) (t : Topic) (v : StoreView) (as_opened : t ≡ opened n t.ledger (map slot_of_entry t.ledger) v.kept) where
+module _ (stands : ℕ → Image → Ledger → Kept → Type 0) (n : ℕ) (t : Topic) (v : StoreView) (as_opened : t ≡ opened n t.ledger (slots_of t.ledger) v.kept) where
   is_kept : t.kept ≡ v.kept
   is_kept = ap (λ (x : Topic). x.kept) as_opened
 
   -- it stands on its store
   pub opened_standing : (d : Disk) → AreLaws stands v → Holding v d t.ledger v.kept → Match Before t v → Standing stands Before t v d
-  opened_standing d laws hold matched = reopened_standing stands (opened n [] [] finite.empty) t v d t.ledger v.kept laws as_opened matched hold
+  opened_standing d laws hold matched = reopened_standing stands (opened n (whole []) [] finite.empty) t v d t.ledger v.kept laws as_opened matched hold
 
   -- the files stood for what it has
   pub opened_found : (number : ℕ) (before d : Disk) → AreLaws stands v → v.topic ≡ number → Same before.seen d.seen → Holding v d t.ledger v.kept → IsOpened stands n number before.seen t
   opened_found number before d laws is same hold = record {
     stands = subst (λ (i : Image). stands number i t.ledger t.kept) same
         (subst (λ m. stands m d.seen t.ledger t.kept) is (subst (λ k. stands v.topic d.seen t.ledger k) (sym is_kept) (laws.stands d.seen t.ledger v.kept hold.settled.now)));
-    opened = as_opened ∙ ap (λ k. opened n t.ledger (map slot_of_entry t.ledger) k) (sym is_kept);
+    opened = as_opened ∙ ap (λ k. opened n t.ledger (slots_of t.ledger) k) (sym is_kept);
   }
 
 -- ---- lists

@@ -1,13 +1,13 @@
 -- A broker that is opened over its devices, the catalog's and one for each topic by its number, whatever their files hold.
-use Rattle.std.specs.Prelude.{◌≡◌, ◌⊎◌, ◌<◌, ℕ, Some, List, length, map, slice_get}
+use Rattle.std.specs.Prelude.{◌≡◌, ◌⊎◌, ◌<◌, ℕ, Some, List, length, slice_get}
 use Rattle.disk.specs.Disk.{Disk, Image, Same, Leaves, Kept as Counted, Failed}
 use Rattle.disk.specs.Contents.{Settled}
 use Rattle.disk.specs.Areas.{Area, Agree, OfTopic}
 use Rattle.gated_log.specs.declared.refusal.Refusal.{Refusal}
-use Rattle.managed_ledger.specs.Entries.{Entries}
+use Rattle.managed_ledger.specs.Entries.{Ledger}
 use Rattle.records.specs.Maps.{Kept}
 use Rattle.topic_stores.specs.declared.store.TopicStore.{Ghosts as StoreMembers}
-use Rattle.topic_core.specs.Slots.{slot_of_entry}
+use Rattle.topic_core.specs.Slots.{slots_of}
 use Rattle.topic_core.specs.Standing.{Before, Standing}
 use Rattle.topic_core.specs.State.{Topic, opened}
 use Rattle.catalog.specs.Names.{Names}
@@ -18,9 +18,9 @@ use Rattle.topic_lock.specs.declared.devices.Devices.{Devices}
 use Rattle.topic_lock.specs.declared.part.OpenPart.{OpenPart}
 
 -- the topic has what the files of its number stand for, and nothing happened to it since
-pub record IsOpened (files_stand : ℕ → Image → Entries → Kept → Type 0) (per_ledger number : ℕ) (files : Image) (t : Topic) : Type 0 where
+pub record IsOpened (files_stand : ℕ → Image → Ledger → Kept → Type 0) (per_ledger number : ℕ) (files : Image) (t : Topic) : Type 0 where
   pub stands : files_stand number files t.ledger t.kept
-  pub opened : t ≡ opened per_ledger t.ledger (map slot_of_entry t.ledger) t.kept
+  pub opened : t ≡ opened per_ledger t.ledger (slots_of t.ledger) t.kept
 
 -- An opening wrote nothing to a device. What reads give stays, but of a file of this area where the device failed.
 pub record OnlyReads (lost : Type 0) (own : Area) (old new : Disk) : Type 0 where
@@ -54,25 +54,25 @@ module _ {S : Type 0} (disk : S → Disk) where
     pub failed : Failed (disk before) (disk after)
 
   -- the first fault of so many topics, each on its device: that of the first one whose files have a fault
-  pub record IsTopicFault (files_stand : ℕ → Image → Entries → Kept → Type 0) (faulty : ℕ → Image → Refusal → Type 0) (count : ℕ) (shelves : List S) (why : Refusal) : Type 0 where
+  pub record IsTopicFault (files_stand : ℕ → Image → Ledger → Kept → Type 0) (faulty : ℕ → Image → Refusal → Type 0) (count : ℕ) (shelves : List S) (why : Refusal) : Type 0 where
     pub number : ℕ
     pub there : number < count
     pub shelf : S
     pub own : slice_get shelves number ≡ Some shelf
     pub fault : faulty number (disk shelf).seen why
-    pub first : (before : ℕ) (other : S) → before < number → slice_get shelves before ≡ Some other → (ledger : Entries) × (kept : Kept) × files_stand before (disk other).seen ledger kept
+    pub first : (before : ℕ) (other : S) → before < number → slice_get shelves before ≡ Some other → (ledger : Ledger) × (kept : Kept) × files_stand before (disk other).seen ledger kept
 
   -- the first fault that stands in the files: the catalog's, or that of its topics by their numbers
-  abbrev pub IsFirstFault : (ℕ → Image → Entries → Kept → Type 0) → (ℕ → Image → Refusal → Type 0) → Devices S → Refusal → Type 0
+  abbrev pub IsFirstFault : (ℕ → Image → Ledger → Kept → Type 0) → (ℕ → Image → Refusal → Type 0) → Devices S → Refusal → Type 0
   IsFirstFault files_stand faulty devices why = CatalogFault (disk devices.catalog).seen why
       ⊎ ((per_ledger : ℕ) × (names : Names) × NamesStand per_ledger (disk devices.catalog).seen names × IsTopicFault files_stand faulty (length names) devices.topics.items why)
 
   -- the catalog's file stands for names, and the files of each topic of them, on its device, for entries and subscriptions
-  pub record FilesStand (files_stand : ℕ → Image → Entries → Kept → Type 0) (devices : Devices S) : Type 0 where
+  pub record FilesStand (files_stand : ℕ → Image → Ledger → Kept → Type 0) (devices : Devices S) : Type 0 where
     pub per_ledger : ℕ
     pub names : Names
     pub named : NamesStand per_ledger (disk devices.catalog).seen names
-    pub topics : (number : ℕ) (shelf : S) → number < length names → slice_get devices.topics.items number ≡ Some shelf → (ledger : Entries) × (kept : Kept) × files_stand number (disk shelf).seen ledger kept
+    pub topics : (number : ℕ) (shelf : S) → number < length names → slice_get devices.topics.items number ≡ Some shelf → (ledger : Ledger) × (kept : Kept) × files_stand number (disk shelf).seen ledger kept
 
   -- the catalog has the names that its file stood for, and goes with the file as it is now
   pub record IsCatalogOpened (catalog : Catalog) (old new : Devices S) : Type 0 where

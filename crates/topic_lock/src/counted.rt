@@ -1,7 +1,7 @@
 // A topic with its shares, and what it tells sessions. Its calls alone reach the topic itself.
 pub(crate) mod flushing;
 pub(crate) mod reading;
-mod reopening;
+pub(crate) mod reopening;
 mod summary;
 
 ghost use Rattle.std.specs.Prelude.{◌≡◌, ◌+◌, ◌-◌, ◌<◌, ◌≤◌, ℕ, false, true, length, Ok};

@@ -35,6 +35,7 @@ mod waiting;
 pub use broker::{Seat, SharedBroker};
 pub use counted::flushing::{Flushed, Flusher, Taken, TakenBatch, Unawaited, Written};
 pub use counted::reading::{Next, StoresRead};
+pub use counted::reopening::Reopened;
 pub use counted::{AcceptedTally, CountedTopic, HandedTally, Heard, LockedCore, Sent, TopicShares};
 pub use devices::Devices;
 pub use directory::{LockedCatalog, SharedCatalog, Spare};

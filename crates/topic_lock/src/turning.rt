@@ -2,6 +2,7 @@
 ghost use Rattle.std.specs.Prelude.{◌≡◌};
 
 use crate::counted::flushing::{Flushed, Flusher, Taken, Unawaited};
+use crate::counted::reopening::Reopened;
 use crate::durable::DurableTally;
 use crate::fault::FlushFault;
 use crate::holding::ring_reader;
@@ -9,7 +10,6 @@ use crate::places::SharedTopic;
 use crate::tally::Tallies;
 use bells::{Bells, Marks};
 use disk::Shelf;
-use gated_log::Refusal;
 use std::sync::Wait;
 use topic_core::TopicStore;
 
@@ -48,23 +48,13 @@ impl<T: TopicStore, S: Shelf + Drop, K: Tallies> SharedTopic<T, S, K> {
         ended
     }
 
-    /// Whether the topic has failed.
-    pub fn is_failed<R: Wait>(&self, rt: &R) -> bool {
-        self.topic.lock(rt).is_failed()
-    }
-
-    /// Opens the topic again where it has failed, and has the connections end whose sessions had asked it for a producer or a
-    /// consumer, as a restart of the broker would: they have none there now, and their clients come back. A refusal changes nothing.
-    pub fn reopen<R: Wait>(
-        &self,
-        rt: &R,
-        tally: &DurableTally<K>,
-        bells: &Bells,
-    ) -> Result<(), Refusal> {
-        let members = self.stores.lock(rt).reopen_topic(rt, tally, &self.topic)?;
-        // A connection that has taken the place of one that ended meanwhile ends, too.
-        bells.end_all(&members);
-        Ok(())
+    /// Opens the topic again where it has failed, as `CountedTopic::reopen` says, under the lock of its stores and then its own.
+    pub fn reopen<R: Wait>(&self, rt: &R, tally: &DurableTally<K>) -> Reopened
+        ensures { result.topic ≡ self.now.number }
+    {
+        let mut stores = self.stores.lock(rt);
+        let mut topic = self.lock(rt);
+        topic.reopen(rt, tally, &mut stores)
     }
 
     /// A batch of all that waits, and whom its flush owes a reply. Where memory is refused what is owed stays.

@@ -1,12 +1,13 @@
 -- What a batch has is of its form: its entries, and its changes, also beside a longer ledger.
-use Rattle.std.proofs.Common.{◌≡◌, ℕ, ◌+◌, ◌≤◌, Result, Ok, Err, List, [], ◌∷◌, ◌++◌, length, refl, sym, subst, ◌∙◌, arith, length-append}
+use Rattle.std.proofs.Common.{◌≡◌, ℕ, ◌+◌, ◌≤◌, Result, Ok, Err, List, [], ◌∷◌, length, refl, sym, subst, ◌∙◌, arith}
 use Rattle.std.proofs.Math.Logic.{∥∥₁_elim, ∥∥₁_map}
 use Rattle.std.specs.Coded.{le_prop}
 use mathlib.Core.HLevel.{⊥_prop}
 use Rattle.commands.specs.declared.fault.CommandFault.{CommandFault}
 use Rattle.commands.specs.declared.metadata.MessageMeta.{MessageMeta}
 use Rattle.commands.specs.Metadata.{entry_of}
-use Rattle.managed_ledger.specs.Entries.{Entries, IsEntry, AreEntries}
+use Rattle.managed_ledger.specs.Entries.{Entries, Ledger, IsEntry, AreEntries, end_of, lengthened}
+use Rattle.managed_ledger.specs.Trims.{end_lengthened}
 use Rattle.records.specs.declared.record.Record.{Record}
 use Rattle.records.specs.declared.record.Record.TheVariants.{Made, Removed, Acknowledged, AcknowledgedThrough, AcknowledgedRange}
 use Rattle.records.specs.Maps.{Kept}
@@ -33,7 +34,7 @@ formed_longer e m [] kept low f = tt
 formed_longer e m (r ∷ rs) kept low f = (formed_one e m kept r low f.0, formed_longer e m rs (after r kept) low f.1)
 
 -- the changes of a batch, beside the ledger with its entries
-pub formed_there : (count : ℕ) (ledger batch : Entries) (kept remembered : Kept) (changes : List Record) → count ≡ length ledger → remembered ≡ kept → AreFormed (count + length batch) remembered changes → AreFormed (length (ledger ++ batch)) kept changes
+pub formed_there : (count : ℕ) (ledger : Ledger) (batch : Entries) (kept remembered : Kept) (changes : List Record) → count ≡ end_of ledger → remembered ≡ kept → AreFormed (count + length batch) remembered changes → AreFormed (end_of (lengthened ledger batch)) kept changes
 formed_there count ledger batch kept remembered changes counts same formed =
-    subst (λ k. AreFormed (length (ledger ++ batch)) k changes) same
-    (formed_longer (count + length batch) (length (ledger ++ batch)) changes remembered (omega (arith, counts, length-append ledger batch)) formed)
+    subst (λ k. AreFormed (end_of (lengthened ledger batch)) k changes) same
+    (formed_longer (count + length batch) (end_of (lengthened ledger batch)) changes remembered (omega (arith, counts, end_lengthened ledger batch)) formed)

@@ -1,5 +1,5 @@
 -- What holds of a store of a topic at any time.
-use Rattle.std.proofs.Common.{◌≡◌, inl, inr, ⊎_elim, ℕ, ◌≤◌, List, Bool, false, ◌||◌, length, sym, ap, subst, ◌∙◌}
+use Rattle.std.proofs.Common.{◌≡◌, inl, inr, ⊎_elim, ℕ, ◌≤◌, List, Bool, false, ◌||◌, sym, ap, subst, ◌∙◌}
 use Rattle.disk.specs.declared.file_id.FileId.{FileId}
 use Rattle.disk.specs.declared.file_id.FileId.TheVariants.{Catalog, Segment, Slot}
 use Rattle.disk.specs.Disk.{Disk, Image, Undisturbed}
@@ -8,13 +8,13 @@ use Rattle.journal.specs.Chains.{SegmentsOf}
 use Rattle.two_slot.specs.Slots.{SlotsOf}
 use Rattle.gated_log.specs.declared.refusal.Refusal.{Refusal}
 use Rattle.gated_log.specs.Batches.{Bodies}
-use Rattle.managed_ledger.specs.Entries.{Entries}
+use Rattle.managed_ledger.specs.Entries.{Ledger, end_of}
 use Rattle.managed_ledger.specs.Shape.{total}
 use Rattle.records.specs.Maps.{Kept}
 use Rattle.topic_stores.specs.Views.{StoreView, EntryView, SubView, Settled, AreLaws, entry_view, sub_view, both, stand, fault}
 
 -- a store stays settled where the files of its topic are left alone
-pub settled_stays : (stands : ℕ → Image → Entries → Kept → Type 0) (v : StoreView) → AreLaws stands v → (old new : Disk) (ledger : Entries) (kept : Kept) → Undisturbed (OfTopic v.topic) old new → Settled v old ledger kept → Settled v new ledger kept
+pub settled_stays : (stands : ℕ → Image → Ledger → Kept → Type 0) (v : StoreView) → AreLaws stands v → (old new : Disk) (ledger : Ledger) (kept : Kept) → Undisturbed (OfTopic v.topic) old new → Settled v old ledger kept → Settled v new ledger kept
 settled_stays stands v laws old new ledger kept u x = record {
   settled = record {
     honest = u.honest x.settled.honest;
@@ -44,12 +44,12 @@ are_apart t (Segment of n) h k = k
 are_apart t (Slot of s) h k = h
 
 -- what a store of entries promises
-pub record EntryLaws (files_stand : ℕ → Image → Entries → Type 0) (area : ℕ → FileId → Type 0) (e : EntryView) : Type 0 where
-  pub works : (c : Image) (l : Entries) → e.holds c l → e.failed ≡ false
-  pub counts : (c : Image) (l : Entries) → e.holds c l → e.total ≡ length l
-  pub stands : (c : Image) (l : Entries) → e.holds c l → files_stand e.topic c l
+pub record EntryLaws (files_stand : ℕ → Image → Ledger → Type 0) (area : ℕ → FileId → Type 0) (e : EntryView) : Type 0 where
+  pub works : (c : Image) (l : Ledger) → e.holds c l → e.failed ≡ false
+  pub counts : (c : Image) (l : Ledger) → e.holds c l → e.total ≡ end_of l
+  pub stands : (c : Image) (l : Ledger) → e.holds c l → files_stand e.topic c l
   pub own : (f : FileId) → area e.topic f → SegmentsOf e.topic f
-  pub local : (a b : Image) (l : Entries) → Agree (area e.topic) a b → e.holds a l → e.holds b l
+  pub local : (a b : Image) (l : Ledger) → Agree (area e.topic) a b → e.holds a l → e.holds b l
 
 -- what a store of subscriptions promises
 pub record SubLaws (files_stand : ℕ → ℕ → Image → Kept → Type 0) (area : ℕ → FileId → Type 0) (s : SubView) : Type 0 where
@@ -62,10 +62,10 @@ pub record SubLaws (files_stand : ℕ → ℕ → Image → Kept → Type 0) (ar
   pub written_local : (a b : Image) → Agree (area s.topic) a b → s.written b ≡ s.written a
 
 -- each of one store, by the laws of its trait
-pub entry_laws : {E : Type 0} (topic_of : E → ℕ) (counts : E → List ℕ) (per_ledger : E → ℕ) (failed : E → Bool) (holds : E → Image → Entries → Type 0) (files_stand : ℕ → Image → Entries → Type 0) (area : ℕ → FileId → Type 0)
-    → ((store : E) (c : Image) (l : Entries) → holds store c l → failed store ≡ false) → ((store : E) (c : Image) (l : Entries) → holds store c l → total (counts store) ≡ length l)
-    → ((store : E) (c : Image) (l : Entries) → holds store c l → files_stand (topic_of store) c l) → ((t : ℕ) (f : FileId) → area t f → SegmentsOf t f)
-    → ((store : E) (a b : Image) (l : Entries) → Agree (area (topic_of store)) a b → holds store a l → holds store b l)
+pub entry_laws : {E : Type 0} (topic_of : E → ℕ) (counts : E → List ℕ) (per_ledger : E → ℕ) (failed : E → Bool) (holds : E → Image → Ledger → Type 0) (files_stand : ℕ → Image → Ledger → Type 0) (area : ℕ → FileId → Type 0)
+    → ((store : E) (c : Image) (l : Ledger) → holds store c l → failed store ≡ false) → ((store : E) (c : Image) (l : Ledger) → holds store c l → total (counts store) ≡ end_of l)
+    → ((store : E) (c : Image) (l : Ledger) → holds store c l → files_stand (topic_of store) c l) → ((t : ℕ) (f : FileId) → area t f → SegmentsOf t f)
+    → ((store : E) (a b : Image) (l : Ledger) → Agree (area (topic_of store)) a b → holds store a l → holds store b l)
     → (store : E) → EntryLaws files_stand area (entry_view topic_of counts per_ledger failed holds store)
 entry_laws topic_of counts per_ledger failed holds files_stand area works is_count stands own local store = record {
   works = λ c l x. works store c l x;
@@ -94,40 +94,40 @@ sub_laws topic_of content failed holds written files_stand area works is_content
 none_failed : (a b : Bool) → a ≡ false → b ≡ false → (a || b) ≡ false
 none_failed a b x y = ap (λ (z : Bool). z || b) x ∙ y
 
-module _ (es : ℕ → Image → Entries → Type 0) (ss : ℕ → ℕ → Image → Kept → Type 0) (ea ca : ℕ → FileId → Type 0) (e : EntryView) (s : SubView) (el : EntryLaws es ea e) (sl : SubLaws ss ca s) where
+module _ (es : ℕ → Image → Ledger → Type 0) (ss : ℕ → ℕ → Image → Kept → Type 0) (ea ca : ℕ → FileId → Type 0) (e : EntryView) (s : SubView) (el : EntryLaws es ea e) (sl : SubLaws ss ca s) where
   slot_of_topic : s.topic ≡ e.topic → (f : FileId) → ca s.topic f → OfTopic e.topic f
   slot_of_topic one_topic f a = subst (λ t. OfTopic t f) one_topic (slot_own s.topic f (sl.own f a))
 
   pub both_laws : AreLaws (stand es ss) (both e s)
   both_laws = record {
-    works = λ c l k x. none_failed e.failed s.failed (el.works c l x.entries) (sl.works (length l) c k x.subscriptions);
+    works = λ c l k x. none_failed e.failed s.failed (el.works c l x.entries) (sl.works (end_of l) c k x.subscriptions);
     counts = λ c l k x. el.counts c l x.entries;
-    remembers = λ c l k x. sl.content (length l) c k x.subscriptions;
-    stands = λ c l k x. (el.stands c l x.entries, subst (λ t. ss t (length l) c k) x.one_topic (sl.stands (length l) c k x.subscriptions));
+    remembers = λ c l k x. sl.content (end_of l) c k x.subscriptions;
+    stands = λ c l k x. (el.stands c l x.entries, subst (λ t. ss t (end_of l) c k) x.one_topic (sl.stands (end_of l) c k x.subscriptions));
     local = λ a b l k same x. record {
       one_topic = x.one_topic;
       entries = el.local a b l (λ f own. same f (segment_own e.topic f (el.own f own))) x.entries;
-      subscriptions = sl.local (length l) a b k (λ f own. same f (slot_of_topic x.one_topic f own)) x.subscriptions;
+      subscriptions = sl.local (end_of l) a b k (λ f own. same f (slot_of_topic x.one_topic f own)) x.subscriptions;
     };
     written_local = λ a b l k same x. sl.written_local a b (λ f own. same f (slot_of_topic x.one_topic f own));
   }
 
 -- ---- faults
 
-module _ (es : ℕ → Image → Entries → Type 0) (ef : ℕ → Image → Refusal → Type 0) (sf : ℕ → ℕ → Image → Refusal → Type 0) where
+module _ (es : ℕ → Image → Ledger → Type 0) (ef : ℕ → Image → Refusal → Type 0) (sf : ℕ → ℕ → Image → Refusal → Type 0) where
   -- files have one first fault
   pub fault_one : ((t : ℕ) (c : Image) (one other : Refusal) → ef t c one → ef t c other → one ≡ other) → ((t n : ℕ) (c : Image) (one other : Refusal) → sf t n c one → sf t n c other → one ≡ other)
-      → ((t : ℕ) (c : Image) (one other : Entries) → es t c one → es t c other → one ≡ other) → ((t : ℕ) (c : Image) (l : Entries) (e : Refusal) → es t c l → ¬ ef t c e)
+      → ((t : ℕ) (c : Image) (one other : Ledger) → es t c one → es t c other → one ≡ other) → ((t : ℕ) (c : Image) (l : Ledger) (e : Refusal) → es t c l → ¬ ef t c e)
       → (t : ℕ) (c : Image) (one other : Refusal) → fault es ef sf t c one → fault es ef sf t c other → one ≡ other
   fault_one segments_one slots_one one_ledger no_fault t c one other (inl is) (inl is') = segments_one t c one other is is'
   fault_one segments_one slots_one one_ledger no_fault t c one other (inl is) (inr is') = absurd (no_fault t c is'.0 one is'.1 is)
   fault_one segments_one slots_one one_ledger no_fault t c one other (inr is) (inl is') = absurd (no_fault t c is.0 other is.1 is')
   fault_one segments_one slots_one one_ledger no_fault t c one other (inr is) (inr is') =
-      slots_one t (length is'.0) c one other (subst (λ (l : Entries). sf t (length l) c one) (one_ledger t c is.0 is'.0 is.1 is'.1) is.2) is'.2
+      slots_one t (end_of is'.0) c one other (subst (λ (l : Ledger). sf t (end_of l) c one) (one_ledger t c is.0 is'.0 is.1 is'.1) is.2) is'.2
 
   -- where they stand for something they have none
-  pub stand_sound : (ss : ℕ → ℕ → Image → Kept → Type 0) → ((t : ℕ) (c : Image) (one other : Entries) → es t c one → es t c other → one ≡ other) → ((t : ℕ) (c : Image) (l : Entries) (e : Refusal) → es t c l → ¬ ef t c e)
+  pub stand_sound : (ss : ℕ → ℕ → Image → Kept → Type 0) → ((t : ℕ) (c : Image) (one other : Ledger) → es t c one → es t c other → one ≡ other) → ((t : ℕ) (c : Image) (l : Ledger) (e : Refusal) → es t c l → ¬ ef t c e)
       → ((t n : ℕ) (c : Image) (k : Kept) (e : Refusal) → ss t n c k → ¬ sf t n c e)
-      → (t : ℕ) (c : Image) (l : Entries) (k : Kept) (e : Refusal) → stand es ss t c l k → ¬ fault es ef sf t c e
+      → (t : ℕ) (c : Image) (l : Ledger) (k : Kept) (e : Refusal) → stand es ss t c l k → ¬ fault es ef sf t c e
   stand_sound ss one_ledger no_fault no_slot_fault t c l k e is =
-      ⊎_elim (λ bad. no_fault t c l e is.0 bad) (λ bad. no_slot_fault t (length bad.0) c k e (subst (λ (m : Entries). ss t (length m) c k) (one_ledger t c l bad.0 is.0 bad.1) is.1) bad.2)
+      ⊎_elim (λ bad. no_fault t c l e is.0 bad) (λ bad. no_slot_fault t (end_of bad.0) c k e (subst (λ (m : Ledger). ss t (end_of m) c k) (one_ledger t c l bad.0 is.0 bad.1) is.1) bad.2)

@@ -1,11 +1,11 @@
 -- The durable half of a topic, in one view.
-use Rattle.std.specs.Prelude.{◌≡◌, ◌⊎◌, ℕ, Bool, false, ◌||◌, List, length}
+use Rattle.std.specs.Prelude.{◌≡◌, ◌⊎◌, ℕ, Bool, false, ◌||◌, List}
 use Rattle.disk.specs.Disk.{Disk, Image}
 use Rattle.disk.specs.Areas.{Agree, OfTopic}
 use Rattle.disk.specs.Contents.{Steady}
 use Rattle.gated_log.specs.declared.refusal.Refusal.{Refusal}
 use Rattle.gated_log.specs.Batches.{Bodies}
-use Rattle.managed_ledger.specs.Entries.{Entries}
+use Rattle.managed_ledger.specs.Entries.{Ledger, end_of}
 use Rattle.managed_ledger.specs.Shape.{total}
 use Rattle.records.specs.Maps.{Kept}
 
@@ -16,22 +16,22 @@ pub record StoreView : Type 1 where
   pub per_ledger : ℕ  -- how many make a segment full
   pub kept : Kept  -- the subscriptions that it remembers; also after a failure the old ones
   pub failed : Bool  -- a write failed: it refuses until it is opened again
-  pub holds : Image → Entries → Kept → Type 0  -- it works, and the files have these entries and subscriptions just as it remembers them
+  pub holds : Image → Ledger → Kept → Type 0  -- it works, and the files have these entries and subscriptions just as it remembers them
   pub written : Image → Bodies  -- the bodies of changes in its files, as many as it remembers
 
 -- The store works, with these entries and subscriptions, in the same bodies.
-abbrev pub Settled : StoreView → Disk → Entries → Kept → Type 0
-Settled v disk ledger kept = Steady (λ files (content : Entries × Kept). v.holds files content.0 content.1) v.written disk (ledger, kept)
+abbrev pub Settled : StoreView → Disk → Ledger → Kept → Type 0
+Settled v disk ledger kept = Steady (λ files (content : Ledger × Kept). v.holds files content.0 content.1) v.written disk (ledger, kept)
 
 -- What holds of a store at any time, where these are what files of a topic stand for.
-pub record AreLaws (files_stand : ℕ → Image → Entries → Kept → Type 0) (v : StoreView) : Type 0 where
-  pub works : (c : Image) (ledger : Entries) (kept : Kept) → v.holds c ledger kept → v.failed ≡ false
-  pub counts : (c : Image) (ledger : Entries) (kept : Kept) → v.holds c ledger kept → v.count ≡ length ledger
-  pub remembers : (c : Image) (ledger : Entries) (kept : Kept) → v.holds c ledger kept → v.kept ≡ kept
-  pub stands : (c : Image) (ledger : Entries) (kept : Kept) → v.holds c ledger kept → files_stand v.topic c ledger kept
+pub record AreLaws (files_stand : ℕ → Image → Ledger → Kept → Type 0) (v : StoreView) : Type 0 where
+  pub works : (c : Image) (ledger : Ledger) (kept : Kept) → v.holds c ledger kept → v.failed ≡ false
+  pub counts : (c : Image) (ledger : Ledger) (kept : Kept) → v.holds c ledger kept → v.count ≡ end_of ledger
+  pub remembers : (c : Image) (ledger : Ledger) (kept : Kept) → v.holds c ledger kept → v.kept ≡ kept
+  pub stands : (c : Image) (ledger : Ledger) (kept : Kept) → v.holds c ledger kept → files_stand v.topic c ledger kept
   -- it looks at the files of its topic alone
-  pub local : (a b : Image) (ledger : Entries) (kept : Kept) → Agree (OfTopic v.topic) a b → v.holds a ledger kept → v.holds b ledger kept
-  pub written_local : (a b : Image) (ledger : Entries) (kept : Kept) → Agree (OfTopic v.topic) a b → v.holds a ledger kept → v.written b ≡ v.written a
+  pub local : (a b : Image) (ledger : Ledger) (kept : Kept) → Agree (OfTopic v.topic) a b → v.holds a ledger kept → v.holds b ledger kept
+  pub written_local : (a b : Image) (ledger : Ledger) (kept : Kept) → Agree (OfTopic v.topic) a b → v.holds a ledger kept → v.written b ≡ v.written a
 
 -- ---- of two stores
 
@@ -41,7 +41,7 @@ pub record EntryView : Type 1 where
   pub counts : List ℕ
   pub per_ledger : ℕ
   pub failed : Bool
-  pub holds : Image → Entries → Type 0
+  pub holds : Image → Ledger → Type 0
 
 pub record SubView : Type 1 where
   pub topic : ℕ
@@ -51,10 +51,10 @@ pub record SubView : Type 1 where
   pub written : Image → Bodies
 
 -- they are of one topic, and each holds its half
-pub record BothHold (e : EntryView) (s : SubView) (files : Image) (ledger : Entries) (kept : Kept) : Type 0 where
+pub record BothHold (e : EntryView) (s : SubView) (files : Image) (ledger : Ledger) (kept : Kept) : Type 0 where
   pub one_topic : s.topic ≡ e.topic
   pub entries : e.holds files ledger
-  pub subscriptions : s.holds (length ledger) files kept
+  pub subscriptions : s.holds (end_of ledger) files kept
 
 abbrev pub both : EntryView → SubView → StoreView
 both e s = record {
@@ -68,16 +68,16 @@ both e s = record {
   written = s.written;
 }
 
-abbrev pub entry_view : {E : Type 0} → (E → ℕ) → (E → List ℕ) → (E → ℕ) → (E → Bool) → (E → Image → Entries → Type 0) → E → EntryView
+abbrev pub entry_view : {E : Type 0} → (E → ℕ) → (E → List ℕ) → (E → ℕ) → (E → Bool) → (E → Image → Ledger → Type 0) → E → EntryView
 entry_view topic_of counts per_ledger failed holds store = record { topic = topic_of store; total = total (counts store); counts = counts store; per_ledger = per_ledger store; failed = failed store; holds = holds store }
 
 abbrev pub sub_view : {C : Type 0} → (C → ℕ) → (C → Kept) → (C → Bool) → (C → ℕ → Image → Kept → Type 0) → (C → Image → Bodies) → C → SubView
 sub_view topic_of content failed holds written store = record { topic = topic_of store; kept = content store; failed = failed store; holds = holds store; written = written store }
 
 -- the files of a topic stand for these entries and subscriptions
-abbrev pub stand : (ℕ → Image → Entries → Type 0) → (ℕ → ℕ → Image → Kept → Type 0) → ℕ → Image → Entries → Kept → Type 0
-stand entries_stand subscriptions_stand topic files ledger kept = entries_stand topic files ledger × subscriptions_stand topic (length ledger) files kept
+abbrev pub stand : (ℕ → Image → Ledger → Type 0) → (ℕ → ℕ → Image → Kept → Type 0) → ℕ → Image → Ledger → Kept → Type 0
+stand entries_stand subscriptions_stand topic files ledger kept = entries_stand topic files ledger × subscriptions_stand topic (end_of ledger) files kept
 
 -- the first fault of the segments, or of the slots beside segments that stand for entries
-abbrev pub fault : (ℕ → Image → Entries → Type 0) → (ℕ → Image → Refusal → Type 0) → (ℕ → ℕ → Image → Refusal → Type 0) → ℕ → Image → Refusal → Type 0
-fault entries_stand segments_faulty slots_faulty topic files refusal = segments_faulty topic files refusal ⊎ ((ledger : Entries) × entries_stand topic files ledger × slots_faulty topic (length ledger) files refusal)
+abbrev pub fault : (ℕ → Image → Ledger → Type 0) → (ℕ → Image → Refusal → Type 0) → (ℕ → ℕ → Image → Refusal → Type 0) → ℕ → Image → Refusal → Type 0
+fault entries_stand segments_faulty slots_faulty topic files refusal = segments_faulty topic files refusal ⊎ ((ledger : Ledger) × entries_stand topic files ledger × slots_faulty topic (end_of ledger) files refusal)

@@ -1,7 +1,7 @@
 -- A write of a batch.
-use Rattle.std.specs.Prelude.{◌≡◌, ◌⊎◌, ◌+◌, ◌≤◌, ◌^◌, true, false, Result, Ok, Err, ℕ, List, [], ◌∷◌, ◌++◌, length}
+use Rattle.std.specs.Prelude.{◌≡◌, ◌⊎◌, ◌+◌, ◌≤◌, ◌^◌, true, false, Result, Ok, Err, ℕ, List, [], ◌∷◌, length}
 use Rattle.disk.specs.Disk.{Image}
-use Rattle.managed_ledger.specs.Entries.{Entries}
+use Rattle.managed_ledger.specs.Entries.{Entries, Ledger, lengthened}
 use Rattle.managed_ledger.specs.Shape.{counts_after}
 use Rattle.records.specs.declared.record.Record.{Record}
 use Rattle.records.specs.Maps.{Kept}
@@ -20,15 +20,15 @@ pub record Fits (v : StoreView) (batch : Batch) : Type 0 where
 
 -- What a crash leaves of these entries and subscriptions, with more entries and changes in doubt: the old ones, or the ledger
 -- has the entries too, or both have what is in doubt. Changes come only where the entries came.
-abbrev pub IsLeft : Entries → Kept → Entries → List Record → Entries → Kept → Type 0
+abbrev pub IsLeft : Ledger → Kept → Entries → List Record → Ledger → Kept → Type 0
 IsLeft ledger kept entries changes new_ledger new_kept =
     ((new_ledger ≡ ledger) × (new_kept ≡ kept))
-    ⊎ (((new_ledger ≡ ledger ++ entries) × (new_kept ≡ kept))
-    ⊎ ((new_ledger ≡ ledger ++ entries) × (new_kept ≡ after_all changes kept)))
+    ⊎ (((new_ledger ≡ lengthened ledger entries) × (new_kept ≡ kept))
+    ⊎ ((new_ledger ≡ lengthened ledger entries) × (new_kept ≡ after_all changes kept)))
 
 -- these files stand for entries and subscriptions of which this holds
-pub record StandsFor (files_stand : Image → Entries → Kept → Type 0) (P : Entries → Kept → Type 0) (files : Image) : Type 0 where
-  pub ledger : Entries
+pub record StandsFor (files_stand : Image → Ledger → Kept → Type 0) (P : Ledger → Kept → Type 0) (files : Image) : Type 0 where
+  pub ledger : Ledger
   pub kept : Kept
   pub is_left : P ledger kept
   pub stands : files_stand files ledger kept

@@ -1,7 +1,7 @@
 // The two parts of an append to each store of a topic.
-ghost use Rattle.std.specs.Prelude.{◌≡◌, ◌+◌, ◌<◌, ◌≤◌, ◌^◌, ◌++◌, [], List, ℕ, true, false, length, sum_by, All, IfOk, IfSome, OnOk, IsErr};
+ghost use Rattle.std.specs.Prelude.{◌≡◌, ◌+◌, ◌<◌, ◌≤◌, ◌^◌, List, ℕ, true, false, length, sum_by, All, IfOk, IfSome, OnOk, IsErr};
 ghost use Rattle.disk.specs.Disk.{Image, Kept as Counted, Failed};
-ghost use Rattle.managed_ledger.specs.Entries.{Entries, AreEntries};
+ghost use Rattle.managed_ledger.specs.Entries.{Entries, Ledger, AreEntries, lengthened};
 ghost use Rattle.managed_ledger.specs.Shape.{total};
 ghost use Rattle.disk.specs.Contents.{Settled, Steady, Appends, StaysSo};
 ghost use Rattle.records.specs.declared.record.Record.{Record};
@@ -80,8 +80,8 @@ pub(crate) fn append_entries<E: EntryStore, S: Shelf>(
 ) -> Result<(), DeviceError>
     requires { IfSome prepared (E.has_room store.old) }
     // A crash at any moment of the call leaves all the entries or none, and other files as they were.
-    ensures appends { (entries batch : Entries) → PreparedFor E.is_for prepared batch → Settled (E.holds store.old) (S.disk shelf.old) entries →
-        Appends result (Settled (E.holds store.new)) (E.content store.new) (E.area (E.topic_of store.old)) (E.stands (E.topic_of store.old)) (S.disk shelf.old) (S.disk shelf.new) entries (entries ++ batch) }
+    ensures appends { (ledger : Ledger) (batch : Entries) → PreparedFor E.is_for prepared batch → Settled (E.holds store.old) (S.disk shelf.old) ledger →
+        Appends result (Settled (E.holds store.new)) (E.content store.new) (E.area (E.topic_of store.old)) (E.stands (E.topic_of store.old)) (S.disk shelf.old) (S.disk shelf.new) ledger (lengthened ledger batch) }
 
     ensures counts { (batch : Entries) → PreparedFor E.is_for prepared batch → OnOk result (total (E.counts store.new) ≡ total (E.counts store.old) + length batch) }
     ensures segments { (batch : Entries) → PreparedFor E.is_for prepared batch → IfSome prepared (λ p. 0 < length batch) → OnOk result (E.counts store.new ≡ counts_with (E.per_ledger store.old) batch (E.counts store.old)) }

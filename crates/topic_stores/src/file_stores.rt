@@ -15,11 +15,10 @@ pub struct FileStores {
 }
 
 impl TopicStore for FileStores {
-    ghost use Rattle.std.specs.Prelude.{length};
     ghost use Rattle.std.proofs.Common.{subst, sym};
     ghost use Rattle.journal.specs.Chains.{SegmentsOf};
     ghost use Rattle.two_slot.specs.Slots.{SlotsOf};
-    ghost use Rattle.managed_ledger.specs.Entries.{Entries, Stands};
+    ghost use Rattle.managed_ledger.specs.Entries.{Ledger, Stands, end_of};
     ghost use Rattle.managed_ledger.specs.Folded as ledger_faults;
     ghost use Rattle.managed_ledger.specs.Laid as layout;
     ghost use Rattle.managed_ledger.specs.Ledgers as ledgers;
@@ -55,13 +54,13 @@ impl TopicStore for FileStores {
 
     ghost stands_one = { λ t files one other k j few a b.
         let same = ledger_laws.stand_one t files one other a.0 b.0 in
-        (same, cursor_laws.stands_one t (length one) files k j few a.1 (subst (λ (l : Entries). cursors.StandsFor t (length l) files j) (sym same) b.1)) };
+        (same, cursor_laws.stands_one t (end_of one) files k j few a.1 (subst (λ (l : Ledger). cursors.StandsFor t (end_of l) files j) (sym same) b.1)) };
 
     ghost stands_entries = { λ t files ledger k x. ledger_laws.stand_entries t files ledger x.0 };
 
     ghost stands_local = { λ t a b ledger k same x. (
       ledger_laws.stand_local t a b ledger (λ f own. same f (segment_own t f own)) x.0,
-      cursor_laws.stands_local t (length ledger) a b k (λ f own. same f (slot_own t f own)) x.1,
+      cursor_laws.stands_local t (end_of ledger) a b k (λ f own. same f (slot_own t f own)) x.1,
     ) };
 
     fn create<S: Shelf>(

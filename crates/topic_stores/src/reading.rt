@@ -1,7 +1,7 @@
 // The read of an entry.
-ghost use Rattle.std.specs.Prelude.{◌≡◌, ◌⊎◌, ◌<◌, ◌≤◌, Some, true, false, length, slice_get, IfOk, IfErr, IsErrOf};
+ghost use Rattle.std.specs.Prelude.{◌≡◌, ◌⊎◌, ◌<◌, ◌≤◌, Some, true, false, length, IfOk, IfErr, IsErrOf};
 ghost use Rattle.disk.specs.Disk.{Same, Leaves, Kept as Counted, Failed};
-ghost use Rattle.managed_ledger.specs.Entries.{Entries};
+ghost use Rattle.managed_ledger.specs.Entries.{Ledger, end_of, entry_at};
 ghost use Rattle.gated_log.specs.declared.read_error.ReadError.TheVariants.{Device, NoMemory};
 
 use disk::{FileId, Shelf};
@@ -18,9 +18,9 @@ pub(crate) fn read_entry<E: EntryStore, S: Shelf>(
     shelf: &mut S,
     position: u64,
 ) -> Result<Vec<u8>, ReadError>
-    ensures entry { (ledger : Entries) → (S.disk shelf.old).honest → E.holds store.now (S.disk shelf.old).seen ledger →
-        IfOk result (λ entry. slice_get ledger position ≡ Some entry.items) }
-    ensures refused { (ledger : Entries) → (S.disk shelf.old).honest → E.holds store.now (S.disk shelf.old).seen ledger → position < length ledger →
+    ensures entry { (ledger : Ledger) → (S.disk shelf.old).honest → E.holds store.now (S.disk shelf.old).seen ledger →
+        IfOk result (λ entry. entry_at ledger position ≡ Some entry.items) }
+    ensures refused { (ledger : Ledger) → (S.disk shelf.old).honest → E.holds store.now (S.disk shelf.old).seen ledger → position < end_of ledger →
         IfErr result (λ e. (e ≡ NoMemory) ⊎ (e ≡ Device)) }
     ensures short { IfOk result (λ entry. length entry.items ≤ 1048576) }
     ensures stays_failed { E.failed store.now ≡ true → IsErrOf result Device × (shelf.new ≡ shelf.old) }

@@ -1,12 +1,12 @@
 // The durable half of a topic.
-ghost use Rattle.std.specs.Prelude.{◌≡◌, ◌⊎◌, ◌<◌, ◌≤◌, ◌^◌, ◌++◌, ◌↔◌, [], ◌∷◌, List, ℕ, Some, true, false, length, slice_get, IfOk, IfErr, OnOk, IsErr, IsErrOf, IsTrue, map as each};
+ghost use Rattle.std.specs.Prelude.{◌≡◌, ◌⊎◌, ◌<◌, ◌≤◌, ◌^◌, ◌↔◌, [], ◌∷◌, List, ℕ, Some, true, false, length, IfOk, IfErr, OnOk, IsErr, IsErrOf, IsTrue, map as each};
 ghost use Rattle.std.specs.List.{AllByRecursion};
 ghost use Rattle.std.specs.FinMap as map;
 ghost use Rattle.disk.specs.Disk.{Image, Same, Leaves, Kept as Counted, Failed};
 ghost use Rattle.disk.specs.Areas.{Agree, OfTopic, Within};
 ghost use Rattle.gated_log.specs.declared.refusal.Refusal.{Refusal};
 ghost use Rattle.gated_log.specs.declared.refusal.Refusal.TheVariants as refusal;
-ghost use Rattle.managed_ledger.specs.Entries.{Entries, AreEntries};
+ghost use Rattle.managed_ledger.specs.Entries.{Entries, Ledger, AreEntries, end_of, entry_at, lengthened, whole};
 ghost use Rattle.records.specs.declared.kept_cursor.KeptCursor.{KeptCursor as Cursor};
 ghost use Rattle.records.specs.Names.{is_subscription_name};
 ghost use Rattle.records.specs.Maps.{Kept};
@@ -29,7 +29,7 @@ pub trait TopicStore: Drop {
     ghost view: { Self → StoreView };
 
     /// What the files of a topic alone stand for: whoever opens them finds these entries and subscriptions.
-    ghost stands: { ℕ → Image → Entries → Kept → Type 0 };
+    ghost stands: { ℕ → Image → Ledger → Kept → Type 0 };
 
     /// The segments of a topic have so many entries each, the oldest first, as its files alone tell.
     ghost laid: { ℕ → Image → List ℕ → Type 0 };
@@ -45,7 +45,7 @@ pub trait TopicStore: Drop {
         topic: u16,
         entries_per_ledger: u32,
     ) -> Result<Self, DeviceError>
-        ensures created { (S.disk shelf.old).honest → IfOk result (λ store. Settled (view store) (S.disk shelf.new) [] map.empty) }
+        ensures created { (S.disk shelf.old).honest → IfOk result (λ store. Settled (view store) (S.disk shelf.new) (whole []) map.empty) }
         ensures works { IfOk result (λ store. (view store).failed ≡ false) }
         ensures empty { IfOk result (λ store. ((view store).count ≡ 0) × ((view store).kept ≡ map.empty)) }
         ensures topic { IfOk result (λ store. (view store).topic ≡ topic) }
@@ -65,7 +65,7 @@ pub trait TopicStore: Drop {
     ) -> Result<(Self, F), Refusal>
         // The store has the entries that the fold has taken; where the device isn't honest it has taken as many.
         ensures opened { F.holds fold [] →
-            IfOk result (λ opened. (ledger : Entries) × ((S.disk shelf.old).honest → Settled (view opened.0) (S.disk shelf.new) ledger (view opened.0).kept) × (length ledger ≡ (view opened.0).count) × F.holds opened.1 ledger) }
+            IfOk result (λ opened. (entries : Entries) × ((S.disk shelf.old).honest → Settled (view opened.0) (S.disk shelf.new) (whole entries) (view opened.0).kept) × (length entries ≡ (view opened.0).count) × F.holds opened.1 entries) }
         // Or the first fault that stands in the files is told.
         ensures refused { (S.disk shelf.old).honest → F.holds fold [] →
             IfErr result (λ e. (e ≡ refusal.NoMemory) ⊎ ((e ≡ refusal.Device) ⊎ faulty topic (S.disk shelf.old).seen e)) }
@@ -103,9 +103,9 @@ pub trait TopicStore: Drop {
     /// Reads the entry of a position, with one read of the device. A failed store answers `Device`. One that isn't there, or is
     /// longer than any that is accepted, is damage of the first segment.
     fn read<S: Shelf>(&self, shelf: &mut S, position: u64) -> Result<Vec<u8>, ReadError>
-        ensures entry { (ledger : Entries) (kept : Kept) → (S.disk shelf.old).honest → (view self.now).holds (S.disk shelf.old).seen ledger kept →
-            IfOk result (λ entry. slice_get ledger position ≡ Some entry.items) }
-        ensures refused { (ledger : Entries) (kept : Kept) → (S.disk shelf.old).honest → (view self.now).holds (S.disk shelf.old).seen ledger kept → position < length ledger →
+        ensures entry { (ledger : Ledger) (kept : Kept) → (S.disk shelf.old).honest → (view self.now).holds (S.disk shelf.old).seen ledger kept →
+            IfOk result (λ entry. entry_at ledger position ≡ Some entry.items) }
+        ensures refused { (ledger : Ledger) (kept : Kept) → (S.disk shelf.old).honest → (view self.now).holds (S.disk shelf.old).seen ledger kept → position < end_of ledger →
             IfErr result (λ e. (e ≡ read.NoMemory) ⊎ (e ≡ read.Device)) }
         ensures short { IfOk result (λ entry. length entry.items ≤ 1048576) }
         ensures stays_failed { (view self.now).failed ≡ true → IsErrOf result read.Device × (shelf.new ≡ shelf.old) }
@@ -124,15 +124,15 @@ pub trait TopicStore: Drop {
     fn write<S: Shelf>(&mut self, shelf: &mut S, batch: &Batch) -> Result<(), WriteError>
         requires fits { Fits (view self.old) batch.now }
         ensures remembers { Remembers (view self.old) batch.now result (view self.new) }
-        ensures written { (ledger : Entries) (kept : Kept) → Settled (view self.old) (S.disk shelf.old) ledger kept →
-            OnOk result (Settled (view self.new) (S.disk shelf.new) (ledger ++ batch.now.entries.items) (after_all batch.now.changes.items kept)) }
-        ensures unwritten { (ledger : Entries) (kept : Kept) → Settled (view self.old) (S.disk shelf.old) ledger kept →
+        ensures written { (ledger : Ledger) (kept : Kept) → Settled (view self.old) (S.disk shelf.old) ledger kept →
+            OnOk result (Settled (view self.new) (S.disk shelf.new) (lengthened ledger batch.now.entries.items) (after_all batch.now.changes.items kept)) }
+        ensures unwritten { (ledger : Ledger) (kept : Kept) → Settled (view self.old) (S.disk shelf.old) ledger kept →
             IsErrOf result write.NoMemory → Settled (view self.new) (S.disk shelf.new) ledger kept }
         ensures no_memory { IsErrOf result write.NoMemory → shelf.new ≡ shelf.old }
 
         // A crash at any moment of the call leaves the old entries and subscriptions, the ledger with the entries of the batch,
         // or both with all of it; files of other topics are as they were.
-        ensures within { (ledger : Entries) (kept : Kept) → Settled (view self.old) (S.disk shelf.old) ledger kept →
+        ensures within { (ledger : Ledger) (kept : Kept) → Settled (view self.old) (S.disk shelf.old) ledger kept →
             Within (OfTopic (view self.old).topic)
             (StandsFor (stands (view self.old).topic) (IsLeft ledger kept batch.now.entries.items batch.now.changes.items))
             (S.disk shelf.old) (S.disk shelf.new) }
@@ -144,21 +144,21 @@ pub trait TopicStore: Drop {
     ghost laws: { (store : Self) → AreLaws stands (view store) };
 
     // The segments that it counts are those in its files, which are laid out in one way.
-    ghost holds_laid: { (store : Self) (files : Image) (ledger : Entries) (kept : Kept) → (view store).holds files ledger kept → laid (view store).topic files (view store).counts };
+    ghost holds_laid: { (store : Self) (files : Image) (ledger : Ledger) (kept : Kept) → (view store).holds files ledger kept → laid (view store).topic files (view store).counts };
 
     ghost laid_one: { (t : ℕ) (files : Image) (one other : List ℕ) → laid t files one → laid t files other → one ≡ other };
 
     ghost laid_local: { (t : ℕ) (a b : Image) (counts : List ℕ) → Agree (OfTopic t) a b → laid t a counts → laid t b counts };
 
-    // Files stand for one list of entries, each with metadata that can be read, and one map of subscriptions.
-    ghost stands_one: { (t : ℕ) (files : Image) (one other : Entries) (k j : Kept) → length one ≤ 2 ^ 62 → stands t files one k → stands t files other j → (one ≡ other) × (k ≡ j) };
+    // Files stand for one ledger, each entry with metadata that can be read, and one map of subscriptions.
+    ghost stands_one: { (t : ℕ) (files : Image) (one other : Ledger) (k j : Kept) → end_of one ≤ 2 ^ 62 → stands t files one k → stands t files other j → (one ≡ other) × (k ≡ j) };
 
     // Files have one first fault, and where they stand for entries and subscriptions they have none.
     ghost faulty_one: { (t : ℕ) (files : Image) (one other : Refusal) → faulty t files one → faulty t files other → one ≡ other };
 
-    ghost stands_sound: { (t : ℕ) (files : Image) (ledger : Entries) (k : Kept) (refusal : Refusal) → stands t files ledger k → ¬ faulty t files refusal };
+    ghost stands_sound: { (t : ℕ) (files : Image) (ledger : Ledger) (k : Kept) (refusal : Refusal) → stands t files ledger k → ¬ faulty t files refusal };
 
-    ghost stands_entries: { (t : ℕ) (files : Image) (ledger : Entries) (k : Kept) → stands t files ledger k → AreEntries ledger };
+    ghost stands_entries: { (t : ℕ) (files : Image) (ledger : Ledger) (k : Kept) → stands t files ledger k → AreEntries ledger.entries };
 
-    ghost stands_local: { (t : ℕ) (a b : Image) (ledger : Entries) (k : Kept) → Agree (OfTopic t) a b → stands t a ledger k → stands t b ledger k };
+    ghost stands_local: { (t : ℕ) (a b : Image) (ledger : Ledger) (k : Kept) → Agree (OfTopic t) a b → stands t a ledger k → stands t b ledger k };
 }

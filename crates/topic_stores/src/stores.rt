@@ -21,9 +21,8 @@ pub struct TopicStores<E, C> {
 }
 
 impl<E: EntryStore, C: SubStore> TopicStore for TopicStores<E, C> {
-    ghost use Rattle.std.specs.Prelude.{length};
     ghost use Rattle.std.proofs.Common.{subst, sym};
-    ghost use Rattle.managed_ledger.specs.Entries.{Entries};
+    ghost use Rattle.managed_ledger.specs.Entries.{Ledger, end_of};
     ghost use Rattle.topic_stores.specs.Views.{both, entry_view, sub_view, stand, fault};
     ghost use Rattle.topic_stores.specs.Laws.{both_laws, entry_laws, sub_laws, segment_own, slot_own, fault_one, stand_sound};
 
@@ -48,7 +47,7 @@ impl<E: EntryStore, C: SubStore> TopicStore for TopicStores<E, C> {
 
     ghost stands_one = { λ t files one other k j few a b.
         let same = E.stands_one t files one other a.0 b.0 in
-        (same, C.stands_one t (length one) files k j few a.1 (subst (λ (l : Entries). C.stands t (length l) files j) (sym same) b.1)) };
+        (same, C.stands_one t (end_of one) files k j few a.1 (subst (λ (l : Ledger). C.stands t (end_of l) files j) (sym same) b.1)) };
 
     ghost faulty_one = { fault_one E.stands E.faulty C.faulty E.faulty_one C.faulty_one E.stands_one E.stands_sound };
 
@@ -58,7 +57,7 @@ impl<E: EntryStore, C: SubStore> TopicStore for TopicStores<E, C> {
 
     ghost stands_local = { λ t a b ledger k same x. (
       E.stands_local t a b ledger (λ f own. same f (segment_own t f (E.area_segments t f own))) x.0,
-      C.stands_local t (length ledger) a b k (λ f own. same f (slot_own t f (C.area_slots t f own))) x.1,
+      C.stands_local t (end_of ledger) a b k (λ f own. same f (slot_own t f (C.area_slots t f own))) x.1,
     ) };
 
     fn create<S: Shelf>(

@@ -31,7 +31,8 @@ pub fn flush_loop<'a, T: TopicStore, S: Shelf + Drop, K: Tallies, G: Turnstile, 
     unreachable!()
 }
 
-// Flushes once. A topic that has failed is opened again first. The log tells what is told of a failure, where it doesn't already.
+// Flushes once. A topic that has failed is opened again first, and the connections end that had asked it for something; one that works
+// stays as it is. The log tells what is told of a failure, where it doesn't already.
 fn flush_turn<'a, T: TopicStore, S: Shelf + Drop, K: Tallies, R: Wait + Log>(
     rt: &R,
     number: u64,
@@ -45,11 +46,10 @@ fn flush_turn<'a, T: TopicStore, S: Shelf + Drop, K: Tallies, R: Wait + Log>(
     let Some(topic) = place.get() else {
         return Some(flusher);
     };
-    if topic.is_failed(rt) {
-        if let Err(why) = topic.reopen(rt, &broker.totals.durable, &broker.bells) {
-            tell_failure(rt, is_told, &topic.name, &why);
-            return Some(flusher);
-        }
+    let reopened = topic.reopen(rt, &broker.totals.durable);
+    if let Err(why) = reopened.end_all(&broker.bells) {
+        tell_failure(rt, is_told, &topic.name, &why);
+        return Some(flusher);
     }
     let Ok((flusher, flushed)) = topic.flush(rt, &broker.totals.durable, &broker.bells, flusher)
     else {

@@ -1,8 +1,8 @@
 // A flush in three parts, each under one lock: a topic's batch is taken, written to its stores, and ended in the topic.
-ghost use Rattle.std.specs.Prelude.{◌≡◌, ◌⊎◌, ◌+◌, ◌-◌, ◌<◌, ◌≤◌, ◌^◌, ◌++◌, true, false, length, Ok, Err, IfOk, IfErr, IfSome, OnOk, IsErr, IsErrOf, is_ok};
+ghost use Rattle.std.specs.Prelude.{◌≡◌, ◌⊎◌, ◌+◌, ◌-◌, ◌<◌, ◌≤◌, ◌^◌, true, false, length, Ok, Err, IfOk, IfErr, IfSome, OnOk, IsErr, IsErrOf, is_ok};
 ghost use Rattle.disk.specs.Disk.{Kept, Failed};
 ghost use Rattle.disk.specs.Areas.{OfTopic, Within};
-ghost use Rattle.managed_ledger.specs.Entries.{Entries};
+ghost use Rattle.managed_ledger.specs.Entries.{Ledger, lengthened};
 ghost use Rattle.records.specs.Records.{after_all};
 ghost use Rattle.records.specs.Maps.{Kept as KeptSubscriptions};
 ghost use Rattle.topic_stores.specs.Views.{Settled};
@@ -173,15 +173,15 @@ impl<T: TopicStore, S: Shelf + Drop, K: Tallies> CountedStores<T, S, K> {
         ensures remembers { Writes (T.view self.old.stores) taken.topic taken.batch result.end (T.view self.new.stores) }
         ensures counted { (T.view self.new.stores).count ≡ (T.view self.old.stores).count + result.added }
         ensures apart { IsErrOf result.end Apart → (self.new.stores ≡ self.old.stores) × (self.new.shelf ≡ self.old.shelf) }
-        ensures written { (ledger : Entries) (kept : KeptSubscriptions) → Settled (T.view self.old.stores) (S.disk self.old.shelf) ledger kept →
-            OnOk result.end (Settled (T.view self.new.stores) (S.disk self.new.shelf) (ledger ++ taken.batch.entries.items) (after_all taken.batch.changes.items kept)) }
-        ensures unwritten { (ledger : Entries) (kept : KeptSubscriptions) → Settled (T.view self.old.stores) (S.disk self.old.shelf) ledger kept →
+        ensures written { (ledger : Ledger) (kept : KeptSubscriptions) → Settled (T.view self.old.stores) (S.disk self.old.shelf) ledger kept →
+            OnOk result.end (Settled (T.view self.new.stores) (S.disk self.new.shelf) (lengthened ledger taken.batch.entries.items) (after_all taken.batch.changes.items kept)) }
+        ensures unwritten { (ledger : Ledger) (kept : KeptSubscriptions) → Settled (T.view self.old.stores) (S.disk self.old.shelf) ledger kept →
             IsErrOf result.end NoMemory → Settled (T.view self.new.stores) (S.disk self.new.shelf) ledger kept }
         ensures no_memory { IsErrOf result.end NoMemory → self.new.shelf ≡ self.old.shelf }
 
         // A crash at any moment of the call leaves the old entries and subscriptions, the ledger with the entries of the batch,
         // or both with all of it; files of other topics are as they were.
-        ensures within { (ledger : Entries) (kept : KeptSubscriptions) → Settled (T.view self.old.stores) (S.disk self.old.shelf) ledger kept →
+        ensures within { (ledger : Ledger) (kept : KeptSubscriptions) → Settled (T.view self.old.stores) (S.disk self.old.shelf) ledger kept →
             IsErrOf result.end Apart ⊎ Within (OfTopic (T.view self.old.stores).topic)
             (StandsFor (T.stands (T.view self.old.stores).topic) (IsLeft ledger kept taken.batch.entries.items taken.batch.changes.items))
             (S.disk self.old.shelf) (S.disk self.new.shelf) }

@@ -1,8 +1,9 @@
 // A message for a consumer: its entry is read under the lock of the topic's stores alone, and given under the topic's.
-ghost use Rattle.std.specs.Prelude.{◌≡◌, ◌≢◌, ◌<◌, ℕ, false, length, None, Ok, IfSome, IsErr, IsErrOf};
+ghost use Rattle.std.specs.Prelude.{◌≡◌, ◌≢◌, ◌<◌, ℕ, false, None, Ok, IfSome, IsErr, IsErrOf};
 ghost use Rattle.disk.specs.Disk.{Same, Leaves, Kept, Failed};
 ghost use Rattle.gated_log.specs.declared.read_error.ReadError.TheVariants.{Device};
 ghost use Rattle.subscriptions.specs.Steps.{IsLearnt, IsLooked};
+ghost use Rattle.managed_ledger.specs.Entries.{end_of};
 ghost use Rattle.topic_core.specs.State.{Topic, CountsStay};
 ghost use Rattle.topic_core.specs.Steps.{learnt};
 ghost use Rattle.topic_core.specs.Dispatch.{IsReadOf};
@@ -58,7 +59,7 @@ impl<K: Tallies> CountedTopic<K> {
     /// topic's stores. A refusal changes nothing but what is known of the consumer's permits.
     pub fn next(&mut self, who: u64, consumer_id: u64, read: Option<StoresRead>) -> Next
         ensures about { IfHeard result (λ heard. (heard.topic ≡ self.old.number) × (heard.who ≡ who) × (heard.asked.value ≡ consumer_id)) }
-        ensures step { length self.old.core.ledger ≡ self.old.core.committed → IfSome (own_read self.old.number read) (IsReadOf self.old.core.ledger) →
+        ensures step { end_of self.old.core.ledger ≡ self.old.core.committed → IfSome (own_read self.old.number read) (IsReadOf self.old.core.ledger) →
             (t : Topic) × IsLearnt (learnt self.old.core who consumer_id) t × NextStep t who consumer_id result self.new.core }
         ensures message { IfHeard result (λ heard. SendsTo consumer_id heard.said) }
         ensures looked { IfHeard result (λ heard. heard.said ≡ Ok None → self.old.core.failed ≡ false → IsLooked ⊥ (learnt self.old.core who consumer_id) self.new.core) }

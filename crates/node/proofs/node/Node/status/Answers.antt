@@ -1,6 +1,7 @@
 use Rattle.std.proofs.Common.{◌≡◌, ◌<◌, Some, length, slice_get, refl, sym, ap, subst, ◌∙◌, arith, rules}
 use Rattle.std.proofs.lemmas.Option.{slice_get_read, same_Some}
 use Rattle.subscriptions.specs.Statuses.{AreStatuses}
+use Rattle.managed_ledger.specs.Entries.{end_of}
 use Rattle.topic_core.specs.State.{Topic}
 use Rattle.session.specs.Broker.{fresh, topic_at}
 use Rattle.catalog.specs.Catalogs.{remembered, per_ledger}
@@ -26,7 +27,7 @@ returns-clause-status g c = λ stands.
     subst (λ o. StatusIn o state (Some c.in_ok-status.status)) (sym (there t k low)) (
       e.number,
       name,
-      e.entries ∙ sym (stands.each k h was).counted ∙ ap (λ (u : Topic). length u.ledger) (sym at),
+      e.entries ∙ sym (stands.each k h was).counted ∙ ap (λ (u : Topic). end_of u.ledger) (sym at),
       subst (λ (u : Topic). AreStatuses u.subs.subs c.in_ok-status.status.subscriptions.items) (sym at) e.subscriptions,
     )
 

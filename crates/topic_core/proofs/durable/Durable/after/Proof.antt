@@ -1,5 +1,5 @@
 -- The walk of a function that makes what proofs alone read. Assumes `Logic`.
-use Rattle.std.proofs.Common.{refl, [], ◌∷◌, ◌++◌, ◌<◌, ◌^◌, length}
+use Rattle.std.proofs.Common.{refl, [], ◌∷◌, ◌<◌, ◌^◌, length}
 use seplogic.Ra.Ura.{Ura}
 use mir.Syntax.{named}
 use mir.Val.{Val, vptr, vstruct, vnil}
@@ -32,6 +32,7 @@ use Rattle.topic_core.specs.contracts.durable.Durable.after as f
 use Rattle.topic_core.proofs.durable.Durable.after.Statement as stated
 use Rattle.topic_core.proofs.durable.Durable.after.Code as code
 use Rattle.topic_core.specs.contracts.durable.Durable as durable
+use Rattle.managed_ledger.specs.Entries.{lengthened}
 use Rattle.bytes.specs.contracts.shared.Bytes as bytes
 use Rattle.std.specs.contracts.alloc.Global as global
 use Rattle.std.specs.contracts.impls.GlobalAllocator.TheImpl.{ghosts}
@@ -61,7 +62,7 @@ module _ {M : Type 1} {𝓤 : Ura M} (𝓛 : Logic 𝓤) (mem : Memory → SProp
     passed = owns (types_at f.signature.params κs) a (place ∷ [], (entries ∷ [], (changes ∷ [], tt)))
 
     abbrev made : durable.the_row.Denot
-    made = record { ledger = a.0.now.ledger ++ a.1.0.now; kept = after_all a.1.1.0.now a.0.now.kept }
+    made = record { ledger = lengthened a.0.now.ledger a.1.0.now; kept = after_all a.1.1.0.now a.0.now.kept }
 
     walk : length a.1.0.now < 2 ^ 64 → length a.1.1.0.now < 2 ^ 64 → ent 𝓤 (on_entry 𝓛 f.signature κs qs a (place ∷ [], (entries ∷ [], (changes ∷ [], tt)))) (WpFn 𝓤 H C Λ code.function (place ∷ entries ∷ changes ∷ []) ((walk_of 𝓛 f.ended stayed (f.clauses 𝓛 mem run)).post bound))
     walk fits fit =

@@ -29,6 +29,7 @@ use Rattle.topic_core.proofs.durable.Durable.none.Statement as stated
 use Rattle.topic_core.proofs.durable.Durable.none.Code as code
 use Rattle.topic_core.specs.contracts.durable.Durable as durable
 use Rattle.std.specs.FinMap as map
+use Rattle.managed_ledger.specs.Entries.{whole}
 
 abbrev stayed : Stays (f.ended).signature.params (f.ended).kept
 stayed = tt
@@ -44,7 +45,7 @@ module _ {M : Type 1} {𝓤 : Ura M} (𝓛 : Logic 𝓤) (mem : Memory → SProp
     passed = owns (types_at f.signature.params κs) a tt
 
     abbrev made : durable.the_row.Denot
-    made = record { ledger = []; kept = map.empty }
+    made = record { ledger = whole []; kept = map.empty }
 
     walk : ent 𝓤 (on_entry 𝓛 f.signature κs qs a tt) (WpFn 𝓤 H C Λ code.function [] ((walk_of 𝓛 f.ended stayed (f.clauses 𝓛 mem run)).post bound))
     walk =

@@ -1,6 +1,7 @@
-use Rattle.std.proofs.Common.{◌≡◌, ◌++◌, length, take, rules, ap, ◌∙◌, arith}
+use Rattle.std.proofs.Common.{◌≡◌, length, take, rules, ap, ◌∙◌, arith}
 use Rattle.std.specs.List.{sum_by}
 use Rattle.std.proofs.lemmas.List.Sums.{sum_by-take-drop}
+use Rattle.managed_ledger.specs.Entries.{lengthened}
 use Rattle.records.specs.Records.{after_all}
 use Rattle.topic_core.specs.State.{entries_of, changes_of, entries_in_doubt, changes_in_doubt}
 use Rattle.topic_core.specs.Held.{core_of}
@@ -12,7 +13,7 @@ invariant_of-self g c =
     let t = core_of c.self.inside in
     let count : c.entries_handed_on-count.result ≡ entries_of t.doubt = search rules in
     let changes : c.changes_handed_on-changes.result ≡ changes_of t.doubt = search rules in
-    let ledger : c.commit.new.self.ledger ≡ t.ledger ++ entries_in_doubt t = search rules in
+    let ledger : c.commit.new.self.ledger ≡ lengthened t.ledger (entries_in_doubt t) = search rules in
     let kept : c.commit.new.self.kept ≡ after_all (changes_in_doubt t) t.kept = search rules in
     let as_many : length c.args.batch.entries.items ≡ entries_of t.doubt = search rules in
     let bytes : c.bytes_in-bytes.result ≡ sum_by length (take c.entries_handed_on-count.result t.waiting) = search rules in

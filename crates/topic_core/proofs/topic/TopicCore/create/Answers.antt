@@ -1,5 +1,6 @@
 use Rattle.std.proofs.Common.{[], refl, sym, ap, ◌∙◌, arith}
 use Rattle.topic_core.specs.declared.durable.Durable.{Durable}
+use Rattle.managed_ledger.specs.Entries.{whole}
 use Rattle.std.specs.FinMap as map
 use Rattle.topic_core.proofs.Openings.{sound-opened, receipts-opened, kept-filled, none_durable, empty_subs}
 use Rattle.topic_core.proofs.topic.TopicCore.create.Goals as goal
@@ -8,8 +9,8 @@ pub invariant_of-core : goal.invariant_of-core
 invariant_of-core g c =
     rw (c.over.ensures, c.new.ensures.items, c.new-2.ensures, c.new-4.ensures, c.none.ensures.0, c.none.ensures.1, c.new-3.ensures, empty_subs) (
       refl,
-      sound-opened c.args.per_ledger [] [] map.empty c.requires.numbered (omega arith) refl none_durable,
-      receipts-opened c.args.per_ledger [] [] map.empty,
+      sound-opened c.args.per_ledger (whole []) [] map.empty c.requires.numbered (omega arith) refl none_durable,
+      receipts-opened c.args.per_ledger (whole []) [] map.empty,
     )
 
 pub returns-clause-fresh : goal.returns-clause-fresh

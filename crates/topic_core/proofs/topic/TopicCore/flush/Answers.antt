@@ -1,5 +1,6 @@
-use Rattle.std.proofs.Common.{◌≤◌, ◌++◌, Ok, length, sym, subst, arith}
+use Rattle.std.proofs.Common.{◌≤◌, Ok, length, sym, subst, arith}
 use Rattle.std.specs.Prelude.{IfSome, OnOk}
+use Rattle.managed_ledger.specs.Entries.{lengthened}
 use Rattle.records.specs.Records.{after_all}
 use Rattle.topic_stores.specs.Views.{Settled}
 use Rattle.topic_core.specs.State.{Topic, entries_of}
@@ -87,7 +88,7 @@ returns-clause-standing g c =
     let now : Standing stands Before t v d0 = subst (λ q. Standing stands q t v d0) p h in
     let ready = standing_handed_on stands t v d0 (g.met.T.TopicStore.laws c.args.stores.now) now in
     let after = written_standing stands on batch is_for fits v w d0 d1 c.write-written.ensures.topic written ready c.write-written.ensures.kept c.write-written.ensures.remembers
-    (λ done is. subst (λ r. OnOk r (Settled w d1 (t.ledger ++ batch.entries.items) (after_all batch.changes.items t.kept))) is (c.write-written.ensures.written t.ledger t.kept now.holds))
+    (λ done is. subst (λ r. OnOk r (Settled w d1 (lengthened t.ledger batch.entries.items) (after_all batch.changes.items t.kept))) is (c.write-written.ensures.written t.ledger t.kept now.holds))
     (λ is. c.write-written.ensures.unwritten t.ledger t.kept now.holds is) (c.write-written.ensures.within t.ledger t.kept now.holds) in
     let end = finish_standing stands on works w d1 (g.met.T.TopicStore.laws c.write-written.new.self) fits written c.finish.result t2 f after in
     subst (λ q. Standing stands (phase_then t.failed t2.failed q) t2 w d1) (sym p) (subst (λ b. Standing stands (phase_then b t2.failed Before) t2 w d1) (sym works) (subst (λ q. Standing stands q t2 w d1) (rests t2.failed) end))

@@ -1,7 +1,8 @@
-use Rattle.std.proofs.Common.{◌≡◌, ◌≤◌, ◌^◌, length, map, refl, sym, ap, ◌∙◌, arith}
-use Rattle.topic_core.specs.Slots.{slot_of_entry}
+use Rattle.std.proofs.Common.{◌≡◌, ◌≤◌, ◌^◌, refl, sym, ap, ◌∙◌, arith}
+use Rattle.managed_ledger.specs.Entries.{end_of}
+use Rattle.topic_core.specs.Slots.{slots_of}
 use Rattle.topic_core.specs.declared.durable.Durable.{Durable}
-use Rattle.std.proofs.lemmas.List.{length-map}
+use Rattle.topic_core.proofs.Slotted.{length_slots}
 use Rattle.topic_core.proofs.Openings.{sound-opened, receipts-opened, kept-filled}
 use Rattle.topic_core.proofs.topic.TopicCore.open.Goals as goal
 
@@ -9,13 +10,13 @@ pub invariant_of-core : goal.invariant_of-core
 invariant_of-core g c =
     let kept = (g.T.TopicStore.view c.in_ok-opened.opened.stores).kept in
     let ledger = c.in_ok-opened.opened.durable.ledger in
-    let slots = map slot_of_entry ledger in
+    let slots = slots_of ledger in
     let added = c.in_ok-opened.ensures.added in
-    let size : c.len-committed.result ≡ length ledger = c.len-committed.ensures.len ∙ sym added.0 in
-    let few : length ledger ≤ 2 ^ 62 = omega (arith, size, c.len-committed.ensures.few) in
+    let size : c.len-committed.result ≡ end_of ledger = c.len-committed.ensures.len ∙ sym added.0 in
+    let few : end_of ledger ≤ 2 ^ 62 = omega (arith, size, c.len-committed.ensures.few) in
     rw (c.over.ensures, c.new.ensures.items, c.new-2.ensures, c.new-3.ensures, added.1, added.2, size) (
       refl,
-      sound-opened c.args.per_ledger ledger slots kept c.requires.numbered few (length-map ledger slot_of_entry) c.in_ok-opened.ensures.durable,
+      sound-opened c.args.per_ledger ledger slots kept c.requires.numbered few (length_slots ledger) c.in_ok-opened.ensures.durable,
       receipts-opened c.args.per_ledger ledger slots kept,
     )
 

@@ -1,7 +1,8 @@
-use Rattle.std.proofs.Common.{◌≡◌, ◌≤◌, ◌^◌, true, false, length, map, refl, sym, ap, subst, ◌∙◌, inr, arith, Ok}
+use Rattle.std.proofs.Common.{◌≡◌, ◌≤◌, ◌^◌, true, false, refl, sym, ap, subst, ◌∙◌, inr, arith, Ok}
 use Rattle.disk.specs.declared.file_id.FileId.TheVariants.{Segment}
 use Rattle.gated_log.specs.declared.refusal.Refusal.TheVariants.{Damaged}
-use Rattle.topic_core.specs.Slots.{slot_of_entry}
+use Rattle.managed_ledger.specs.Entries.{end_of}
+use Rattle.topic_core.specs.Slots.{slots_of}
 use Rattle.topic_core.specs.State.{Topic}
 use Rattle.topic_core.specs.Crashes.{IsLeft, ReopenIn, reopened}
 use Rattle.topic_core.specs.Standing.{phase_then, Standing}
@@ -16,7 +17,7 @@ returns-then-len-self-clause-step g c = λ phase h.
     let again = c.in_ok-again.again in
     let v1 = g.T.TopicStore.view again.stores in
     let of = c.in_ok-again.ensures in
-    let few : length again.durable.ledger ≤ 2 ^ 62 = omega (arith, of.added.0, c.len.ensures.len, c.len.ensures.few) in
+    let few : end_of again.durable.ledger ≤ 2 ^ 62 = omega (arith, of.added.0, c.len.ensures.len, c.len.ensures.few) in
     let left = again_left g.T.TopicStore.stands v v1 d0 d1 c.topic-topic.result again.durable.ledger (g.met.T.TopicStore.laws again.stores) (of.settled h.honest) of.topic c.topic-topic.ensures (of.seen h.honest (λ is. cc))
     g.met.T.TopicStore.stands_one c.args.self.now few (h.left d0.seen (g.met.S.Shelf.lawful c.args.shelf.now h.honest).leaves_seen) in
     absurd (omega (arith, left_more c.args.self.now again.durable.ledger v1.kept left, h.counted, of.added.0, c.len.ensures.len, c.if-len-self.true, ap (λ (k : Topic). k.committed) c.self.view_is))
@@ -45,11 +46,11 @@ returns-clause-step g c = λ phase h.
     let v1 = g.T.TopicStore.view again.stores in
     let of = c.in_ok-again.ensures in
     let was : t.failed ≡ true = sym (ap (λ (k : Topic). k.failed) c.self.view_is) ∙ c.if-not-self.false in
-    let few : length again.durable.ledger ≤ 2 ^ 62 = omega (arith, of.added.0, c.len.ensures.len, c.len.ensures.few) in
+    let few : end_of again.durable.ledger ≤ 2 ^ 62 = omega (arith, of.added.0, c.len.ensures.len, c.len.ensures.few) in
     let left = again_left g.T.TopicStore.stands v v1 d0 d1 c.topic-topic.result again.durable.ledger (g.met.T.TopicStore.laws again.stores) (of.settled h.honest) of.topic c.topic-topic.ensures (of.seen h.honest (λ is. cc))
     g.met.T.TopicStore.stands_one t few (h.left d0.seen (g.met.S.Shelf.lawful c.args.shelf.now h.honest).leaves_seen) in
     subst (λ b. ReopenIn b t (Ok tt) c.restart.new.self) (sym was)
-    (subst (λ (k : Topic). IsLeft t k.ledger k.kept × (k ≡ reopened t k.ledger (map slot_of_entry k.ledger) k.kept)) (sym c.restart.ensures.again) (left, refl))
+    (subst (λ (k : Topic). IsLeft t k.ledger k.kept × (k ≡ reopened t k.ledger (slots_of k.ledger) k.kept)) (sym c.restart.ensures.again) (left, refl))
 
 pub returns-clause-standing : goal.returns-clause-standing
 returns-clause-standing g c = λ phase h.

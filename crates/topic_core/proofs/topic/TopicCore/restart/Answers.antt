@@ -1,9 +1,10 @@
-use Rattle.std.proofs.Common.{◌≡◌, ◌≤◌, ◌^◌, true, length, map, refl, sym, ap, subst, ◌∙◌, arith}
+use Rattle.std.proofs.Common.{◌≡◌, ◌≤◌, ◌^◌, true, refl, sym, ap, subst, ◌∙◌, arith}
 use Rattle.topic_core.specs.State.{Topic}
 use Rattle.topic_core.specs.Held.{core_of}
-use Rattle.topic_core.specs.Slots.{slot_of_entry}
+use Rattle.managed_ledger.specs.Entries.{end_of}
+use Rattle.topic_core.specs.Slots.{slots_of}
 use Rattle.topic_core.specs.declared.durable.Durable.{Durable}
-use Rattle.std.proofs.lemmas.List.{length-map}
+use Rattle.topic_core.proofs.Slotted.{length_slots}
 use Rattle.topic_core.proofs.Openings.{sound-reopened, receipts-reopened, kept-filled}
 use Rattle.topic_core.proofs.topic.TopicCore.restart.Goals as goal
 
@@ -12,16 +13,16 @@ invariant_of-self g c =
     let t = core_of c.self.inside in
     let kept = (g.T.TopicStore.view c.args.again.stores).kept in
     let ledger = c.args.again.durable.ledger in
-    let slots = map slot_of_entry ledger in
+    let slots = slots_of ledger in
     let added = c.requires.added in
-    let size : c.len-self-inside.result ≡ length ledger = c.len-self-inside.ensures.len ∙ sym added.0 in
-    let few : length ledger ≤ 2 ^ 62 = omega (arith, added.0, c.requires.few) in
+    let size : c.len-self-inside.result ≡ end_of ledger = c.len-self-inside.ensures.len ∙ sym added.0 in
+    let few : end_of ledger ≤ 2 ^ 62 = omega (arith, added.0, c.requires.few) in
     let was : t.failed ≡ true = subst (λ (k : Topic). k.failed ≡ true) (sym c.self.view_is) c.requires.failed in
     let known = ap (λ (k : Topic). k.committed) c.self.view_is in
-    let more : t.committed ≤ length ledger = omega (arith, known, added.0, c.requires.more) in
+    let more : t.committed ≤ end_of ledger = omega (arith, known, added.0, c.requires.more) in
     rw (c.over.ensures, c.new.ensures.items, c.new-2.ensures, added.1, added.2, size) (
       refl,
-      sound-reopened t ledger slots kept c.self.invariant.1 was more few (length-map ledger slot_of_entry) c.requires.durable,
+      sound-reopened t ledger slots kept c.self.invariant.1 was more few (length_slots ledger) c.requires.durable,
       receipts-reopened t ledger slots kept c.self.invariant.1 c.self.invariant.2 was more,
     )
 

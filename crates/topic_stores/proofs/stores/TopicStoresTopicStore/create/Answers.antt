@@ -5,7 +5,7 @@ use Rattle.disk.specs.Areas.{Agree, OfTopic, both_within}
 use Rattle.topic_stores.proofs.Writing.{entries_meanwhile, settled_both, made_within}
 use Rattle.topic_stores.specs.Views.{entry_view, sub_view}
 use Rattle.topic_stores.specs.Laws.{are_apart, segment_own, slot_own}
-use Rattle.managed_ledger.specs.Shape.{total}
+use Rattle.managed_ledger.specs.Entries.{whole}
 use Rattle.std.specs.FinMap as map
 use Rattle.topic_stores.proofs.stores.TopicStoresTopicStore.create.Goals as goal
 
@@ -30,12 +30,12 @@ returns-clause-created g c = λ honest.
     let later = c.create.ensures.kept.honest honest in
     let topic_is = c.in_ok-entries.ensures.topic in
     let apart : (f : FileId) → ea f → ca f → ⊥ = λ f a b. are_apart T f (g.met.E.EntryStore.area_segments T f a) (g.met.C.SubStore.area_slots T f b) in
-    let local : (a b : Image) → Agree ea a b → g.E.EntryStore.holds E a [] → g.E.EntryStore.holds E b [] =
-    λ a b ag x. g.met.E.EntryStore.holds_local E a b [] (subst (λ t. Agree (g.E.EntryStore.area t) a b) (sym topic_is) ag) x in
+    let local : (a b : Image) → Agree ea a b → g.E.EntryStore.holds E a (whole []) → g.E.EntryStore.holds E b (whole []) =
+    λ a b ag x. g.met.E.EntryStore.holds_local E a b (whole []) (subst (λ t. Agree (g.E.EntryStore.area t) a b) (sym topic_is) ag) x in
     settled_both (entry_view g.E.EntryStore.topic_of g.E.EntryStore.counts g.E.EntryStore.per_ledger g.E.EntryStore.failed g.E.EntryStore.holds E)
-    (sub_view g.C.SubStore.topic_of g.C.SubStore.content g.C.SubStore.failed g.C.SubStore.holds g.C.SubStore.written c.in_ok-subscriptions.subscriptions) d2 [] map.empty
+    (sub_view g.C.SubStore.topic_of g.C.SubStore.content g.C.SubStore.failed g.C.SubStore.holds g.C.SubStore.written c.in_ok-subscriptions.subscriptions) d2 (whole []) map.empty
     (c.in_ok-subscriptions.ensures.topic ∙ sym topic_is)
-    (entries_meanwhile (λ i l. g.E.EntryStore.holds E i l) ea ca (λ i. Unit {0}) d1 d2 [] local apart (c.create-2.ensures.kept.honest later) (c.create-2.ensures.others later) (c.in_ok-entries.ensures.created honest))
+    (entries_meanwhile (λ i l. g.E.EntryStore.holds E i l) ea ca (λ i. Unit {0}) d1 d2 (whole []) local apart (c.create-2.ensures.kept.honest later) (c.create-2.ensures.others later) (c.in_ok-entries.ensures.created honest))
     (c.in_ok-subscriptions.ensures.created 0 later)
 
 pub returns-clause-others : goal.returns-clause-others

@@ -1,7 +1,7 @@
-use Rattle.std.proofs.Common.{◌≡◌, ◌+◌, ◌≤◌, ◌^◌, ◌++◌, List, length, sym, subst, ◌∙◌}
+use Rattle.std.proofs.Common.{◌≡◌, ◌+◌, ◌≤◌, ◌^◌, List, length, sym, subst, ◌∙◌}
 use Rattle.disk.specs.Areas.{OfTopic, Within}
 use Rattle.managed_ledger.specs.Shape.{total}
-use Rattle.managed_ledger.specs.Entries.{Entries, AreEntries}
+use Rattle.managed_ledger.specs.Entries.{Entries, Ledger, AreEntries, end_of, lengthened}
 use Rattle.records.specs.Records.{AreFormed, after_all}
 use Rattle.records.specs.declared.record.Record.{Record}
 use Rattle.topic_stores.specs.Appends.{PreparedFor}
@@ -97,14 +97,14 @@ returns-in_err-append_changes-clause-within g c =
     let e2 = entry_view g.E.EntryStore.topic_of g.E.EntryStore.counts g.E.EntryStore.per_ledger g.E.EntryStore.failed g.E.EntryStore.holds c.append_entries.new.store in
     let el2 = laws_e c.append_entries.new.store in
     let d2 = g.S.Shelf.disk c.append_changes.new.shelf in
-    let all : Entries = ledger ++ batch in
+    let all : Ledger = lengthened ledger batch in
     let one : s1.topic ≡ e2.topic = x1.settled.now.one_topic ∙ sym c.append_entries.ensures.topic in
     let raw = (c.append_entries.ensures.appends ledger batch for_e (entries_settled e1 s1 d0 ledger kept x1)).within in
     let x2e = (c.in_ok-append_entries.ensures.appends ledger batch for_e (entries_settled e1 s1 d0 ledger kept x1)).added in
     let x2s = subs_beside g.E.EntryStore.stands g.C.SubStore.stands g.E.EntryStore.area g.C.SubStore.area (λ t n m i k low x. g.met.C.SubStore.stands_longer t n m i k low x) ledger batch kept changes e1 s1 el1 sl1 d0 d1 x1 x2e.honest raw in
     let for_s = subst (λ (l : List Record). PreparedFor (g.C.SubStore.is_for c.prepare_changes.new.store) c.in_ok-changes.changes l) c.as_slice-2.ensures.value c.in_ok-changes.ensures.prepared in
-    let formed = formed_there (total (g.E.EntryStore.counts c.args.self.now.entries)) ledger batch kept (g.C.SubStore.content c.args.self.now.subscriptions) changes (el0.counts d0.seen ledger x.settled.now.entries) (sl0.content (length ledger) d0.seen kept x.settled.now.subscriptions) c.requires.fits.formed in
-    let raw2 = (c.append_changes.ensures.appends (length all) kept changes for_s formed x2s).within in
+    let formed = formed_there (total (g.E.EntryStore.counts c.args.self.now.entries)) ledger batch kept (g.C.SubStore.content c.args.self.now.subscriptions) changes (el0.counts d0.seen ledger x.settled.now.entries) (sl0.content (end_of ledger) d0.seen kept x.settled.now.subscriptions) c.requires.fits.formed in
+    let raw2 = (c.append_changes.ensures.appends (end_of all) kept changes for_s formed x2s).within in
     let w2 = within_changes g.E.EntryStore.stands g.C.SubStore.stands g.E.EntryStore.area g.C.SubStore.area (λ t n m i k low x. g.met.C.SubStore.stands_longer t n m i k low x) ledger batch kept changes e2 s1 el2 sl1 d1 d2 one x2e raw2 in
     let w2' = subst (λ t. Within (OfTopic t) (Left g.E.EntryStore.stands g.C.SubStore.stands g.E.EntryStore.area g.C.SubStore.area (λ t n m i k low x. g.met.C.SubStore.stands_longer t n m i k low x) ledger batch kept changes t) d1 d2) c.append_entries.ensures.topic w2 in
     let w = both_written g.E.EntryStore.stands g.C.SubStore.stands g.E.EntryStore.area g.C.SubStore.area (λ t n m i k low x. g.met.C.SubStore.stands_longer t n m i k low x) ledger batch kept changes e1.topic d0 d1 d2 w1 w2' in
@@ -135,14 +135,14 @@ returns-clause-within g c =
     let e2 = entry_view g.E.EntryStore.topic_of g.E.EntryStore.counts g.E.EntryStore.per_ledger g.E.EntryStore.failed g.E.EntryStore.holds c.append_entries.new.store in
     let el2 = laws_e c.append_entries.new.store in
     let d2 = g.S.Shelf.disk c.append_changes.new.shelf in
-    let all : Entries = ledger ++ batch in
+    let all : Ledger = lengthened ledger batch in
     let one : s1.topic ≡ e2.topic = x1.settled.now.one_topic ∙ sym c.append_entries.ensures.topic in
     let raw = (c.append_entries.ensures.appends ledger batch for_e (entries_settled e1 s1 d0 ledger kept x1)).within in
     let x2e = (c.in_ok-append_entries.ensures.appends ledger batch for_e (entries_settled e1 s1 d0 ledger kept x1)).added in
     let x2s = subs_beside g.E.EntryStore.stands g.C.SubStore.stands g.E.EntryStore.area g.C.SubStore.area (λ t n m i k low x. g.met.C.SubStore.stands_longer t n m i k low x) ledger batch kept changes e1 s1 el1 sl1 d0 d1 x1 x2e.honest raw in
     let for_s = subst (λ (l : List Record). PreparedFor (g.C.SubStore.is_for c.prepare_changes.new.store) c.in_ok-changes.changes l) c.as_slice-2.ensures.value c.in_ok-changes.ensures.prepared in
-    let formed = formed_there (total (g.E.EntryStore.counts c.args.self.now.entries)) ledger batch kept (g.C.SubStore.content c.args.self.now.subscriptions) changes (el0.counts d0.seen ledger x.settled.now.entries) (sl0.content (length ledger) d0.seen kept x.settled.now.subscriptions) c.requires.fits.formed in
-    let raw2 = (c.append_changes.ensures.appends (length all) kept changes for_s formed x2s).within in
+    let formed = formed_there (total (g.E.EntryStore.counts c.args.self.now.entries)) ledger batch kept (g.C.SubStore.content c.args.self.now.subscriptions) changes (el0.counts d0.seen ledger x.settled.now.entries) (sl0.content (end_of ledger) d0.seen kept x.settled.now.subscriptions) c.requires.fits.formed in
+    let raw2 = (c.append_changes.ensures.appends (end_of all) kept changes for_s formed x2s).within in
     let w2 = within_changes g.E.EntryStore.stands g.C.SubStore.stands g.E.EntryStore.area g.C.SubStore.area (λ t n m i k low x. g.met.C.SubStore.stands_longer t n m i k low x) ledger batch kept changes e2 s1 el2 sl1 d1 d2 one x2e raw2 in
     let w2' = subst (λ t. Within (OfTopic t) (Left g.E.EntryStore.stands g.C.SubStore.stands g.E.EntryStore.area g.C.SubStore.area (λ t n m i k low x. g.met.C.SubStore.stands_longer t n m i k low x) ledger batch kept changes t) d1 d2) c.append_entries.ensures.topic w2 in
     let w = both_written g.E.EntryStore.stands g.C.SubStore.stands g.E.EntryStore.area g.C.SubStore.area (λ t n m i k low x. g.met.C.SubStore.stands_longer t n m i k low x) ledger batch kept changes e1.topic d0 d1 d2 w1 w2' in
@@ -172,15 +172,15 @@ returns-clause-written g c =
     let e2 = entry_view g.E.EntryStore.topic_of g.E.EntryStore.counts g.E.EntryStore.per_ledger g.E.EntryStore.failed g.E.EntryStore.holds c.append_entries.new.store in
     let el2 = laws_e c.append_entries.new.store in
     let d2 = g.S.Shelf.disk c.append_changes.new.shelf in
-    let all : Entries = ledger ++ batch in
+    let all : Ledger = lengthened ledger batch in
     let one : s1.topic ≡ e2.topic = x1.settled.now.one_topic ∙ sym c.append_entries.ensures.topic in
     let raw = (c.append_entries.ensures.appends ledger batch for_e (entries_settled e1 s1 d0 ledger kept x1)).within in
     let x2e = (c.in_ok-append_entries.ensures.appends ledger batch for_e (entries_settled e1 s1 d0 ledger kept x1)).added in
     let x2s = subs_beside g.E.EntryStore.stands g.C.SubStore.stands g.E.EntryStore.area g.C.SubStore.area (λ t n m i k low x. g.met.C.SubStore.stands_longer t n m i k low x) ledger batch kept changes e1 s1 el1 sl1 d0 d1 x1 x2e.honest raw in
     let for_s = subst (λ (l : List Record). PreparedFor (g.C.SubStore.is_for c.prepare_changes.new.store) c.in_ok-changes.changes l) c.as_slice-2.ensures.value c.in_ok-changes.ensures.prepared in
-    let formed = formed_there (total (g.E.EntryStore.counts c.args.self.now.entries)) ledger batch kept (g.C.SubStore.content c.args.self.now.subscriptions) changes (el0.counts d0.seen ledger x.settled.now.entries) (sl0.content (length ledger) d0.seen kept x.settled.now.subscriptions) c.requires.fits.formed in
-    let raw2 = (c.append_changes.ensures.appends (length all) kept changes for_s formed x2s).within in
+    let formed = formed_there (total (g.E.EntryStore.counts c.args.self.now.entries)) ledger batch kept (g.C.SubStore.content c.args.self.now.subscriptions) changes (el0.counts d0.seen ledger x.settled.now.entries) (sl0.content (end_of ledger) d0.seen kept x.settled.now.subscriptions) c.requires.fits.formed in
+    let raw2 = (c.append_changes.ensures.appends (end_of all) kept changes for_s formed x2s).within in
     let s2 = sub_view g.C.SubStore.topic_of g.C.SubStore.content g.C.SubStore.failed g.C.SubStore.holds g.C.SubStore.written c.append_changes.new.store in
     let y2e = entries_beside g.E.EntryStore.stands g.C.SubStore.stands g.E.EntryStore.area g.C.SubStore.area (λ t n m i k low x. g.met.C.SubStore.stands_longer t n m i k low x) ledger batch kept changes e2 s1 el2 sl1 d1 d2 one (c.append_changes.ensures.kept.honest x2e.honest) x2e raw2 in
-    let y2s = (c.in_ok-append_changes.ensures.appends (length all) kept changes for_s formed x2s).added in
+    let y2s = (c.in_ok-append_changes.ensures.appends (end_of all) kept changes for_s formed x2s).added in
     settled_both e2 s2 d2 all (after_all changes kept) (c.append_changes.ensures.topic ∙ one) y2e y2s
