@@ -312,13 +312,13 @@ class Journal:
 class EntriesTaken:
     """Takes the entries out of bodies, and remembers where each stands."""
 
-    def __init__(self, taken):
-        self.taken, self.count, self.places, self.firsts = taken, 0, [], []
+    def __init__(self, taken, base):
+        self.taken, self.count, self.segments = taken, base, []
 
     def begin(self, number):
         if number != self.count:
             raise NotOfItsForm
-        self.firsts.append(number)
+        self.segments.append((number, []))
         self.offset = HEADER
 
     def body(self, body):
@@ -334,44 +334,69 @@ class EntriesTaken:
             except Fault:
                 raise NotOfItsForm from None
             self.taken.entry(entry)
-            self.places.append((len(self.firsts) - 1, start + at + 4, size))
+            self.segments[-1][1].append((start + at + 4, size))
             self.count, at = self.count + 1, at + 4 + size
 
 
 class Ledger:
-    """A journal of entries, and where each stands."""
+    """A journal of entries. Of each segment the position of its first entry, and where each stands."""
 
-    def __init__(self, journal, per_ledger, places=(), first=0):
-        self.journal, self.per_ledger, self.places, self.first = journal, per_ledger, list(places), first
+    def __init__(self, journal, per_ledger, segments):
+        self.journal, self.per_ledger, self.segments = journal, per_ledger, segments
 
     @classmethod
     def create(cls, device, per_ledger):
-        return cls(Journal.create(device, 0), per_ledger)
+        return cls(Journal.create(device, 0), per_ledger, [(0, [])])
 
     @classmethod
-    def open(cls, device, per_ledger, taken):
-        entries = EntriesTaken(taken)
-        journal = Journal.open(device, entries)
-        return cls(journal, per_ledger, entries.places, entries.firsts[-1])
+    def open(cls, device, per_ledger, taken, start=(0, 0)):
+        entries = EntriesTaken(taken, start[0])
+        journal = Journal.open(device, entries, start[1])
+        return cls(journal, per_ledger, entries.segments)
+
+    def start(self):
+        return self.segments[0][0], self.journal.first
+
+    def end(self):
+        first, places = self.segments[-1]
+        return first + len(places)
+
+    def is_full(self):
+        return len(self.segments[-1][1]) >= self.per_ledger
 
     def append(self, device, entries):
         if sum(4 + len(entry) for entry in entries) > LARGEST_BODY - 1:
             raise Refused("too large")
-        position = len(self.places)
-        if position - self.first >= self.per_ledger:
+        position = self.end()
+        if self.is_full():
             self.journal.roll(device, position)
-            self.first = position
+            self.segments.append((position, []))
         at = self.journal.last().end + 6
         self.journal.append(device, b"".join(batch(entry) for entry in entries))
         for entry in entries:
-            self.places.append((len(self.journal.logs) - 1, at + 4, len(entry)))
+            self.segments[-1][1].append((at + 4, len(entry)))
             at += 4 + len(entry)
         return position
 
     def read(self, device, position):
         if self.journal.failed:
             raise Failed
-        return self.journal.read(device, *self.places[position]) if position < len(self.places) else None
+        for segment, (first, places) in enumerate(self.segments):
+            if first <= position < first + len(places):
+                return self.journal.read(device, segment, *places[position - first])
+        return None
+
+    def trim_point(self, more, limit):
+        firsts = [first for first, _ in self.segments]
+        if more and self.is_full():
+            firsts.append(self.end())
+        below = [(first, self.journal.first + count) for count, first in enumerate(firsts) if count and first <= limit]
+        return below[-1] if below else None
+
+    def trim(self, device, start):
+        count = start[1] - self.journal.first
+        self.journal.drop_before(device, start[1])
+        self.segments = self.segments[count:]
 
 
 # Two slots

@@ -79,8 +79,11 @@ def of_ledgers():
         lines += sweep(what, made, f"ledger append {ENTRY_B} {ENTRY_CC}", calls, behind, again)
     two = line(front, f"ledger create 1; ledger append {ENTRY}; ledger append {ENTRY_B}")
     unsynced = line(two, f"fail 13; ledger append {ENTRY_CC}")
+    three = line("room e0 e1 e2 e3", f"ledger create 1; ledger append {ENTRY}; ledger append {ENTRY_B}; ledger append {ENTRY_CC}")
+    kept = f"length e0; length e1; ledger from 2 2 1; ledger read 1; ledger read 2; ledger append {ENTRY}; ledger state; ledger from 2 2 1"
     return [
         *sweep("a ledger's creation", front, "ledger create 2", 5, "ledger open 2; ledger create 2; ledger open 2"), *lines,
+        *sweep("a ledger's trim of two segments", three, "ledger trim 2", 4, kept, f"ledger append {ENTRY}; ledger trim 2; ledger start; ledger state"),
         *sweep("a ledger's opening behind an append whose last sync failed", unsynced, "ledger open 1", 3, behind, "sync e0"),
         *sweep_reads("a ledger's opening", two, "ledger open 1", 10)]
 

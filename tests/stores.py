@@ -53,6 +53,10 @@ def some(found):
     return "none" if found is None else str(found)
 
 
+def told_start(start):
+    return "none" if start is None else f"{start[0]} {start[1]}"
+
+
 def found_bytes(found):
     return "none" if found is None else spelled(found)
 
@@ -277,12 +281,30 @@ class Steps:
         self.ledger = Ledger.open(self.device, int(per_ledger), taken)
         return "ok" + taken.text
 
+    def ledger_from(self, base, first, per_ledger):
+        taken = Taken()
+        self.ledger = Ledger.open(self.device, int(per_ledger), taken, (int(base), int(first)))
+        return "ok" + taken.text
+
+    def ledger_start(self):
+        return told_start(self.ledger.start())
+
+    def ledger_point(self, more, limit):
+        return told_start(self.ledger.trim_point(int(more), int(limit)))
+
+    def ledger_trim(self, limit):
+        start = self.ledger.trim_point(0, int(limit))
+        if start is None:
+            return "none"
+        self.ledger.trim(self.device, start)
+        return None
+
     def ledger_some(self, room):
         Ledger.open(self.device, 2, Taken(int(room)))
 
     def ledger_count(self):
         ledger = Ledger.open(self.device, 2, Taken())
-        return f"{len(ledger.places)} in {len(ledger.journal.logs)}"
+        return f"{ledger.end()} in {len(ledger.journal.logs)}"
 
     def ledger_append(self, *words):
         return str(self.ledger.append(self.device, [entry_of(word) for word in words]))
@@ -294,7 +316,7 @@ class Steps:
         return found_bytes(self.ledger.read(self.device, int(position)))
 
     def ledger_state(self):
-        return f"topic {TOPIC}, {len(self.ledger.places)} in {len(self.ledger.journal.logs)}, {standing(self.ledger.journal.failed)}"
+        return f"topic {TOPIC}, {self.ledger.end()} in {len(self.ledger.journal.logs)}, {standing(self.ledger.journal.failed)}"
 
     # A cursor store
 

@@ -7,7 +7,7 @@ use Rattle.journal.specs.Journals as journals
 use Rattle.managed_ledger.specs.declared.ledger_index.LedgerIndex.{LedgerIndex}
 use Rattle.managed_ledger.specs.declared.managed_ledger.ManagedLedger.{ManagedLedger}
 use Rattle.managed_ledger.specs.declared.segment_index.SegmentIndex.{SegmentIndex}
-use Rattle.managed_ledger.specs.Entries.{Entries, whole, end_of, AreSegments}
+use Rattle.managed_ledger.specs.Entries.{Entries, begun_at, end_of, AreSegments}
 use Rattle.managed_ledger.specs.Bodies.{IsBody}
 use Rattle.managed_ledger.specs.Ledgers.{IndexHolds, Holds, counts_of}
 use Rattle.managed_ledger.specs.One.{segments_one}
@@ -29,62 +29,62 @@ snoc_one (a ∷ xs) (b ∷ ys) x y same =
     let rest = snoc_one xs ys x y tail in
     ((λ i. head i ∷ rest.0 i), rest.1)
 
-module _ (held : Entries → Type 0) where
+module _ (base : ℕ) (held : Entries → Type 0) where
   -- the entries that were read
-  read_entries : (index : LedgerIndex) (links : List Link) → (read : HasRead held (Some index) links) → AreSegments 0 links read.2.entries
-  read_entries index links read = subst (λ (l : List Link). AreSegments 0 l read.2.entries) (sym read.1) (chain_segments read.0 (whole read.2.entries) (indexed_ledger index read.0 read.2))
+  read_entries : (index : LedgerIndex) (links : List Link) → (read : HasRead base held (Some index) links) → AreSegments base links read.2.entries
+  read_entries index links read = subst (λ (l : List Link). AreSegments base l read.2.entries) (sym read.1) (chain_segments read.0 (begun_at base read.2.entries) (indexed_ledger base index read.0 read.2))
 
   -- the first segment
-  pub begins_first : (index : LedgerIndex) (links : List Link) (number : ℕ) → HasRead held None links → number ≡ 0 → index.closed.items ≡ [] → index.last.first ≡ 0 → index.last.places.items ≡ [] → index.end ≡ 16 → HasRead held (Some index) (links ++ folds.begun number ∷ [])
-  begins_first index links number none zero_is closed first places end =
-      let more = begun_indexed index closed first places end in
-      (begun 0, (λ i. none.0 i ++ folds.begun (zero_is i) ∷ []), more.0, subst held (sym more.1) none.1)
+  pub begins_first : (index : LedgerIndex) (links : List Link) (number : ℕ) → HasRead base held None links → number ≡ base → index.closed.items ≡ [] → index.last.first ≡ base → index.last.places.items ≡ [] → index.end ≡ 16 → HasRead base held (Some index) (links ++ folds.begun number ∷ [])
+  begins_first index links number none base_is closed first places end =
+      let more = begun_indexed base index closed first places end in
+      (begun base, (λ i. none.0 i ++ folds.begun (base_is i) ∷ []), more.0, subst held (sym more.1) none.1)
 
   -- a segment more
-  pub begins_more : (index new : LedgerIndex) (links : List Link) (number : ℕ) → HasRead held (Some index) links → ReadsSegment index number (Some new) → HasRead held (Some new) (links ++ folds.begun number ∷ [])
+  pub begins_more : (index new : LedgerIndex) (links : List Link) (number : ℕ) → HasRead base held (Some index) links → ReadsSegment base index number (Some new) → HasRead base held (Some new) (links ++ folds.begun number ∷ [])
   begins_more index new links number read reads =
       let more = reads read.0 read.2 in
       (rolled read.0 number, ap (λ (l : List Link). l ++ folds.begun number ∷ []) read.1, more.0, subst held (sym more.1) read.3)
 
   -- a number that isn't the position of a first entry
-  pub number_bad : (index : LedgerIndex) (links : List Link) (number : ℕ) → HasRead held (Some index) links → number ≢ position index → ¬ AreLedger (links ++ folds.begun number ∷ [])
+  pub number_bad : (index : LedgerIndex) (links : List Link) (number : ℕ) → HasRead base held (Some index) links → number ≢ position index → ¬ AreLedger base (links ++ folds.begun number ∷ [])
   number_bad index links number read other is =
-      let last = last_of 0 links (folds.begun number) is.0 is.1 in
-      let same = segments_one 0 0 links last.before read.2.entries last.closed (read_entries index links read) in
-      other (omega (arith, last.last.number_is, ap length same, counted index read.0 read.2))
+      let last = last_of base links (folds.begun number) is.0 is.1 in
+      let same = segments_one base base links last.before read.2.entries last.closed (read_entries index links read) in
+      other (omega (arith, last.last.number_is, ap length same, counted base index read.0 read.2))
 
   -- a body that isn't of entries, or of too many
-  pub body_bad : (index : LedgerIndex) (links : List Link) (link : Link) (body : List ℕ) → HasRead held (Some index) (links ++ link ∷ []) → length body ≤ 33554432
-      → ((entries : Entries) → IsBody body entries → ¬ (position index + length entries ≤ 2 ^ 62)) → ¬ AreLedger (links ++ folds.grown link body ∷ [])
+  pub body_bad : (index : LedgerIndex) (links : List Link) (link : Link) (body : List ℕ) → HasRead base held (Some index) (links ++ link ∷ []) → length body ≤ 33554432
+      → ((entries : Entries) → IsBody body entries → ¬ (position index + length entries ≤ 2 ^ 62)) → ¬ AreLedger base (links ++ folds.grown link body ∷ [])
   body_bad index links link body read fits none is =
-      let less = less_of links link body is.0 is.1 in
-      let same = segments_one 0 0 (links ++ link ∷ []) less.front read.2.entries less.segments (read_entries index (links ++ link ∷ []) read) in
-      none less.batch (record { bytes = less.body_is; each = less.each; fits = fits }) (omega (arith, is.2, ap length less.entries_are, length-append less.front less.batch, ap length same, counted index read.0 read.2))
+      let less = less_of base links link body is.0 is.1 in
+      let same = segments_one base base (links ++ link ∷ []) less.front read.2.entries less.segments (read_entries index (links ++ link ∷ []) read) in
+      none less.batch (record { bytes = less.body_is; each = less.each; fits = fits }) (omega (arith, is.2, ap length less.entries_are, length-append less.front less.batch, ap length same, counted base index read.0 read.2))
 
   -- a body more
-  pub body_good : (held' : Entries → Type 0) (index new : LedgerIndex) (links : List Link) (link : Link) (body : List ℕ) → (read : HasRead held (Some index) (links ++ link ∷ [])) → folds.FitsFile (folds.grown link body) → ReadsBody index body read.2.entries held' (Some new)
-      → HasRead held' (Some new) (links ++ folds.grown link body ∷ [])
+  pub body_good : (held' : Entries → Type 0) (index new : LedgerIndex) (links : List Link) (link : Link) (body : List ℕ) → (read : HasRead base held (Some index) (links ++ link ∷ [])) → folds.FitsFile (folds.grown link body) → ReadsBody base index body read.2.entries held' (Some new)
+      → HasRead base held' (Some new) (links ++ folds.grown link body ∷ [])
   body_good held' index new links link body read few reads =
       let both = snoc_one links read.0.closed link read.0.last read.1 in
       let more = reads read.0 (subst (λ (l : Link). folds.FitsFile (folds.grown l body)) both.1 few) read.2 refl in
       (grown read.0 body, (λ i. both.0 i ++ folds.grown (both.1 i) body ∷ []), more.0, more.1)
 
   -- the ledger that was opened
-  pub opened_ledger : (ledger : ManagedLedger) (index : LedgerIndex) (first disk : Disk) (chain : Chain) → (first.honest → journals.Settled ledger.journal disk chain) → HasRead held (Some index) (links_of chain) → ledger.closed.items ≡ index.closed.items → ledger.last ≡ index.last
-      → (entries : Entries) × (first.honest → Settled (Holds ledger) disk (whole entries)) × (length entries ≡ total (counts_of ledger)) × held entries
+  pub opened_ledger : (ledger : ManagedLedger) (index : LedgerIndex) (first disk : Disk) (chain : Chain) → (first.honest → journals.Settled ledger.journal disk chain) → HasRead base held (Some index) (links_of chain) → ledger.closed.items ≡ index.closed.items → ledger.last ≡ index.last
+      → (entries : Entries) × (first.honest → Settled (Holds ledger) disk (begun_at base entries)) × (length entries ≡ total (counts_of ledger)) × held entries
   opened_ledger ledger index first disk chain settled read closed last =
       let both = snoc_one chain.closed read.0.closed chain.last read.0.last read.1 in
       let same : read.0 ≡ chain = (λ i. record { closed = (sym both.0) i; last = (sym both.1) i }) in
       let so = read.2 in
-      let holds : IndexHolds ledger.closed.items ledger.last chain (whole so.entries) =
-      subst (λ (c : Chain). IndexHolds ledger.closed.items ledger.last c (whole so.entries)) same
-      (subst (λ (l : List SegmentIndex). IndexHolds l ledger.last read.0 (whole so.entries)) (sym closed) (subst (λ (s : SegmentIndex). IndexHolds index.closed.items s read.0 (whole so.entries)) (sym last) so.holds)) in
-      let few : end_of (whole so.entries) ≤ 2 ^ 62 = omega (arith, index.few, counted index read.0 so) in
-      let all : first.honest → Settled (Holds ledger) disk (whole so.entries) = λ h.
+      let holds : IndexHolds ledger.closed.items ledger.last chain (begun_at base so.entries) =
+      subst (λ (c : Chain). IndexHolds ledger.closed.items ledger.last c (begun_at base so.entries)) same
+      (subst (λ (l : List SegmentIndex). IndexHolds l ledger.last read.0 (begun_at base so.entries)) (sym closed) (subst (λ (s : SegmentIndex). IndexHolds index.closed.items s read.0 (begun_at base so.entries)) (sym last) so.holds)) in
+      let few : end_of (begun_at base so.entries) ≤ 2 ^ 62 = omega (arith, index.few, counted base index read.0 so) in
+      let all : first.honest → Settled (Holds ledger) disk (begun_at base so.entries) = λ h.
       let there = settled h in
       record {
         honest = there.honest;
         now = record { chain = chain; journal = there.now; index = holds; few = few };
         left = λ c may. record { chain = chain; journal = there.left c may; index = holds; few = few };
       } in
-      (so.entries, all, sym (index_total ledger.closed.items ledger.last chain (whole so.entries) holds), read.3)
+      (so.entries, all, sym (index_total ledger.closed.items ledger.last chain (begun_at base so.entries) holds), read.3)

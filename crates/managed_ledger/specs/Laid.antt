@@ -11,7 +11,7 @@ use Rattle.managed_ledger.specs.declared.segment_index.SegmentIndex.{SegmentInde
 use Rattle.managed_ledger.specs.declared.managed_ledger.ManagedLedger.{ManagedLedger}
 use Rattle.managed_ledger.specs.Entries.{Entries, Ledger, AreBatches, body_of}
 use Rattle.managed_ledger.specs.Shape.{sizes_of, counts_after}
-use Rattle.managed_ledger.specs.Ledgers.{Holds, ClosedHold, ledger_topic, counts_of}
+use Rattle.managed_ledger.specs.Ledgers.{Holds, ClosedHold, ledger_topic, start_of, counts_of}
 use Rattle.managed_ledger.specs.One.{entries_one, batches_joined}
 use Rattle.managed_ledger.specs.Places.{found_length}
 
@@ -28,10 +28,10 @@ HaveEntries [] (count ∷ counts) = ⊥
 HaveEntries (link ∷ links) [] = ⊥
 HaveEntries (link ∷ links) (count ∷ counts) = HasEntries link count × HaveEntries links counts
 
--- the segment files of the topic have so many entries each, the oldest first
-pub record IsLaidOut (topic : ℕ) (image : Image) (counts : List ℕ) : Type 0 where
+-- the segment files of the topic from this number on have so many entries each, the oldest first
+pub record IsLaidOut (topic first : ℕ) (image : Image) (counts : List ℕ) : Type 0 where
   pub chain : Chain
-  pub segments : chains.Stands topic 0 image chain
+  pub segments : chains.Stands topic first image chain
   pub each : HaveEntries (links_of chain) counts
 
 -- each segment but the last has n entries or more
@@ -51,10 +51,10 @@ closed_laid first (i ∷ indexes) (l ∷ links) before last link hold own = (
 )
 
 -- a ledger counts its segments as they are laid out
-pub held_laid : (ledger : ManagedLedger) (image : Image) (l : Ledger) → Holds ledger image l → IsLaidOut (ledger_topic ledger) image (counts_of ledger)
+pub held_laid : (ledger : ManagedLedger) (image : Image) (l : Ledger) → Holds ledger image l → IsLaidOut (ledger_topic ledger) (start_of ledger).first image (counts_of ledger)
 held_laid ledger image l holds = record {
   chain = holds.chain;
-  segments = subst (λ (first : ℕ). chains.Stands (ledger_topic ledger) first image holds.chain) ledger.from_zero (links.holds_stands ledger.journal image holds.chain holds.journal);
+  segments = links.holds_stands ledger.journal image holds.chain holds.journal;
   each = closed_laid l.base ledger.closed.items holds.chain.closed holds.index.before ledger.last holds.chain.last holds.index.closed_hold (record {
     entries = holds.index.own;
     batches = holds.index.last_holds.segment.batches;
@@ -76,13 +76,13 @@ each_one (l ∷ links) (n ∷ one) (m ∷ other) have have' =
     (λ i. here i ∷ rest i)
 
 -- files are laid out in one way
-pub laid_one : (topic : ℕ) (image : Image) (one other : List ℕ) → IsLaidOut topic image one → IsLaidOut topic image other → one ≡ other
-laid_one topic image one other is is' =
+pub laid_one : (topic first : ℕ) (image : Image) (one other : List ℕ) → IsLaidOut topic first image one → IsLaidOut topic first image other → one ≡ other
+laid_one topic first image one other is is' =
     each_one (links_of is.chain) one other is.each
-    (subst (λ (c : Chain). HaveEntries (links_of c) other) (sym (links.stands_one topic 0 image is.chain is'.chain is.segments is'.segments)) is'.each)
+    (subst (λ (c : Chain). HaveEntries (links_of c) other) (sym (links.stands_one topic first image is.chain is'.chain is.segments is'.segments)) is'.each)
 
-pub laid_local : (topic : ℕ) (a b : Image) (counts : List ℕ) → Agree (SegmentsOf topic) a b → IsLaidOut topic a counts → IsLaidOut topic b counts
-laid_local topic a b counts same is = record { chain = is.chain; segments = links.stands_local topic 0 a b is.chain same is.segments; each = is.each }
+pub laid_local : (topic first : ℕ) (a b : Image) (counts : List ℕ) → Agree (SegmentsOf topic) a b → IsLaidOut topic first a counts → IsLaidOut topic first b counts
+laid_local topic first a b counts same is = record { chain = is.chain; segments = links.stands_local topic first a b is.chain same is.segments; each = is.each }
 
 full_behind : (n count : ℕ) (counts : List ℕ) → n ≤ count → AreFull n counts → AreFull n (count ∷ counts)
 full_behind n count [] le full = tt

@@ -16,7 +16,7 @@ pub record IsGrown (old new : Ledger) : Type 0 where
 
 -- ---- an entry at its position
 
-below_is : (l : Ledger) (i : ℕ) → i < l.base → entry_at l i ≡ None
+pub below_is : (l : Ledger) (i : ℕ) → i < l.base → entry_at l i ≡ None
 unfolding entry_at
 below_is l i low = let t : nat_lt i l.base ≡ true = grind (arith, nat_tests) in ap (λ (b : Bool). cond b None (slice_get l.entries (i - l.base))) t
 

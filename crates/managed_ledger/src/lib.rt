@@ -1,7 +1,8 @@
 //! A managed ledger is the list of a topic's entries, kept in the segments of a journal: an append adds its entries all
 //! or none, at whatever moment a crash comes, and an entry is read by its position with one read of the device. Memory is
 //! taken before the first device call; after a failure the ledger remembers the old entries and refuses until it is opened
-//! again. An opening answers the entries, or the first fault that stands in the segments.
+//! again. An opening answers the entries, or the first fault that stands in the segments. The first segments can be given
+//! back: the ledger then begins at the position, and in the segment, that its caller keeps.
 #![tactic(auto)]
 
 mod append;
@@ -23,6 +24,9 @@ mod place;
 mod prepare;
 mod prepared;
 mod segment_index;
+mod start;
+mod trim;
+mod trim_point;
 
 pub use entry_fold::EntryFold;
 pub use entry_store::EntryStore;
@@ -32,3 +36,4 @@ pub use law::{
 };
 pub use managed_ledger::ManagedLedger;
 pub use prepared::PreparedEntries;
+pub use start::Start;

@@ -3,7 +3,7 @@ use crate::filled::{PER_LEDGER, TOPIC, filled};
 use anyhow::{Error, bail};
 use disk::{FileId, Shelf};
 use disk_mem::MemShelf;
-use managed_ledger::{EntryStore, ManagedLedger};
+use managed_ledger::{EntryStore, ManagedLedger, Start};
 use std::alloc::Global;
 
 pub(crate) type Device = CountedShelf<MemShelf>;
@@ -22,7 +22,8 @@ pub(crate) fn bytes_of(shelf: &mut Device, segments: u64) -> Result<u64, Error> 
 }
 
 fn again(alloc: Global, shelf: &mut Device) -> Result<ManagedLedger, Error> {
-    let (ledger, ()) = ManagedLedger::open(alloc, shelf, TOPIC, PER_LEDGER, ())?;
+    let start = Start { base: 0, first: 0 };
+    let (ledger, ()) = ManagedLedger::open(alloc, shelf, TOPIC, PER_LEDGER, start, ())?;
     Ok(ledger)
 }
 

@@ -1,5 +1,5 @@
 // A managed ledger.
-ghost use Rattle.std.specs.Prelude.{◌<◌, IfOk, length};
+ghost use Rattle.std.specs.Prelude.{◌<◌, ◌≤◌, ◌^◌, IfOk, length};
 ghost use Rattle.managed_ledger.specs.Entries.{IsEntry, AreEntries};
 
 use crate::device::Device;
@@ -11,11 +11,17 @@ use bytes::Bytes;
 use commands::read_entry;
 use disk_mem::MemShelf;
 use gated_log::Refusal;
-use managed_ledger::{EntryStore, ManagedLedger};
+use managed_ledger::{EntryStore, ManagedLedger, Start};
 use std::alloc::Global;
 
 /// So many bytes are added to those that a word spells, at most.
 const MOST_ADDED: usize = 1 << 21;
+
+/// The last number of a first segment.
+const LAST_FIRST: u64 = 1 << 62;
+
+/// Where a new ledger begins.
+const FROM_ZERO: Start = Start { base: 0, first: 0 };
 
 /// The ledger of the topic.
 #[derive(Drop)]
@@ -79,6 +85,18 @@ fn append(
     Ok(ledger.append_prepared(shelf, prepared)?)
 }
 
+/// Gives the segments below a limit back; false where none is.
+fn trim(ledger: &mut ManagedLedger, shelf: &mut MemShelf, limit: u64) -> Result<bool, Refusal> {
+    let Some(start) = ledger.trim_point(0, limit) else {
+        return Ok(false);
+    };
+    if start.first > LAST_FIRST {
+        return Err(Refusal::TooLarge);
+    }
+    ledger.trim(shelf, start)?;
+    Ok(true)
+}
+
 impl Ledgers {
     pub(crate) fn new(alloc: Global) -> Ledgers {
         Ledgers {
@@ -98,19 +116,23 @@ impl Ledgers {
         Ok(())
     }
 
-    /// Puts what an opening hands over, or why it is refused.
+    /// Puts what an opening of a ledger that begins there hands over, or why it is refused.
     fn open(
         &mut self,
         device: &mut Device,
         entries_per_ledger: u32,
+        start: Start,
         said: &mut String,
-    ) -> Result<(), Error> {
+    ) -> Result<(), Error>
+        requires in_range { (start.base ≤ 2 ^ 62) × (start.first ≤ 2 ^ 62) }
+    {
         let taken = Taken::new(self.alloc);
         let opened: Result<(ManagedLedger, Taken), Refusal> = EntryStore::open(
             self.alloc,
             &mut device.shelf,
             TOPIC,
             entries_per_ledger,
+            start,
             taken,
         );
         match opened {
@@ -131,7 +153,7 @@ impl Ledgers {
         said: &mut String,
     ) -> Result<(), Error> {
         let taken = Taken::with_room(self.alloc, most);
-        match ManagedLedger::open_with(self.alloc, &mut device.shelf, TOPIC, 2, taken) {
+        match ManagedLedger::open_with(self.alloc, &mut device.shelf, TOPIC, 2, FROM_ZERO, taken) {
             Ok(_) => Ok(said.push_str("ok")?),
             Err(Refusal::NoMemory) => Ok(said.push_str("no memory")?),
             Err(refusal) => device.refuse(said, refusal),
@@ -140,7 +162,7 @@ impl Ledgers {
 
     /// Puts how many entries and segments an opening finds that hands nothing over.
     fn count(&self, device: &mut Device, said: &mut String) -> Result<(), Error> {
-        match ManagedLedger::open_with(self.alloc, &mut device.shelf, TOPIC, 2, ()) {
+        match ManagedLedger::open_with(self.alloc, &mut device.shelf, TOPIC, 2, FROM_ZERO, ()) {
             Ok((ledger, ())) => {
                 let text = format!(in self.alloc; "{} in {}", ledger.len(), ledger.segments())?;
                 Ok(said.push_str(text.as_str())?)
@@ -199,6 +221,41 @@ impl Ledgers {
         self.append(device, many.as_slice(), said)
     }
 
+    /// Puts a position and the number of a segment, or that there is none.
+    fn tell_start(&self, start: Option<Start>, said: &mut String) -> Result<(), Error> {
+        let Some(Start { base, first }) = start else {
+            return Ok(said.push_str("none")?);
+        };
+        Ok(said.push_str(format!(in self.alloc; "{base} {first}")?.as_str())?)
+    }
+
+    /// Puts where it begins.
+    fn begins(&self, said: &mut String) -> Result<(), Error> {
+        let Some(ledger) = &self.ledger else {
+            return Ok(said.push_str("none")?);
+        };
+        self.tell_start(Some(ledger.start()), said)
+    }
+
+    /// Puts where it would begin without the segments below a limit, with so many entries more.
+    fn point(&self, more: usize, limit: u64, said: &mut String) -> Result<(), Error> {
+        let Some(ledger) = &self.ledger else {
+            return Ok(said.push_str("none")?);
+        };
+        self.tell_start(ledger.trim_point(more, limit), said)
+    }
+
+    fn trim(&mut self, device: &mut Device, limit: u64, said: &mut String) -> Result<(), Error> {
+        let Some(ledger) = &mut self.ledger else {
+            return Ok(said.push_str("none")?);
+        };
+        match trim(ledger, &mut device.shelf, limit) {
+            Ok(false) => Ok(said.push_str("none")?),
+            Ok(true) => device.tell(said, Ok(())),
+            Err(refusal) => device.tell(said, Err(refusal)),
+        }
+    }
+
     fn read(&self, device: &mut Device, position: u64, said: &mut String) -> Result<(), Error> {
         let Some(ledger) = &self.ledger else {
             return Ok(said.push_str("none")?);
@@ -218,7 +275,18 @@ impl Ledgers {
                 let made = self.create(device, number.parse()?);
                 device.tell(said, made)
             }
-            ["open", number] => self.open(device, number.parse()?, said),
+            ["open", number] => self.open(device, number.parse()?, FROM_ZERO, said),
+            ["from", base, first, number] => {
+                let (base, first): (u32, u32) = (base.parse()?, first.parse()?);
+                let start = Start {
+                    base: u64::from(base),
+                    first: u64::from(first),
+                };
+                self.open(device, number.parse()?, start, said)
+            }
+            ["start"] => self.begins(said),
+            ["point", more, limit] => self.point(more.parse()?, limit.parse()?, said),
+            ["trim", limit] => self.trim(device, limit.parse()?, said),
             ["some", most] => self.open_some(device, most.parse()?, said),
             ["count"] => self.count(device, said),
             ["append", one] => {

@@ -9,7 +9,7 @@ use Rattle.topic_core.specs.Standing.{Match, resting}
 -- what the store remembers and holds
 abbrev pub view_of : FileStores → StoreView
 view_of files =
-    both (entry_view ledgers.ledger_topic ledgers.counts_of (λ ledger. ledger.entries_per_ledger) ledgers.failed ledgers.Holds files.stores.entries)
+    both (entry_view ledgers.ledger_topic ledgers.start_of ledgers.counts_of (λ ledger. ledger.entries_per_ledger) ledgers.failed ledgers.Holds files.stores.entries)
     (sub_view cursors.topic_of cursors.content cursors.failed cursors.Holds cursors.written files.stores.subscriptions)
 
 -- Topic and store remember the same, as a flush asks; none is under way.

@@ -1,5 +1,5 @@
 -- What a read gives of the entries of a store.
-use Rattle.std.proofs.Common.{◌≡◌, ℕ, zero, suc, ◌-◌, ◌<◌, ◌≤◌, List, [], ◌∷◌, length, Option, None, Some, sym, ◌∙◌, subst, arith}
+use Rattle.std.proofs.Common.{◌≡◌, ℕ, zero, suc, ◌-◌, ◌<◌, ◌≤◌, List, [], ◌∷◌, length, Option, None, Some, sym, ◌∙◌, subst}
 use Rattle.std.specs.Prelude.{slice_get}
 use Rattle.managed_ledger.specs.Entries.{Entries, Ledger, AreEntries, end_of, entry_at}
 use Rattle.managed_ledger.specs.Trims.{there_is, there_within, entry_within}
@@ -7,10 +7,10 @@ use Rattle.managed_ledger.specs.Trims.{there_is, there_within, entry_within}
 none_some : {X : Type 0} (x : X) → (let o : Option X = None in o ≡ Some x) → ⊥
 none_some x same = cc
 
--- where none is gone, there is one at each position
-pub not_missing : (ledger : Ledger) (position : ℕ) → ledger.base ≡ 0 → position < end_of ledger → (let none : Option (List ℕ) = None in none ≡ entry_at ledger position) → ⊥
-not_missing ledger position untrimmed within is =
-    let there = there_within ledger position (omega (arith, untrimmed)) within in
+-- from the base on there is one at each position
+pub not_missing : (ledger : Ledger) (position : ℕ) → ledger.base ≤ position → position < end_of ledger → (let none : Option (List ℕ) = None in none ≡ entry_at ledger position) → ⊥
+not_missing ledger position high within is =
+    let there = there_within ledger position high within in
     none_some there.0 (is ∙ there.1)
 
 no_longer : (entries : Entries) (i : ℕ) (entry : List ℕ) → AreEntries entries → slice_get entries i ≡ Some entry → length entry ≤ 1048576

@@ -1,5 +1,5 @@
 -- What holds of a store of a topic at any time.
-use Rattle.std.proofs.Common.{◌≡◌, inl, inr, ⊎_elim, ℕ, ◌≤◌, List, Bool, false, ◌||◌, sym, ap, subst, ◌∙◌}
+use Rattle.std.proofs.Common.{◌≡◌, inl, inr, ⊎_elim, ℕ, ◌+◌, ◌≤◌, List, Bool, false, ◌||◌, sym, ap, subst, ◌∙◌}
 use Rattle.disk.specs.declared.file_id.FileId.{FileId}
 use Rattle.disk.specs.declared.file_id.FileId.TheVariants.{Catalog, Segment, Slot}
 use Rattle.disk.specs.Disk.{Disk, Image, Undisturbed}
@@ -8,7 +8,8 @@ use Rattle.journal.specs.Chains.{SegmentsOf}
 use Rattle.two_slot.specs.Slots.{SlotsOf}
 use Rattle.gated_log.specs.declared.refusal.Refusal.{Refusal}
 use Rattle.gated_log.specs.Batches.{Bodies}
-use Rattle.managed_ledger.specs.Entries.{Ledger, end_of}
+use Rattle.managed_ledger.specs.declared.start.Start.{Start}
+use Rattle.managed_ledger.specs.Entries.{Ledger, end_of, from_zero}
 use Rattle.managed_ledger.specs.Shape.{total}
 use Rattle.records.specs.Maps.{Kept}
 use Rattle.topic_stores.specs.Views.{StoreView, EntryView, SubView, Settled, AreLaws, entry_view, sub_view, both, stand, fault}
@@ -44,10 +45,10 @@ are_apart t (Segment of n) h k = k
 are_apart t (Slot of s) h k = h
 
 -- what a store of entries promises
-pub record EntryLaws (files_stand : ℕ → Image → Ledger → Type 0) (area : ℕ → FileId → Type 0) (e : EntryView) : Type 0 where
+pub record EntryLaws (files_stand : ℕ → Start → Image → Ledger → Type 0) (area : ℕ → FileId → Type 0) (e : EntryView) : Type 0 where
   pub works : (c : Image) (l : Ledger) → e.holds c l → e.failed ≡ false
   pub counts : (c : Image) (l : Ledger) → e.holds c l → e.total ≡ end_of l
-  pub stands : (c : Image) (l : Ledger) → e.holds c l → files_stand e.topic c l
+  pub stands : (c : Image) (l : Ledger) → e.holds c l → files_stand e.topic e.start c l
   pub own : (f : FileId) → area e.topic f → SegmentsOf e.topic f
   pub local : (a b : Image) (l : Ledger) → Agree (area e.topic) a b → e.holds a l → e.holds b l
 
@@ -62,12 +63,12 @@ pub record SubLaws (files_stand : ℕ → ℕ → Image → Kept → Type 0) (ar
   pub written_local : (a b : Image) → Agree (area s.topic) a b → s.written b ≡ s.written a
 
 -- each of one store, by the laws of its trait
-pub entry_laws : {E : Type 0} (topic_of : E → ℕ) (counts : E → List ℕ) (per_ledger : E → ℕ) (failed : E → Bool) (holds : E → Image → Ledger → Type 0) (files_stand : ℕ → Image → Ledger → Type 0) (area : ℕ → FileId → Type 0)
-    → ((store : E) (c : Image) (l : Ledger) → holds store c l → failed store ≡ false) → ((store : E) (c : Image) (l : Ledger) → holds store c l → total (counts store) ≡ end_of l)
-    → ((store : E) (c : Image) (l : Ledger) → holds store c l → files_stand (topic_of store) c l) → ((t : ℕ) (f : FileId) → area t f → SegmentsOf t f)
+pub entry_laws : {E : Type 0} (topic_of : E → ℕ) (start_of : E → Start) (counts : E → List ℕ) (per_ledger : E → ℕ) (failed : E → Bool) (holds : E → Image → Ledger → Type 0) (files_stand : ℕ → Start → Image → Ledger → Type 0) (area : ℕ → FileId → Type 0)
+    → ((store : E) (c : Image) (l : Ledger) → holds store c l → failed store ≡ false) → ((store : E) (c : Image) (l : Ledger) → holds store c l → (start_of store).base + total (counts store) ≡ end_of l)
+    → ((store : E) (c : Image) (l : Ledger) → holds store c l → files_stand (topic_of store) (start_of store) c l) → ((t : ℕ) (f : FileId) → area t f → SegmentsOf t f)
     → ((store : E) (a b : Image) (l : Ledger) → Agree (area (topic_of store)) a b → holds store a l → holds store b l)
-    → (store : E) → EntryLaws files_stand area (entry_view topic_of counts per_ledger failed holds store)
-entry_laws topic_of counts per_ledger failed holds files_stand area works is_count stands own local store = record {
+    → (store : E) → EntryLaws files_stand area (entry_view topic_of start_of counts per_ledger failed holds store)
+entry_laws topic_of start_of counts per_ledger failed holds files_stand area works is_count stands own local store = record {
   works = λ c l x. works store c l x;
   counts = λ c l x. is_count store c l x;
   stands = λ c l x. stands store c l x;
@@ -94,18 +95,19 @@ sub_laws topic_of content failed holds written files_stand area works is_content
 none_failed : (a b : Bool) → a ≡ false → b ≡ false → (a || b) ≡ false
 none_failed a b x y = ap (λ (z : Bool). z || b) x ∙ y
 
-module _ (es : ℕ → Image → Ledger → Type 0) (ss : ℕ → ℕ → Image → Kept → Type 0) (ea ca : ℕ → FileId → Type 0) (e : EntryView) (s : SubView) (el : EntryLaws es ea e) (sl : SubLaws ss ca s) where
+module _ (es : ℕ → Start → Image → Ledger → Type 0) (ss : ℕ → ℕ → Image → Kept → Type 0) (ea ca : ℕ → FileId → Type 0) (e : EntryView) (s : SubView) (el : EntryLaws es ea e) (sl : SubLaws ss ca s) where
   slot_of_topic : s.topic ≡ e.topic → (f : FileId) → ca s.topic f → OfTopic e.topic f
   slot_of_topic one_topic f a = subst (λ t. OfTopic t f) one_topic (slot_own s.topic f (sl.own f a))
 
-  pub both_laws : AreLaws (stand es ss) (both e s)
+  pub both_laws : AreLaws (stand (λ t. es t from_zero) ss) (both e s)
   both_laws = record {
     works = λ c l k x. none_failed e.failed s.failed (el.works c l x.entries) (sl.works (end_of l) c k x.subscriptions);
     counts = λ c l k x. el.counts c l x.entries;
     remembers = λ c l k x. sl.content (end_of l) c k x.subscriptions;
-    stands = λ c l k x. (el.stands c l x.entries, subst (λ t. ss t (end_of l) c k) x.one_topic (sl.stands (end_of l) c k x.subscriptions));
+    stands = λ c l k x. (subst (λ start. es e.topic start c l) x.untrimmed (el.stands c l x.entries), subst (λ t. ss t (end_of l) c k) x.one_topic (sl.stands (end_of l) c k x.subscriptions));
     local = λ a b l k same x. record {
       one_topic = x.one_topic;
+      untrimmed = x.untrimmed;
       entries = el.local a b l (λ f own. same f (segment_own e.topic f (el.own f own))) x.entries;
       subscriptions = sl.local (end_of l) a b k (λ f own. same f (slot_of_topic x.one_topic f own)) x.subscriptions;
     };

@@ -1,11 +1,12 @@
 -- The durable half of a topic, in one view.
-use Rattle.std.specs.Prelude.{◌≡◌, ◌⊎◌, ℕ, Bool, false, ◌||◌, List}
+use Rattle.std.specs.Prelude.{◌≡◌, ◌⊎◌, ℕ, ◌+◌, Bool, false, ◌||◌, List}
 use Rattle.disk.specs.Disk.{Disk, Image}
 use Rattle.disk.specs.Areas.{Agree, OfTopic}
 use Rattle.disk.specs.Contents.{Steady}
 use Rattle.gated_log.specs.declared.refusal.Refusal.{Refusal}
 use Rattle.gated_log.specs.Batches.{Bodies}
-use Rattle.managed_ledger.specs.Entries.{Ledger, end_of}
+use Rattle.managed_ledger.specs.declared.start.Start.{Start}
+use Rattle.managed_ledger.specs.Entries.{Ledger, end_of, from_zero}
 use Rattle.managed_ledger.specs.Shape.{total}
 use Rattle.records.specs.Maps.{Kept}
 
@@ -37,6 +38,7 @@ pub record AreLaws (files_stand : ℕ → Image → Ledger → Kept → Type 0) 
 
 pub record EntryView : Type 1 where
   pub topic : ℕ
+  pub start : Start
   pub total : ℕ
   pub counts : List ℕ
   pub per_ledger : ℕ
@@ -50,9 +52,10 @@ pub record SubView : Type 1 where
   pub holds : ℕ → Image → Kept → Type 0
   pub written : Image → Bodies
 
--- they are of one topic, and each holds its half
+-- they are of one topic, no entry is gone, and each holds its half
 pub record BothHold (e : EntryView) (s : SubView) (files : Image) (ledger : Ledger) (kept : Kept) : Type 0 where
   pub one_topic : s.topic ≡ e.topic
+  pub untrimmed : e.start ≡ from_zero
   pub entries : e.holds files ledger
   pub subscriptions : s.holds (end_of ledger) files kept
 
@@ -68,8 +71,8 @@ both e s = record {
   written = s.written;
 }
 
-abbrev pub entry_view : {E : Type 0} → (E → ℕ) → (E → List ℕ) → (E → ℕ) → (E → Bool) → (E → Image → Ledger → Type 0) → E → EntryView
-entry_view topic_of counts per_ledger failed holds store = record { topic = topic_of store; total = total (counts store); counts = counts store; per_ledger = per_ledger store; failed = failed store; holds = holds store }
+abbrev pub entry_view : {E : Type 0} → (E → ℕ) → (E → Start) → (E → List ℕ) → (E → ℕ) → (E → Bool) → (E → Image → Ledger → Type 0) → E → EntryView
+entry_view topic_of start_of counts per_ledger failed holds store = record { topic = topic_of store; start = start_of store; total = (start_of store).base + total (counts store); counts = counts store; per_ledger = per_ledger store; failed = failed store; holds = holds store }
 
 abbrev pub sub_view : {C : Type 0} → (C → ℕ) → (C → Kept) → (C → Bool) → (C → ℕ → Image → Kept → Type 0) → (C → Image → Bodies) → C → SubView
 sub_view topic_of content failed holds written store = record { topic = topic_of store; kept = content store; failed = failed store; holds = holds store; written = written store }

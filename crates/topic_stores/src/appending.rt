@@ -26,12 +26,13 @@ pub(crate) fn prepare_entries<E: EntryStore>(
     requires readable { AreEntries entries.now }
     requires few { length entries.now ≤ 1024 }
     requires small { sum_by length entries.now ≤ 16777216 }
-    requires room { total (E.counts store.old) + length entries.now ≤ 2 ^ 62 }
+    requires room { (E.start_of store.old).base + total (E.counts store.old) + length entries.now ≤ 2 ^ 62 }
     ensures prepared { IfOk result (λ prepared. PreparedFor E.is_for prepared entries.now) }
     ensures some { IfOk result (λ prepared. IfSome prepared (λ p. 0 < length entries.now)) }
     ensures has_room { IfOk result (λ prepared. IfSome prepared (E.has_room store.new)) }
     ensures unchanged { StaysSo (E.holds store.old) (E.holds store.new) (E.content store.old) (E.content store.new) }
     ensures topic { E.topic_of store.new ≡ E.topic_of store.old }
+    ensures start { E.start_of store.new ≡ E.start_of store.old }
     ensures counts { E.counts store.new ≡ E.counts store.old }
     ensures per_ledger { E.per_ledger store.new ≡ E.per_ledger store.old }
     ensures failed { E.failed store.new ≡ E.failed store.old }
@@ -81,13 +82,14 @@ pub(crate) fn append_entries<E: EntryStore, S: Shelf>(
     requires { IfSome prepared (E.has_room store.old) }
     // A crash at any moment of the call leaves all the entries or none, and other files as they were.
     ensures appends { (ledger : Ledger) (batch : Entries) → PreparedFor E.is_for prepared batch → Settled (E.holds store.old) (S.disk shelf.old) ledger →
-        Appends result (Settled (E.holds store.new)) (E.content store.new) (E.area (E.topic_of store.old)) (E.stands (E.topic_of store.old)) (S.disk shelf.old) (S.disk shelf.new) ledger (lengthened ledger batch) }
+        Appends result (Settled (E.holds store.new)) (E.content store.new) (E.area (E.topic_of store.old)) (E.stands (E.topic_of store.old) (E.start_of store.old)) (S.disk shelf.old) (S.disk shelf.new) ledger (lengthened ledger batch) }
 
     ensures counts { (batch : Entries) → PreparedFor E.is_for prepared batch → OnOk result (total (E.counts store.new) ≡ total (E.counts store.old) + length batch) }
     ensures segments { (batch : Entries) → PreparedFor E.is_for prepared batch → IfSome prepared (λ p. 0 < length batch) → OnOk result (E.counts store.new ≡ counts_with (E.per_ledger store.old) batch (E.counts store.old)) }
     ensures per_ledger { E.per_ledger store.new ≡ E.per_ledger store.old }
     ensures total_stays { IsErr result → total (E.counts store.new) ≡ total (E.counts store.old) }
     ensures topic { E.topic_of store.new ≡ E.topic_of store.old }
+    ensures start { E.start_of store.new ≡ E.start_of store.old }
     ensures works { E.failed store.old ≡ false → OnOk result (E.failed store.new ≡ false) }
     ensures fails { IsErr result → E.failed store.new ≡ true }
     ensures cause { E.failed store.old ≡ false → IsErr result → Failed (S.disk shelf.old) (S.disk shelf.new) }

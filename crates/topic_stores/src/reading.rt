@@ -20,7 +20,7 @@ pub(crate) fn read_entry<E: EntryStore, S: Shelf>(
 ) -> Result<Vec<u8>, ReadError>
     ensures entry { (ledger : Ledger) → (S.disk shelf.old).honest → E.holds store.now (S.disk shelf.old).seen ledger →
         IfOk result (λ entry. entry_at ledger position ≡ Some entry.items) }
-    ensures refused { (ledger : Ledger) → (S.disk shelf.old).honest → E.holds store.now (S.disk shelf.old).seen ledger → position < end_of ledger →
+    ensures refused { (ledger : Ledger) → (S.disk shelf.old).honest → E.holds store.now (S.disk shelf.old).seen ledger → ledger.base ≤ position → position < end_of ledger →
         IfErr result (λ e. (e ≡ NoMemory) ⊎ (e ≡ Device)) }
     ensures short { IfOk result (λ entry. length entry.items ≤ 1048576) }
     ensures stays_failed { E.failed store.now ≡ true → IsErrOf result Device × (shelf.new ≡ shelf.old) }

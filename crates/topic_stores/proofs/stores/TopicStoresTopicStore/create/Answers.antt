@@ -32,9 +32,9 @@ returns-clause-created g c = λ honest.
     let apart : (f : FileId) → ea f → ca f → ⊥ = λ f a b. are_apart T f (g.met.E.EntryStore.area_segments T f a) (g.met.C.SubStore.area_slots T f b) in
     let local : (a b : Image) → Agree ea a b → g.E.EntryStore.holds E a (whole []) → g.E.EntryStore.holds E b (whole []) =
     λ a b ag x. g.met.E.EntryStore.holds_local E a b (whole []) (subst (λ t. Agree (g.E.EntryStore.area t) a b) (sym topic_is) ag) x in
-    settled_both (entry_view g.E.EntryStore.topic_of g.E.EntryStore.counts g.E.EntryStore.per_ledger g.E.EntryStore.failed g.E.EntryStore.holds E)
+    settled_both (entry_view g.E.EntryStore.topic_of g.E.EntryStore.start_of g.E.EntryStore.counts g.E.EntryStore.per_ledger g.E.EntryStore.failed g.E.EntryStore.holds E)
     (sub_view g.C.SubStore.topic_of g.C.SubStore.content g.C.SubStore.failed g.C.SubStore.holds g.C.SubStore.written c.in_ok-subscriptions.subscriptions) d2 (whole []) map.empty
-    (c.in_ok-subscriptions.ensures.topic ∙ sym topic_is)
+    (c.in_ok-subscriptions.ensures.topic ∙ sym topic_is) c.in_ok-entries.ensures.start
     (entries_meanwhile (λ i l. g.E.EntryStore.holds E i l) ea ca (λ i. Unit {0}) d1 d2 (whole []) local apart (c.create-2.ensures.kept.honest later) (c.create-2.ensures.others later) (c.in_ok-entries.ensures.created honest))
     (c.in_ok-subscriptions.ensures.created 0 later)
 
