@@ -44,12 +44,13 @@ account t told u course sound quiet = record {
 }
 
 accounts_to : (old : Broker) (hearers : List (Option ℕ)) (outputs : List Output) (new : Broker) → RunUnfolds old hearers outputs new → IsAtStart old → AccountsTo old hearers outputs new
+unfolding account
 accounts_to old hearers outputs new u start = record {
   said = u.said;
   spells = u.spells;
   heard = λ who. are_of who hearers outputs u.said u.spells u.bounded;
-  at_once = u.at_once;
   each = λ number. account (topic_at old number) (from_topic number u.said) (topic_at new number) (u.each number) (start.sound number) (start.quiet number);
+  at_once = u.at_once;
 }
 
 pub life_accounts : (old : Life) (happenings : List Happening) (outputs : List Output) (new : Life) → AllowedRun old happenings outputs new → IsAtStart old.state.broker

@@ -16,7 +16,7 @@ use Rattle.commands.specs.declared.consuming.Unsubscribe.{Unsubscribe}
 use Rattle.commands.specs.declared.giving_back.CloseConsumer.{CloseConsumer}
 use Rattle.commands.specs.declared.giving_back.Redeliver.{Redeliver}
 use Rattle.topic_core.specs.State.{Topic}
-use Rattle.reply_queues.specs.Replies.{queued}
+use Rattle.reply_queues.specs.Replies.{queued, is_receipt}
 use Rattle.holds.specs.declared.consumer.ConsumerKey.{ConsumerKey}
 use Rattle.subscriptions.specs.State.{Subscriptions}
 use Rattle.subscriptions.specs.Steps as subscriptions
@@ -28,7 +28,7 @@ use Rattle.topic_core.specs.Steps.{Outcome, outcome_of, GrantStep, key_of, Topic
 use Rattle.topic_core.proofs.Sends.{takes_entry}
 use Rattle.topic_core.proofs.Subscribing.{accepts}
 use Rattle.topic_core.proofs.Closings.{close-works, unsubscribe-works}
-use Rattle.node.specs.Telling.{IsAtOnce}
+use Rattle.node.specs.Telling.{is_message}
 use Rattle.node.specs.Finding.{sent_by}
 
 producer_cases : (o : Option ServerError) (t : Topic) (who id request : ℕ) (name : List ℕ) (u : Topic)
@@ -64,6 +64,11 @@ accepted_topic t who send u step =
     let is = ⊎_elim (λ same. absurd (same.1 refl)) (λ is. is) (send_cases (first_standing (send_refusals t who send)) t who send Later u step.0 step.1) in
     ((takes_entry t who send is.1).0, is.2)
 
+-- neither a receipt nor a message
+pub record IsNeither (reply : Reply) : Type 0 where
+  pub no_receipt : is_receipt reply ≡ false
+  pub no_message : is_message reply ≡ false
+
 -- a session's command leaves the entries as they are; a topic that works may then owe the session one more reply
 pub record Awaits (who : ℕ) (t u : Topic) : Type 0 where
   pub per_ledger : u.per_ledger ≡ t.per_ledger
@@ -73,7 +78,7 @@ pub record Awaits (who : ℕ) (t u : Topic) : Type 0 where
   pub doubt : u.doubt ≡ t.doubt
   pub handed : u.handed ≡ t.handed
   pub failed : u.failed ≡ t.failed
-  pub queues : (u.queues ≡ t.queues) ⊎ ((r : Reply) × IsAtOnce r × (t.failed ≡ false) × (u.queues ≡ queued who r t.queues))
+  pub queues : (u.queues ≡ t.queues) ⊎ ((r : Reply) × IsNeither r × (t.failed ≡ false) × (u.queues ≡ queued who r t.queues))
 
 awaits_nothing : (who : ℕ) (t : Topic) → Awaits who t t
 awaits_nothing who t = record { per_ledger = refl; committed = refl; ledger = refl; waiting = refl; doubt = refl; handed = refl; failed = refl; queues = inl refl }
@@ -94,7 +99,7 @@ no_first true e o h = absurd cc
 no_first false e o h = refl
 
 -- a reply that is no receipt and no message awaits a flush
-awaits_one : (who : ℕ) (r : Reply) → IsAtOnce r → (t u : Topic) → u.per_ledger ≡ t.per_ledger → u.committed ≡ t.committed → u.ledger ≡ t.ledger → u.waiting ≡ t.waiting → u.doubt ≡ t.doubt → u.handed ≡ t.handed
+awaits_one : (who : ℕ) (r : Reply) → IsNeither r → (t u : Topic) → u.per_ledger ≡ t.per_ledger → u.committed ≡ t.committed → u.ledger ≡ t.ledger → u.waiting ≡ t.waiting → u.doubt ≡ t.doubt → u.handed ≡ t.handed
     → u.failed ≡ t.failed → t.failed ≡ false → u.queues ≡ queued who r t.queues → Awaits who t u
 awaits_one who r plain t u per_ledger committed ledger waiting doubt handed failed works queues = record {
   per_ledger = per_ledger;

@@ -3,16 +3,17 @@ use Rattle.std.proofs.Common.{◌≡◌, ◌⊎◌, inl, inr, ◌∙◌, ℕ, na
 use Rattle.std.proofs.lemmas.Bool.{eqb-true, eq-eqb}
 use Rattle.std.proofs.lemmas.Grind.{flat_map-append}
 use Rattle.std.specs.List.{AllByRecursion}
-use Rattle.managed_ledger.specs.Entries.{Ledger}
 use Rattle.topic_core.specs.declared.dispatch.Outgoing.{Outgoing}
 use Rattle.topic_core.specs.State.{Topic}
 use Rattle.session.specs.Broker.{Broker, topic_at}
 use Rattle.session.specs.Client.{frame_of, frames_of, IsBounded, AreBounded}
 use Rattle.session.proofs.Reading.{frames_tell}
-use Rattle.node.specs.Moves.{Handed, Move}
+use Rattle.node.specs.Moves.{Handed, Move, Moves}
 use Rattle.node.specs.Telling.{Said, AtOnce, From, outgoing_of, all_outgoing, listener, said_to, from_topic, IsAtOnce, AnswersAreAtOnce, AreFor, AreHeard, Spells, heard_as, bytes_to}
-use Rattle.node.specs.Finding.{Sent, sends_by, Finds, FindsEach}
+use Rattle.node.specs.Finding.{sends_by, Finds, FindsEach}
 use Rattle.node.specs.Delivering.{Delivers, DeliversEach}
+use Rattle.node.specs.Promising.{nothing_yet}
+use Rattle.node.specs.Answering.{Answers, AnswersEach}
 use Rattle.node.specs.Laws.{AccountsTo, AreOf}
 use Rattle.node.specs.Hearing.{handed_to, IsAccountedFor, FramesAreAccountedFor}
 use Rattle.node.specs.declared.event.Output.{Output}
@@ -84,9 +85,9 @@ are_of who hearers outputs said spells bounded =
 
 -- ---- each of what was said answers at once, or a topic accounts for it
 
-module _ (Vouches : ℕ → Handed → Type 0) (who : ℕ) where
+module _ (moves : ℕ → List Move) (Vouches : ℕ → Handed → Type 0) (who : ℕ) where
   abbrev IsVouched : Outgoing → Type 0
-  IsVouched one = IsAtOnce one.reply ⊎ ((number : ℕ) × Vouches number (handed_to who one))
+  IsVouched one = IsAtOnce moves who one.reply ⊎ ((number : ℕ) × Vouches number (handed_to who one))
 
   behind : (b : Bool) (number : ℕ) (h : Handed) (hs : List Handed) → AllByRecursion (Vouches number) (cond b (h ∷ hs) hs) → AllByRecursion (Vouches number) hs
   behind true number h hs all = all.1
@@ -96,41 +97,51 @@ module _ (Vouches : ℕ → Handed → Type 0) (who : ℕ) where
   first true number h hs is all = all.0
   first false number h hs is all = absurd cc
 
-  all_vouched : (said : List Said) → AnswersAreAtOnce said → ((number : ℕ) → AllByRecursion (Vouches number) (from_topic number said)) → AllByRecursion IsVouched (all_outgoing (said_to who said))
+  all_vouched : (said : List Said) → AnswersAreAtOnce moves said → ((number : ℕ) → AllByRecursion (Vouches number) (from_topic number said)) → AllByRecursion IsVouched (all_outgoing (said_to who said))
   all_vouched [] at_once each = tt
   all_vouched (AtOnce other reply ∷ more) at_once each =
-      picked IsVouched (nat_eq other who) (AtOnce other reply) (said_to who more) (λ to. inl at_once.0) (all_vouched more at_once.1 each)
+      picked IsVouched (nat_eq other who) (AtOnce other reply) (said_to who more) (λ to. inl (subst (λ n. IsAtOnce moves n reply) (eqb-true other who to) at_once.0)) (all_vouched more at_once.1 each)
   all_vouched (From number handed ∷ more) at_once each =
       let P : ℕ → Type 0 = λ n. Vouches number (record { session = n; reply = handed.reply; entry = handed.entry }) in
       picked IsVouched (nat_eq handed.session who) (From number handed) (said_to who more)
       (λ to. inr (number, subst P (eqb-true handed.session who to) (first (nat_eq number number) number handed (from_topic number more) (eq-eqb number number refl) (each number))))
       (all_vouched more at_once (λ other. behind (nat_eq number other) other handed (from_topic other more) (each other)))
 
--- what is found and delivered, each by itself
-module _ (sends : List Sent) (ledger : Ledger) (old : Topic) (moves : List Move) where
-  each_vouched : (hs : List Handed) → FindsEach sends ledger hs → DeliversEach old moves ledger hs → AllByRecursion (λ h. Finds sends ledger h × Delivers old moves ledger h) hs
-  each_vouched [] found delivered = tt
-  each_vouched (h ∷ hs) found delivered = ((found.0, delivered.0), each_vouched hs found.1 delivered.1)
+-- what is found, delivered and answered, each by itself
+module _ (t : Topic) (moves : List Move) (u : Topic) (steps : Moves t moves u) where
+  abbrev IsVouchedFor : Handed → Type 0
+  IsVouchedFor h = Finds (sends_by t moves u steps) u.ledger h × Delivers t moves u.ledger h × Answers t moves u steps nothing_yet h
 
--- a frame of any list for which a topic vouches is accounted for
-accounted : {old : Broker} {hearers : List (Option ℕ)} {outputs : List Output} {new : Broker} (account : AccountsTo old hearers outputs new) (who : ℕ) (ones : List Outgoing)
-    → AllByRecursion (IsVouched
-    (λ number handed. Finds (sends_by (topic_at old number) (account.each number).moves (topic_at new number) (account.each number).steps) (topic_at new number).ledger handed
-    × Delivers (topic_at old number) (account.each number).moves (topic_at new number).ledger handed) who) ones
-    → AllByRecursion (λ one. IsAtOnce one.reply ⊎ IsAccountedFor account who one) ones
-accounted account who [] all = tt
-accounted account who (one ∷ ones) (inl plain, all) = (inl plain, accounted account who ones all)
-accounted account who (one ∷ ones) (inr told, all) = (inr (record { topic = told.0; receipt = told.1.0; message = told.1.1 }), accounted account who ones all)
+  each_vouched : (hs : List Handed) → FindsEach (sends_by t moves u steps) u.ledger hs → DeliversEach t moves u.ledger hs → AnswersEach t moves u steps nothing_yet hs → AllByRecursion IsVouchedFor hs
+  each_vouched [] found delivered answered = tt
+  each_vouched (h ∷ hs) found delivered answered = ((found.0, delivered.0, answered.0), each_vouched hs found.1 delivered.1 answered.1)
+
+module _ {old : Broker} {hearers : List (Option ℕ)} {outputs : List Output} {new : Broker} (account : AccountsTo old hearers outputs new) (who : ℕ) where
+  abbrev moves_of : ℕ → List Move
+  moves_of number = (account.each number).moves
+
+  -- a topic of the account vouches for what it told
+  abbrev Vouches : ℕ → Handed → Type 0
+  Vouches number = IsVouchedFor (topic_at old number) (moves_of number) (topic_at new number) (account.each number).steps
+
+  vouched : (number : ℕ) → AllByRecursion (Vouches number) (from_topic number account.said)
+  vouched number =
+      let a = account.each number in
+      let t = topic_at old number in
+      let u = topic_at new number in
+      each_vouched t a.moves u a.steps (from_topic number account.said) a.found a.delivered
+      (subst (λ (hs : List Handed). AnswersEach t a.moves u a.steps nothing_yet hs) (sym a.tells) a.word.answered)
+
+  abbrev AreAccountedFor : List Outgoing → Type 0
+  AreAccountedFor ones = AllByRecursion (λ one. IsAtOnce moves_of who one.reply ⊎ IsAccountedFor account who one) ones
+
+  -- a frame of any list for which a topic vouches is accounted for
+  accounted : (ones : List Outgoing) → AllByRecursion (IsVouched moves_of Vouches who) ones → AreAccountedFor ones
+  accounted [] all = tt
+  accounted (one ∷ ones) (inl plain, all) = (inl plain, accounted ones all)
+  accounted (one ∷ ones) (inr told, all) = (inr (record { topic = told.0; receipt = told.1.0; message = told.1.1; answer = told.1.2 }), accounted ones all)
 
 pub frames_accounted : FramesAreAccountedFor
 frames_accounted old hearers outputs new account who frames bounded same =
-    let P : List Outgoing → Type 0 = λ ones. AllByRecursion (λ one. IsAtOnce one.reply ⊎ IsAccountedFor account who one) ones in
-    subst P (sym ((account.heard who).no_other frames bounded same))
-    (accounted account who (all_outgoing (said_to who account.said))
-    (all_vouched
-    (λ number handed. Finds (sends_by (topic_at old number) (account.each number).moves (topic_at new number) (account.each number).steps) (topic_at new number).ledger handed
-    × Delivers (topic_at old number) (account.each number).moves (topic_at new number).ledger handed)
-    who account.said account.at_once
-    (λ number.
-    each_vouched (sends_by (topic_at old number) (account.each number).moves (topic_at new number) (account.each number).steps) (topic_at new number).ledger (topic_at old number) (account.each number).moves
-    (from_topic number account.said) (account.each number).found (account.each number).delivered)))
+    subst (AreAccountedFor account who) (sym ((account.heard who).no_other frames bounded same))
+    (accounted account who (all_outgoing (said_to who account.said)) (all_vouched (moves_of account who) (Vouches account who) who account.said account.at_once (vouched account who)))

@@ -28,6 +28,7 @@ pub mod Queues
 pub mod Lasting
 pub mod Holding
 pub mod Accepting
+pub mod Answering
 pub mod Promising
 pub mod Hearing
 pub mod Accounts

@@ -40,7 +40,7 @@ use Rattle.topic_core.specs.declared.command.TopicCommand.TheVariants as topic_c
 use Rattle.topic_core.proofs.Steps.{step-fits}
 use Rattle.permits.specs.declared.plain.TooManyPermits.{TooManyPermits}
 use Rattle.session.specs.Broker.{Broker, fresh, topic_at, with_topic, sure, doubting, made, number_of, Settles, FindIn, FindStep, CommandStep, CollectedAt, DispatchAt, left_all}
-use Rattle.session.specs.Client.{Client, Play, plain, Says, SaysAlone, Answered, Ends, frame_of, left_if, left_if_ended}
+use Rattle.session.specs.Client.{Client, Play, plain, Says, SaysAlone, Answered, Ends, IsBounded, frame_of, left_if, left_if_ended}
 use Rattle.session.specs.Producing.{FoundStep, ProducerIn, own_refusals, with_live_producers, sent_entry, send_command, SendIn, producer_command, CloseIn, close_command}
 use Rattle.session.specs.Consuming as consuming
 use Rattle.session.specs.Table.{topic_of}
@@ -57,9 +57,9 @@ use Rattle.session.specs.declared.port.Found.TheVariants as found
 use Rattle.session.specs.declared.pumping.More.{More}
 use Rattle.session.specs.declared.pumping.PumpFault.{PumpFault}
 use Rattle.node.specs.Moves.{Handed, Command as Commands, Tell, Lose, Grant, Deliver, Miss, Leave, Takes}
-use Rattle.node.specs.Telling.{From, IsAtOnce, Talk, Unfolds}
+use Rattle.node.specs.Telling.{From, Talk, Unfolds}
 use Rattle.node.specs.Brokers.{set_at, map_at, one_more_at}
-use Rattle.node.proofs.Saying.{still_talk, one_talk, told_at, silently, silent, becomes, alike, one_frame, at_once, then}
+use Rattle.node.proofs.Saying.{IsPlain, still_talk, one_talk, told_at, silently, silent, becomes, alike, one_frame, at_once, then, closes_consumer}
 
 -- of a session
 pub record Plays (p q : Play) : Type 0 where
@@ -135,61 +135,69 @@ then_play p q r first second = record {
 for_client : (client : Client) (p q : Play) → client.number ≡ p.client.number → Plays (record p { client = client }) q → Plays p q
 for_client client p q same s = record { number = s.number ∙ same; bytes = s.bytes; out = s.out; unfolds = subst (λ (n : ℕ). Unfolds n p.broker s.bytes q.broker) same s.unfolds }
 
-says_alone : (old : Play) (r : Reply) (new : Play) → IsAtOnce r → SaysAlone old r new → Plays old new
+says_alone : (old : Play) (r : Reply) (new : Play) → IsPlain r → SaysAlone old r new → Plays old new
 says_alone old r new may (inl went, same) = record { number = ap (λ (c : Client). c.number) went.0; bytes = frame_of (plain r); out = went.1; unfolds = at_once old.client.number old.broker new.broker r may went.2 same }
 says_alone old r new may (inr lost, same) = stays old new (ap (λ (c : Client). c.number) lost.0) lost.1 (alike old.client.number old.broker new.broker [] refl same)
 
--- what a topic answers at once is neither a receipt nor a message
-now_is : (c : TopicCommand) (r : Reply) → Fits c (Now r) → IsAtOnce r
-now_is (topic_command.Producer id request name) (reply.ProducerSuccess q n) h = record { no_receipt = refl; no_message = refl }
-now_is (topic_command.Producer id request name) (reply.Error q e) h = record { no_receipt = refl; no_message = refl }
+-- it is the SUCCESS of a CLOSE_CONSUMER
+abbrev IsDetaching : TopicCommand → Reply → Type 0
+IsDetaching c r = (close : Detached) × (c ≡ topic_command.CloseConsumer close) × (r ≡ reply.Success close.request_id)
+
+-- what a topic answers at once is no receipt, no message and no acceptance, but the SUCCESS of a CLOSE_CONSUMER
+now_is : (c : TopicCommand) (r : Reply) → Fits c (Now r) → IsPlain r ⊎ IsDetaching c r
+now_is (topic_command.Producer id request name) (reply.ProducerSuccess q n) h = inl (record { no_receipt = refl; no_message = refl; no_acceptance = refl })
+now_is (topic_command.Producer id request name) (reply.Error q e) h = inl (record { no_receipt = refl; no_message = refl; no_acceptance = refl })
 now_is (topic_command.Producer id request name) _ h = absurd h
-now_is (topic_command.Send send) (reply.SendError p s e) h = record { no_receipt = refl; no_message = refl }
+now_is (topic_command.Send send) (reply.SendError p s e) h = inl (record { no_receipt = refl; no_message = refl; no_acceptance = refl })
 now_is (topic_command.Send send) _ h = absurd h
-now_is (topic_command.Subscribe subscribe) (reply.Error q e) h = record { no_receipt = refl; no_message = refl }
+now_is (topic_command.Subscribe subscribe) (reply.Error q e) h = inl (record { no_receipt = refl; no_message = refl; no_acceptance = refl })
 now_is (topic_command.Subscribe subscribe) _ h = absurd h
-now_is (topic_command.Ack ack) (reply.AckResponse i (Some e) q) h = record { no_receipt = refl; no_message = refl }
+now_is (topic_command.Ack ack) (reply.AckResponse i (Some e) q) h = inl (record { no_receipt = refl; no_message = refl; no_acceptance = refl })
 now_is (topic_command.Ack ack) _ h = absurd h
-now_is (topic_command.CloseProducer close) (reply.Error q e) h = record { no_receipt = refl; no_message = refl }
+now_is (topic_command.CloseProducer close) (reply.Error q e) h = inl (record { no_receipt = refl; no_message = refl; no_acceptance = refl })
 now_is (topic_command.CloseProducer close) _ h = absurd h
-now_is (topic_command.Unsubscribe unsubscribe) (reply.Error q e) h = record { no_receipt = refl; no_message = refl }
+now_is (topic_command.Unsubscribe unsubscribe) (reply.Error q e) h = inl (record { no_receipt = refl; no_message = refl; no_acceptance = refl })
 now_is (topic_command.Unsubscribe unsubscribe) _ h = absurd h
-now_is (topic_command.CloseConsumer close) (reply.Success q) h = record { no_receipt = refl; no_message = refl }
-now_is (topic_command.CloseConsumer close) (reply.Error q e) h = record { no_receipt = refl; no_message = refl }
+now_is (topic_command.CloseConsumer close) (reply.Success q) h = inr (close, refl, ap (λ n. reply.Success n) h)
+now_is (topic_command.CloseConsumer close) (reply.Error q e) h = inl (record { no_receipt = refl; no_message = refl; no_acceptance = refl })
 now_is (topic_command.CloseConsumer close) _ h = absurd h
 now_is (topic_command.Redeliver redeliver) _ h = absurd h
 
-answered : (old new : Play) (client : Client) (a : Answer) → client.number ≡ old.client.number → ((r : Reply) → a ≡ Now r → IsAtOnce r) → Unfolds old.client.number old.broker [] new.broker
-    → Answered client old.out a new.client new.out → Plays old new
-answered old new client (Now r) same may b (inl went) = record {
-  number = ap (λ (c : Client). c.number) went.0 ∙ same;
-  bytes = frame_of (plain r);
-  out = went.1;
-  unfolds = then old.client.number old.broker new.broker new.broker [] (frame_of (plain r)) b (at_once old.client.number new.broker new.broker r (may r refl) went.2 refl);
-}
-answered old new client (Now r) same may b (inr lost) = stays old new (ap (λ (c : Client). c.number) lost.0 ∙ same) lost.1 b
-answered old new client Later same may b s = stays old new (ap (λ (c : Client). c.number) s.0 ∙ same) s.1 b
-answered old new client Nothing same may b s = stays old new (ap (λ (c : Client). c.number) s.0 ∙ same) s.1 b
-answered old new client NoMemory same may b s = stays old new (ap (λ (c : Client). c.number) s.0 ∙ same) s.1 b
+-- it goes out
+replies : (who : ℕ) (b c : Broker) (at : ℕ) (asked : TopicCommand) (r : Reply) → CommandStep b at who asked (Now r) c → IsBounded (plain r) → Unfolds who b (frame_of (plain r)) c
+replies who b c at asked r step bounded = ⊎_elim
+    (λ is. then who b c c [] (frame_of (plain r)) (commanded who b c at who asked (Now r) step) (at_once who c c r is bounded refl))
+    (λ d. closes_consumer who b c at d.0 r (subst (λ (x : TopicCommand). CommandStep b at who x (Now r) c) d.1 step) d.2 bounded)
+    (now_is asked r (step-fits (topic_at b at) who asked (Now r) (topic_at c at) step.step))
 
-asked : (old new : Play) (client : Client) (at who : ℕ) (c : TopicCommand) (a : Answer) → client.number ≡ old.client.number → CommandStep old.broker at who c a new.broker
+answered : (old new : Play) (client : Client) (a : Answer) → client.number ≡ old.client.number → ((r : Reply) → a ≡ Now r → IsBounded (plain r) → Unfolds old.client.number old.broker (frame_of (plain r)) new.broker)
+    → Unfolds old.client.number old.broker [] new.broker → Answered client old.out a new.client new.out → Plays old new
+answered old new client (Now r) same tells b (inl went) = record { number = ap (λ (c : Client). c.number) went.0 ∙ same; bytes = frame_of (plain r); out = went.1; unfolds = tells r refl went.2 }
+answered old new client (Now r) same tells b (inr lost) = stays old new (ap (λ (c : Client). c.number) lost.0 ∙ same) lost.1 b
+answered old new client Later same tells b s = stays old new (ap (λ (c : Client). c.number) s.0 ∙ same) s.1 b
+answered old new client Nothing same tells b s = stays old new (ap (λ (c : Client). c.number) s.0 ∙ same) s.1 b
+answered old new client NoMemory same tells b s = stays old new (ap (λ (c : Client). c.number) s.0 ∙ same) s.1 b
+
+asked : (old new : Play) (client : Client) (at : ℕ) (c : TopicCommand) (a : Answer) → client.number ≡ old.client.number → CommandStep old.broker at old.client.number c a new.broker
     → Answered client old.out a new.client new.out → Plays old new
-asked old new client at who c a same step s =
-    answered old new client a same (λ r is. now_is c r (subst (λ (x : Answer). Fits c x) is (step-fits (topic_at old.broker at) who c a (topic_at new.broker at) step.step)))
-    (commanded old.client.number old.broker new.broker at who c a step) s
+asked old new client at c a same step s =
+    let who : ℕ = old.client.number in
+    answered old new client a same
+    (λ r is. replies who old.broker new.broker at c r (subst (λ (x : Answer). CommandStep old.broker at who c x new.broker) is step))
+    (commanded who old.broker new.broker at who c a step) s
 
 ends : (old new : Play) (why : Fault) → Ends old why new → Plays old new
 ends old new why s = stays old new (ap (λ (p : Play). p.client.number) s) (ap (λ (p : Play). p.out) s) (alike old.client.number old.broker new.broker [] refl (ap (λ (p : Play). p.broker) s))
 
 opens : (f : Found) (old : Play) (c : Asked) (new : Play) → FoundStep (Unit {0}) old c f new → Plays old new
-opens (found.Topic number) old c new (inl s) = asked old new _ number old.client.number (producer_command old.client.number c) s.answer refl s.step s.answered
+opens (found.Topic number) old c new (inl s) = asked old new _ number (producer_command old.client.number c) s.answer refl s.step s.answered
 opens (found.Topic number) old c new (inr s) = ends old new _ s
-opens found.TooMany old c new s = says_alone old (reply.Error c.request_id TooManyRequests) new (record { no_receipt = refl; no_message = refl }) s
+opens found.TooMany old c new s = says_alone old (reply.Error c.request_id TooManyRequests) new (record { no_receipt = refl; no_message = refl; no_acceptance = refl }) s
 opens found.NoMemory old c new s = ends old new _ s
-opens found.Failed old c new s = says_alone old (reply.Error c.request_id PersistenceError) new (record { no_receipt = refl; no_message = refl }) s.1
+opens found.Failed old c new s = says_alone old (reply.Error c.request_id PersistenceError) new (record { no_receipt = refl; no_message = refl; no_acceptance = refl }) s.1
 
 produces : (refusal : Option ServerError) (old : Play) (c : Asked) (new : Play) → ProducerIn (Unit {0}) refusal old c new → Plays old new
-produces (Some error) old c new s = says_alone old (reply.Error c.request_id error) new (record { no_receipt = refl; no_message = refl }) s
+produces (Some error) old c new s = says_alone old (reply.Error c.request_id error) new (record { no_receipt = refl; no_message = refl; no_acceptance = refl }) s
 produces None old c new s =
     let between : Play = record old { broker = s.between } in
     then_play old between new (stays old between refl refl (finds_one old.client.number old.broker c.topic s.found s.between s.finds)) (opens s.found between c new s.asks)
@@ -197,18 +205,18 @@ produces None old c new s =
 sends : (topic : Option ℕ) (entry : Option SentEntry) (old : Play) (c : Sent) (new : Play) → SendIn topic entry old c new → Plays old new
 sends None None old c new s = ends old new _ s
 sends (Some topic) None old c new s = ends old new _ s
-sends None (Some entry) old c new s = says_alone old (reply.SendError c.producer_id c.sequence_id NotAllowedError) new (record { no_receipt = refl; no_message = refl }) s
-sends (Some topic) (Some entry) old c new s = asked old new old.client topic old.client.number (send_command c entry) s.answer refl s.step s.answered
+sends None (Some entry) old c new s = says_alone old (reply.SendError c.producer_id c.sequence_id NotAllowedError) new (record { no_receipt = refl; no_message = refl; no_acceptance = refl }) s
+sends (Some topic) (Some entry) old c new s = asked old new old.client topic (send_command c entry) s.answer refl s.step s.answered
 
 wanted : (f : Found) (old : Play) (c : Wanted) (new : Play) → consuming.FoundStep (Unit {0}) old c f new → Plays old new
-wanted (found.Topic number) old c new (inl s) = asked old new _ number old.client.number (consuming.subscribe_command c s.named) s.answer refl s.step s.answered
+wanted (found.Topic number) old c new (inl s) = asked old new _ number (consuming.subscribe_command c s.named) s.answer refl s.step s.answered
 wanted (found.Topic number) old c new (inr s) = ends old new _ s
-wanted found.TooMany old c new s = says_alone old (reply.Error c.request_id TooManyRequests) new (record { no_receipt = refl; no_message = refl }) s
+wanted found.TooMany old c new s = says_alone old (reply.Error c.request_id TooManyRequests) new (record { no_receipt = refl; no_message = refl; no_acceptance = refl }) s
 wanted found.NoMemory old c new s = ends old new _ s
-wanted found.Failed old c new s = says_alone old (reply.Error c.request_id PersistenceError) new (record { no_receipt = refl; no_message = refl }) s.1
+wanted found.Failed old c new s = says_alone old (reply.Error c.request_id PersistenceError) new (record { no_receipt = refl; no_message = refl; no_acceptance = refl }) s.1
 
 subscribes : (refusal : Option ServerError) (old : Play) (c : Wanted) (new : Play) → consuming.SubscribeIn (Unit {0}) refusal old c new → Plays old new
-subscribes (Some error) old c new s = says_alone old (reply.Error c.request_id error) new (record { no_receipt = refl; no_message = refl }) s
+subscribes (Some error) old c new s = says_alone old (reply.Error c.request_id error) new (record { no_receipt = refl; no_message = refl; no_acceptance = refl }) s
 subscribes None old c new s =
     let between : Play = record old { broker = s.between } in
     then_play old between new (stays old between refl refl (finds_one old.client.number old.broker c.topic s.found s.between s.finds)) (wanted s.found between c new s.asks)
@@ -228,35 +236,35 @@ grants (Some topic) old c new s =
 
 refuses_ack : (request : Option ℕ) (old : Play) (id : ℕ) (new : Play) → consuming.RefusesAck request old id new → Plays old new
 refuses_ack None old id new s = still_play old new s
-refuses_ack (Some request) old id new s = says_alone old (reply.AckResponse id (Some ConsumerNotFound) request) new (record { no_receipt = refl; no_message = refl }) s
+refuses_ack (Some request) old id new s = says_alone old (reply.AckResponse id (Some ConsumerNotFound) request) new (record { no_receipt = refl; no_message = refl; no_acceptance = refl }) s
 
 acks : (topic : Option ℕ) (old : Play) (c : Acked) (new : Play) → consuming.AckIn topic old c new → Plays old new
 acks None old c new s = refuses_ack c.request_id old c.consumer_id new s
-acks (Some topic) old c new s = asked old new old.client topic old.client.number (consuming.ack_command c) s.answer refl s.step s.answered
+acks (Some topic) old c new s = asked old new old.client topic (consuming.ack_command c) s.answer refl s.step s.answered
 
 closes : (topic : Option ℕ) (old : Play) (c : Closed) (new : Play) → CloseIn topic old c new → Plays old new
-closes None old c new s = says_alone old (reply.Error c.request_id NotAllowedError) new (record { no_receipt = refl; no_message = refl }) s
-closes (Some topic) old c new s = asked old new old.client topic old.client.number (close_command c) s.answer refl s.step s.answered
+closes None old c new s = says_alone old (reply.Error c.request_id NotAllowedError) new (record { no_receipt = refl; no_message = refl; no_acceptance = refl }) s
+closes (Some topic) old c new s = asked old new old.client topic (close_command c) s.answer refl s.step s.answered
 
 unsubscribes : (topic : Option ℕ) (old : Play) (c : Unwanted) (new : Play) → consuming.UnsubscribeIn topic old c new → Plays old new
-unsubscribes None old c new s = says_alone old (reply.Error c.request_id ConsumerNotFound) new (record { no_receipt = refl; no_message = refl }) s
-unsubscribes (Some topic) old c new s = asked old new old.client topic old.client.number (consuming.unsubscribe_command c) s.answer refl s.step s.answered
+unsubscribes None old c new s = says_alone old (reply.Error c.request_id ConsumerNotFound) new (record { no_receipt = refl; no_message = refl; no_acceptance = refl }) s
+unsubscribes (Some topic) old c new s = asked old new old.client topic (consuming.unsubscribe_command c) s.answer refl s.step s.answered
 
-closes_consumer : (topic : Option ℕ) (old : Play) (c : Detached) (new : Play) → giving_back.CloseConsumerIn topic old c new → Plays old new
-closes_consumer None old c new s = says_alone old (reply.Error c.request_id ConsumerNotFound) new (record { no_receipt = refl; no_message = refl }) s
-closes_consumer (Some topic) old c new s = asked old new old.client topic old.client.number (giving_back.close_consumer_command c) s.answer refl s.step s.answered
+detaches : (topic : Option ℕ) (old : Play) (c : Detached) (new : Play) → giving_back.CloseConsumerIn topic old c new → Plays old new
+detaches None old c new s = says_alone old (reply.Error c.request_id ConsumerNotFound) new (record { no_receipt = refl; no_message = refl; no_acceptance = refl }) s
+detaches (Some topic) old c new s = asked old new old.client topic (giving_back.close_consumer_command c) s.answer refl s.step s.answered
 
 redelivers : (topic : Option ℕ) (old : Play) (c : Redelivered) (new : Play) → giving_back.RedeliverIn topic old c new → Plays old new
 redelivers None old c new s = still_play old new s
-redelivers (Some topic) old c new s = asked old new old.client topic old.client.number (giving_back.redeliver_command c) s.answer refl s.step s.answered
+redelivers (Some topic) old c new s = asked old new old.client topic (giving_back.redeliver_command c) s.answer refl s.step s.answered
 
 looks_up : (named : Bool) (old : Play) (c : LookupTopic) (new : Play) → LookupIn named old c new → Plays old new
-looks_up true old c new s = says_alone old (reply.LookupResponse c.request_id (Ok old.broker.service_url)) new (record { no_receipt = refl; no_message = refl }) s
-looks_up false old c new s = says_alone old (reply.LookupResponse c.request_id (Err InvalidTopicName)) new (record { no_receipt = refl; no_message = refl }) s
+looks_up true old c new s = says_alone old (reply.LookupResponse c.request_id (Ok old.broker.service_url)) new (record { no_receipt = refl; no_message = refl; no_acceptance = refl }) s
+looks_up false old c new s = says_alone old (reply.LookupResponse c.request_id (Err InvalidTopicName)) new (record { no_receipt = refl; no_message = refl; no_acceptance = refl }) s
 
 tells_partitions : (named : Bool) (old : Play) (c : PartitionedTopicMetadata) (new : Play) → PartitionsIn named old c new → Plays old new
-tells_partitions true old c new s = says_alone old (reply.PartitionedMetadataResponse c.request_id None) new (record { no_receipt = refl; no_message = refl }) s
-tells_partitions false old c new s = says_alone old (reply.PartitionedMetadataResponse c.request_id (Some InvalidTopicName)) new (record { no_receipt = refl; no_message = refl }) s
+tells_partitions true old c new s = says_alone old (reply.PartitionedMetadataResponse c.request_id None) new (record { no_receipt = refl; no_message = refl; no_acceptance = refl }) s
+tells_partitions false old c new s = says_alone old (reply.PartitionedMetadataResponse c.request_id (Some InvalidTopicName)) new (record { no_receipt = refl; no_message = refl; no_acceptance = refl }) s
 
 works : (c : Command) (old : Play) (entry : FrameEntry) (new : Play) → WorksCommand (Unit {0}) old c entry new → Plays old new
 works (command.Connect c) old entry new s = ends old new _ s
@@ -270,16 +278,16 @@ works (command.Flow c) old entry new s = grants (topic_of old.client.consumers c
 works (command.Ack c) old entry new s = acks (topic_of old.client.consumers c.consumer_id) old c new s
 works (command.CloseProducer c) old entry new s = closes (topic_of old.client.producers c.producer_id) old c new s
 works (command.Unsubscribe c) old entry new s = unsubscribes (topic_of old.client.consumers c.consumer_id) old c new s
-works (command.CloseConsumer c) old entry new s = closes_consumer (topic_of old.client.consumers c.consumer_id) old c new s
+works (command.CloseConsumer c) old entry new s = detaches (topic_of old.client.consumers c.consumer_id) old c new s
 works (command.RedeliverUnacknowledgedMessages c) old entry new s = redelivers (topic_of old.client.consumers c.consumer_id) old c new s
 works (command.PartitionedMetadata c) old entry new s = tells_partitions (is_topic_name c.topic) old c new s
 works (command.Lookup c) old entry new s = looks_up (is_topic_name c.topic) old c new s
-works command.Ping old entry new s = says_alone old reply.Pong new (record { no_receipt = refl; no_message = refl }) s
+works command.Ping old entry new s = says_alone old reply.Pong new (record { no_receipt = refl; no_message = refl; no_acceptance = refl }) s
 works command.Pong old entry new s = still_play old new s
 works (command.Other k) old entry new s = ends old new _ s
 
 connects : (c : Command) (old new : Play) → Connects old c new → Plays old new
-connects (command.Connect c) old new s = for_client (connected_client old.client) old new refl (says_alone (record old { client = connected_client old.client }) reply.Connected new (record { no_receipt = refl; no_message = refl }) s)
+connects (command.Connect c) old new s = for_client (connected_client old.client) old new refl (says_alone (record old { client = connected_client old.client }) reply.Connected new (record { no_receipt = refl; no_message = refl; no_acceptance = refl }) s)
 connects _ old new s = ends old new _ s
 
 in_frame : (fault : Option Fault) (connected : Bool) (old : Play) (frame : Frame) (new : Play) → FrameIn (Unit {0}) fault connected old frame new → Plays old new
@@ -342,8 +350,8 @@ hands_out at old new message u within tells loses is (inl went) = record {
         written = one_frame message;
         bounded = (went.2, tt);
         heard = (refl, tt);
-        at_once = tt;
         each = λ number. told_at old.broker.topics at number u (fresh old.broker.per_ledger) (handed_to old.client message) within tells;
+        at_once = tt;
       }) refl is;
 }
 hands_out at old new message u within tells loses is (inr lost) = stays old new (ap (λ (c : Client). c.number) lost.0) lost.1 (placed old.client.number old.broker new.broker at u loses is)

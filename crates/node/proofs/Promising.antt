@@ -40,6 +40,7 @@ use Rattle.node.proofs.Endings.{RespectedByFlushes, taking, finishing, flushing,
 use Rattle.node.proofs.Sound.{move_sound}
 use Rattle.node.proofs.Lasting.{Lasts, lasts_first, lasts_more, behind_more, kept_more}
 use Rattle.node.proofs.Turns.{to_each}
+use Rattle.node.proofs.Answering.{told_each}
 use Rattle.node.proofs.Holding.{Lands, Holds, holds_released, holds_queued, in_turn, holds_lost, holds_told, holds_left, holds_handed_on, holds_finished, holds_taken_back, holds_failed, holds_reopened, holds_crashed}
 use Rattle.node.proofs.Accepting.{Adds, adds_nothing, adds_attached, lands_attached, adds_acked, lands_acked, adds_removal, lands_removal}
 
@@ -342,7 +343,6 @@ pub word_kept : (t : Topic) (moves : List Move) (u : Topic) (steps : Moves t mov
 word_kept t moves u steps quiet sound =
     let h = quiet_holds t quiet in
     let end = holds t moves u steps nothing_yet sound h in
-    record {
-      in_turn = turns t moves u steps nothing_yet sound h;
-      kept = to_each (Lasts u.subs.changes u.kept) (IsKept u.kept) (λ p is. lasts_first u.subs.changes u.kept p is) (word_by t moves u steps nothing_yet).given end.given;
-    }
+    let in_turn = turns t moves u steps nothing_yet sound h in
+    let kept = to_each (Lasts u.subs.changes u.kept) (IsKept u.kept) (λ p is. lasts_first u.subs.changes u.kept p is) (word_by t moves u steps nothing_yet).given end.given in
+    record { in_turn = in_turn; kept = kept; answered = told_each t moves u steps nothing_yet in_turn kept }

@@ -1,15 +1,21 @@
 -- What unfolds one after another.
-use Rattle.std.proofs.Common.{◌≡◌, ⊎_elim, ◌∙◌, ℕ, ◌<◌, Bool, true, false, cond, nat_eq, List, [], ◌∷◌, ◌++◌, length, get_or, set, get_or-set_other, get_or-set_same, refl, sym, ap, subst, append_assoc, append-nil}
+use Rattle.std.proofs.Common.{◌≡◌, ◌≢◌, ◌⊎◌, inl, inr, ⊎_elim, ◌∙◌, ℕ, ◌<◌, Bool, true, false, cond, nat_eq, List, [], ◌∷◌, ◌++◌, length, get_or, set, get_or-set_other, get_or-set_same, refl, sym, ap, subst, append_assoc, append-nil}
 use Rattle.std.proofs.lemmas.Bool.Decides.{eqb_tells}
 use Rattle.std.proofs.lemmas.Grind.{flat_map-append}
+use Rattle.commands.specs.declared.giving_back.CloseConsumer.{CloseConsumer}
 use Rattle.commands.specs.declared.reply.Reply.{Reply}
+use Rattle.commands.specs.declared.reply.Reply.TheVariants.{Success}
+use Rattle.reply_queues.specs.Replies.{is_receipt}
+use Rattle.topic_core.specs.declared.command.Answer.TheVariants.{Now}
+use Rattle.topic_core.specs.declared.command.TopicCommand.TheVariants as asked
 use Rattle.topic_core.specs.declared.dispatch.Outgoing.{Outgoing}
 use Rattle.topic_core.specs.State.{Topic}
-use Rattle.session.specs.Broker.{Broker, topic_at}
+use Rattle.session.specs.Broker.{Broker, topic_at, fresh, CommandStep}
 use Rattle.session.specs.Client.{plain, frame_of, frames_of, IsBounded, AreBounded}
 use Rattle.std.specs.List.{AllByRecursion}
-use Rattle.node.specs.Moves.{Handed, Move, MoveStep, Moves, told_on, told_by, is_of_session}
-use Rattle.node.specs.Telling.{Said, AtOnce, From, outgoing_of, all_outgoing, listener, from_topic, IsAtOnce, AnswersAreAtOnce, AreFor, Course, Talk, Unfolds}
+use Rattle.node.specs.Moves.{Handed, Move, Command, MoveStep, Moves, told_on, told_by, is_of_session}
+use Rattle.node.specs.Promising.{is_acceptance}
+use Rattle.node.specs.Telling.{Said, AtOnce, From, outgoing_of, all_outgoing, listener, from_topic, IsDetached, IsAtOnce, AnswersAreAtOnce, is_message, AreFor, Course, Talk, Unfolds}
 
 -- moves, and then others
 pub Moves-append : (t : Topic) (first : List Move) (u : Topic) (then : List Move) (v : Topic) → Moves t first u → Moves u then v → Moves t (first ++ then) v
@@ -26,11 +32,11 @@ still_course t = record { moves = []; steps = refl; tells = refl }
 pub one_move : (t : Topic) (m : Move) (u : Topic) → MoveStep t m u → Course t (told_on m) u
 one_move t m u step = record { moves = m ∷ []; steps = (u, step, refl); tells = sym (append-nil (told_on m)) }
 
-pub then_course : (t u v : Topic) (first then : List Handed) → Course t first u → Course u then v → Course t (first ++ then) v
-then_course t u v first then a b = record {
+unfoldable pub then_course : (t u v : Topic) (first then told : List Handed) → told ≡ first ++ then → Course t first u → Course u then v → Course t told v
+then_course t u v first then told is a b = record {
   moves = a.moves ++ b.moves;
   steps = Moves-append t a.moves u b.moves v a.steps b.steps;
-  tells = ap (λ (l : List Handed). l ++ then) a.tells ∙ ap (λ (l : List Handed). told_by a.moves ++ l) b.tells ∙ sym (told_by-append a.moves b.moves);
+  tells = is ∙ ap (λ (l : List Handed). l ++ then) a.tells ∙ ap (λ (l : List Handed). told_by a.moves ++ l) b.tells ∙ sym (told_by-append a.moves b.moves);
 }
 
 all_both : {A : Type 0} (P : A → Type 0) (xs ys : List A) → AllByRecursion P xs → AllByRecursion P ys → AllByRecursion P (xs ++ ys)
@@ -46,10 +52,10 @@ pub one_talk : (t : Topic) (m : Move) (u : Topic) → MoveStep t m u → is_of_s
 unfolding one_move
 one_talk t m u step own = record { course = one_move t m u step; own = (own, tt) }
 
-pub then_talk : (t u v : Topic) (first then : List Handed) → Talk t first u → Talk u then v → Talk t (first ++ then) v
+then_talk : (t u v : Topic) (first then told : List Handed) → told ≡ first ++ then → Talk t first u → Talk u then v → Talk t told v
 unfolding then_course
-then_talk t u v first then a b = record {
-  course = then_course t u v first then a.course b.course;
+then_talk t u v first then told is a b = record {
+  course = then_course t u v first then told is a.course b.course;
   own = all_both (λ (m : Move). is_of_session m ≡ true) a.course.moves b.course.moves a.own b.own;
 }
 
@@ -72,10 +78,53 @@ pub all_outgoing-append : (xs ys : List Said) → all_outgoing (xs ++ ys) ≡ al
 all_outgoing-append [] ys = refl
 all_outgoing-append (x ∷ xs) ys = ap (λ (l : List Outgoing). outgoing_of x ∷ l) (all_outgoing-append xs ys)
 
-pub at_once-append : (xs ys : List Said) → AnswersAreAtOnce xs → AnswersAreAtOnce ys → AnswersAreAtOnce (xs ++ ys)
-at_once-append [] ys a b = b
-at_once-append (AtOnce who reply ∷ xs) ys a b = (a.0, at_once-append xs ys a.1 b)
-at_once-append (From number handed ∷ xs) ys a b = at_once-append xs ys a b
+-- a CLOSE_CONSUMER that was accepted on moves was so on more of them
+module _ (who : ℕ) (reply : Reply) (first then : List Move) where
+  detached_first : IsDetached first who reply → IsDetached (first ++ then) who reply
+  detached_first d = record {
+    close = d.close;
+    before = d.before;
+    after = d.after ++ then;
+    splits = ap (λ (l : List Move). l ++ then) d.splits ∙ append_assoc d.before (Command who (asked.CloseConsumer d.close) (Now reply) ∷ d.after) then;
+    success = d.success;
+  }
+
+  detached_then : IsDetached then who reply → IsDetached (first ++ then) who reply
+  detached_then d = record {
+    close = d.close;
+    before = first ++ d.before;
+    after = d.after;
+    splits = ap (λ (l : List Move). first ++ l) d.splits ∙ sym (append_assoc first d.before (Command who (asked.CloseConsumer d.close) (Now reply) ∷ d.after));
+    success = d.success;
+  }
+
+module _ (first then : ℕ → List Move) where
+  abbrev both : ℕ → List Move
+  both number = first number ++ then number
+
+  first_more : (who : ℕ) (reply : Reply) → IsAtOnce first who reply → IsAtOnce both who reply
+  first_more who reply is = record {
+    no_receipt = is.no_receipt;
+    no_message = is.no_message;
+    accepts = λ accepts. let d = is.accepts accepts in (d.0, detached_first who reply (first d.0) (then d.0) d.1);
+  }
+
+  then_more : (who : ℕ) (reply : Reply) → IsAtOnce then who reply → IsAtOnce both who reply
+  then_more who reply is = record {
+    no_receipt = is.no_receipt;
+    no_message = is.no_message;
+    accepts = λ accepts. let d = is.accepts accepts in (d.0, detached_then who reply (first d.0) (then d.0) d.1);
+  }
+
+  pub at_once_then : (ys : List Said) → AnswersAreAtOnce then ys → AnswersAreAtOnce both ys
+  at_once_then [] b = tt
+  at_once_then (AtOnce who reply ∷ ys) b = (then_more who reply b.0, at_once_then ys b.1)
+  at_once_then (From number handed ∷ ys) b = at_once_then ys b
+
+  pub at_once-append : (xs ys : List Said) → AnswersAreAtOnce first xs → AnswersAreAtOnce then ys → AnswersAreAtOnce both (xs ++ ys)
+  at_once-append [] ys a b = at_once_then ys b
+  at_once-append (AtOnce who reply ∷ xs) ys a b = (first_more who reply a.0, at_once-append xs ys a.1 b)
+  at_once-append (From number handed ∷ xs) ys a b = at_once-append xs ys a b
 
 cond-append : (b : Bool) (h : Handed) (xs ys : List Handed) → cond b (h ∷ (xs ++ ys)) (xs ++ ys) ≡ cond b (h ∷ xs) xs ++ ys
 cond-append true h xs ys = refl
@@ -97,7 +146,7 @@ bounded-append (x ∷ xs) ys a b = (a.0, bounded-append xs ys a.1 b)
 
 -- nothing goes out
 pub silently : (who : ℕ) (b c : Broker) → ((number : ℕ) → Talk (topic_at b number) [] (topic_at c number)) → Unfolds who b [] c
-silently who b c each = record { said = []; written = refl; bounded = tt; heard = tt; at_once = tt; each = each }
+silently who b c each = record { said = []; written = refl; bounded = tt; heard = tt; each = each; at_once = tt }
 
 pub silent : (who : ℕ) (b : Broker) → Unfolds who b [] b
 silent who b = silently who b b (λ number. still_talk (topic_at b number))
@@ -112,12 +161,24 @@ alike who b c bytes none is = becomes who b b c [] bytes (silent who b) none is
 pub one_frame : (outgoing : Outgoing) → frame_of outgoing ≡ frames_of (outgoing ∷ [])
 one_frame outgoing = sym (append-nil (frame_of outgoing))
 
--- a reply that is neither a receipt nor a message goes out
-pub at_once : (who : ℕ) (b c : Broker) (reply : Reply) → IsAtOnce reply → IsBounded (plain reply) → c ≡ b → Unfolds who b (frame_of (plain reply)) c
+-- a reply that is no receipt, no message and no acceptance goes out
+pub record IsPlain (reply : Reply) : Type 0 where
+  pub no_receipt : is_receipt reply ≡ false
+  pub no_message : is_message reply ≡ false
+  pub no_acceptance : is_acceptance reply ≡ false
+
+not_both : (b : Bool) → b ≡ false → b ≡ true → ⊥
+not_both b isnt is = cc
+
+plainly : (moves : ℕ → List Move) (who : ℕ) (reply : Reply) → IsPlain reply → IsAtOnce moves who reply
+plainly moves who reply is = record { no_receipt = is.no_receipt; no_message = is.no_message; accepts = λ accepts. absurd (not_both (is_acceptance reply) is.no_acceptance accepts) }
+
+pub at_once : (who : ℕ) (b c : Broker) (reply : Reply) → IsPlain reply → IsBounded (plain reply) → c ≡ b → Unfolds who b (frame_of (plain reply)) c
 at_once who b c reply may bounded is = becomes who b b c (frame_of (plain reply)) (frame_of (plain reply))
-    (record { said = AtOnce who reply ∷ []; written = one_frame (plain reply); bounded = (bounded, tt); heard = (refl, tt); at_once = (may, tt); each = λ number. still_talk (topic_at b number) }) refl is
+    (record { said = AtOnce who reply ∷ []; written = one_frame (plain reply); bounded = (bounded, tt); heard = (refl, tt); each = λ number. still_talk (topic_at b number); at_once = (plainly _ who reply may, tt) }) refl is
 
 pub then : (who : ℕ) (a b c : Broker) (x y : List ℕ) → Unfolds who a x b → Unfolds who b y c → Unfolds who a (x ++ y) c
+unfolding then_course then_talk
 then who a b c x y p q = record {
   said = p.said ++ q.said;
   written =
@@ -125,8 +186,44 @@ then who a b c x y p q = record {
       ∙ sym (flat_map-append (λ one. frame_of one) (all_outgoing p.said) (all_outgoing q.said)) ∙ ap (λ (l : List Outgoing). frames_of l) (sym (all_outgoing-append p.said q.said));
   bounded = bounded-append p.said q.said p.bounded q.bounded;
   heard = for-append who p.said q.said p.heard q.heard;
-  at_once = at_once-append p.said q.said p.at_once q.at_once;
   each = λ number.
-      subst (λ (l : List Handed). Talk (topic_at a number) l (topic_at c number)) (sym (from_topic-append number p.said q.said))
-      (then_talk (topic_at a number) (topic_at b number) (topic_at c number) (from_topic number p.said) (from_topic number q.said) (p.each number) (q.each number));
+      then_talk (topic_at a number) (topic_at b number) (topic_at c number) (from_topic number p.said) (from_topic number q.said) (from_topic number (p.said ++ q.said))
+      (from_topic-append number p.said q.said) (p.each number) (q.each number);
+  at_once = at_once-append (λ number. (p.each number).course.moves) (λ number. (q.each number).course.moves) p.said q.said p.at_once q.at_once;
 }
+
+-- one topic accepts a CLOSE_CONSUMER, whose SUCCESS goes out
+module _ (who : ℕ) (b c : Broker) (at : ℕ) (close : CloseConsumer) (reply : Reply) (step : CommandStep b at who (asked.CloseConsumer close) (Now reply) c) where
+  abbrev Place : ℕ → Type 0
+  Place number = ((nat_eq at number ≡ true) × (at ≡ number)) ⊎ ((nat_eq at number ≡ false) × (at ≢ number))
+
+  closes_at : (number : ℕ) → Place number → Talk (topic_at b number) [] (topic_at c number)
+  closes_at number (inl same) =
+      let m = Command who (asked.CloseConsumer close) (Now reply) in
+      record { course = record { moves = m ∷ []; steps = subst (λ n. Moves (topic_at b n) (m ∷ []) (topic_at c n)) same.1 (topic_at c at, step.step, refl); tells = refl }; own = (refl, tt) }
+  closes_at number (inr apart) =
+      let R : Topic → Type 0 = λ u. Talk (topic_at b number) [] u in
+      subst (λ (x : Broker). R (topic_at x number)) (sym step.others)
+      (subst R (sym (get_or-set_other b.topics at number (topic_at c at) (fresh b.per_ledger) (λ is. apart.1 (sym is)))) (still_talk (topic_at b number)))
+
+  detached_at : (d : Place at) → reply ≡ Success close.request_id → IsDetached (closes_at at d).course.moves who reply
+  unfolding closes_at
+  detached_at (inl same) success = record { close = close; before = []; after = []; splits = refl; success = success }
+  detached_at (inr apart) success = absurd (apart.1 refl)
+
+  pub closes_consumer : reply ≡ Success close.request_id → IsBounded (plain reply) → Unfolds who b (frame_of (plain reply)) c
+  closes_consumer success bounded = record {
+    said = AtOnce who reply ∷ [];
+    written = one_frame (plain reply);
+    bounded = (bounded, tt);
+    heard = (refl, tt);
+    each = λ number. closes_at number (eqb_tells at number);
+    at_once = (
+      record {
+        no_receipt = ap (λ (r : Reply). is_receipt r) success;
+        no_message = ap (λ (r : Reply). is_message r) success;
+        accepts = λ accepts. (at, detached_at (eqb_tells at at) success);
+      },
+      tt,
+    );
+  }

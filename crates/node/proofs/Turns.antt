@@ -34,7 +34,7 @@ Matches R (d ∷ ds) [] = ⊥
 Matches R (d ∷ ds) (o ∷ os) = R o d × Matches R ds os
 
 -- what a failure makes of a reply tells of no acceptance
-refused_no_acceptance : (r : Reply) → is_acceptance (refused r) ≡ false
+pub refused_no_acceptance : (r : Reply) → is_acceptance (refused r) ≡ false
 refused_no_acceptance Connected = refl
 refused_no_acceptance _ = refl
 

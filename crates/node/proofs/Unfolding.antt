@@ -11,7 +11,7 @@ use Rattle.node.specs.State.{State, MayRefuse, place_in, place_of, is_full, with
 use Rattle.node.specs.Steps as steps
 use Rattle.node.specs.Steps.{spot_at}
 use Rattle.node.specs.Runs.{Chain, Run, Life, OpeningEnds, EventIn, HappeningStep, AllowedRun}
-use Rattle.node.specs.Moves.{Handed, Flush, Take, Finish, Reopen, Crash, Cut}
+use Rattle.node.specs.Moves.{Flush, Take, Finish, Reopen, Crash, Cut}
 use Rattle.node.specs.Cuts.{Turn, Whole, Within, cut_in, TurnStep, AllowedLife, hearer_in}
 use Rattle.node.specs.Telling.{Said, all_outgoing, from_topic, AnswersAreAtOnce, hearer, hearer_of, AreHeard, Course, Talk, Unfolds, RunUnfolds}
 use Rattle.node.specs.declared.event.Event.{Event}
@@ -23,7 +23,7 @@ use Rattle.node.specs.declared.event.Happening.TheVariants as happening
 use Rattle.node.specs.declared.event.Verdict.{Verdict}
 use Rattle.node.specs.declared.event.Verdict.TheVariants as verdict
 use Rattle.node.specs.declared.event.Output.{Output}
-use Rattle.node.proofs.Saying.{still_course, one_move, then_course, becomes, at_once-append, bounded-append, from_topic-append}
+use Rattle.node.proofs.Saying.{still_course, one_move, then_course, becomes, at_once_then, at_once-append, bounded-append, from_topic-append}
 use Rattle.node.specs.Brokers.{set_at, more_at}
 use Rattle.node.proofs.Playing.{Plays, gone_each, fed, pumped}
 use Rattle.node.proofs.Causing.{Alike, talked, both_ways, Caused, calm_now, Causes, same_state, talks, works_on}
@@ -34,11 +34,11 @@ pub record Utters (who : Option ℕ) (old : Broker) (bytes : List ℕ) (new : Br
   pub written : bytes ≡ frames_of (all_outgoing said)
   pub bounded : AreBounded (all_outgoing said)
   pub heard : AreHeard who said
-  pub at_once : AnswersAreAtOnce said
   pub each : (number : ℕ) → Course (topic_at old number) (from_topic number said) (topic_at new number)
+  pub at_once : AnswersAreAtOnce (λ number. (each number).moves) said
 
 heard_by : (who : ℕ) (b : Broker) (bytes : List ℕ) (c : Broker) → Unfolds who b bytes c → Utters (Some who) b bytes c
-heard_by who b bytes c u = record { said = u.said; written = u.written; bounded = u.bounded; heard = u.heard; at_once = u.at_once; each = λ number. (u.each number).course }
+heard_by who b bytes c u = record { said = u.said; written = u.written; bounded = u.bounded; heard = u.heard; each = λ number. (u.each number).course; at_once = u.at_once }
 
 -- nothing goes out, whoever hears
 hushed : (who : Option ℕ) → AreHeard who []
@@ -46,7 +46,7 @@ hushed None = refl
 hushed (Some who) = tt
 
 quietly : (who : Option ℕ) (b : Broker) (bytes : List ℕ) (c : Broker) → bytes ≡ [] → ((number : ℕ) → Course (topic_at b number) [] (topic_at c number)) → Utters who b bytes c
-quietly who b bytes c none each = record { said = []; written = none; bounded = tt; heard = hushed who; at_once = tt; each = each }
+quietly who b bytes c none each = record { said = []; written = none; bounded = tt; heard = hushed who; each = each; at_once = tt }
 
 same_put : (b c : Broker) (number : ℕ) → c ≡ b → Course (topic_at b number) [] (topic_at c number)
 same_put b c number is = subst (λ (x : Broker). Course (topic_at b number) [] (topic_at x number)) (sym is) (still_course (topic_at b number))
@@ -146,21 +146,22 @@ no_event b c is = record {
   said = [];
   spells = refl;
   bounded = tt;
-  at_once = tt;
   each = λ number. same_put b c number is;
+  at_once = tt;
 }
 
 -- one thing, and then others
 and_then : (who : Option ℕ) (hearers : List (Option ℕ)) (output : Output) (outputs : List Output) (a b c : Broker) → Utters who a output.bytes b → RunUnfolds b hearers outputs c
     → RunUnfolds a (who ∷ hearers) (output ∷ outputs) c
+unfolding then_course
 and_then who hearers output outputs a b c p q = record {
   said = p.said ++ q.said;
   spells = (p.said, q.said, refl, p.written, p.heard, q.spells);
   bounded = bounded-append p.said q.said p.bounded q.bounded;
-  at_once = at_once-append p.said q.said p.at_once q.at_once;
   each = λ number.
-      subst (λ (l : List Handed). Course (topic_at a number) l (topic_at c number)) (sym (from_topic-append number p.said q.said))
-      (then_course (topic_at a number) (topic_at b number) (topic_at c number) (from_topic number p.said) (from_topic number q.said) (p.each number) (q.each number));
+      then_course (topic_at a number) (topic_at b number) (topic_at c number) (from_topic number p.said) (from_topic number q.said) (from_topic number (p.said ++ q.said))
+      (from_topic-append number p.said q.said) (p.each number) (q.each number);
+  at_once = at_once-append (λ number. (p.each number).moves) (λ number. (q.each number).moves) p.said q.said p.at_once q.at_once;
 }
 
 -- so are they all
@@ -227,13 +228,14 @@ life_unfolds old happenings outputs new run = chain_unfolds HappeningStep (λ (l
 
 -- a cut within an event is a move of its topic where that was flushed, and the opening after it another
 utters_both : (a b c : Broker) (bytes : List ℕ) → ((number : ℕ) → Course (topic_at a number) [] (topic_at b number)) → Utters None b bytes c → Utters None a bytes c
+unfolding then_course
 utters_both a b c bytes first u = record {
   said = u.said;
   written = u.written;
   bounded = u.bounded;
   heard = u.heard;
-  at_once = u.at_once;
-  each = λ number. then_course (topic_at a number) (topic_at b number) (topic_at c number) [] (from_topic number u.said) (first number) (u.each number);
+  each = λ number. then_course (topic_at a number) (topic_at b number) (topic_at c number) [] (from_topic number u.said) (from_topic number u.said) refl (first number) (u.each number);
+  at_once = at_once_then (λ number. (first number).moves) (λ number. (u.each number).moves) u.said u.at_once;
 }
 
 amid_course : (e : TopicEvent) (t : Topic) → Course t [] (steps.amid_work e t)

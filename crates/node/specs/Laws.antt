@@ -14,6 +14,7 @@ use Rattle.node.specs.Moves.{Handed, Move, Moves, told_by, is_crash}
 use Rattle.node.specs.Telling.{Said, all_outgoing, said_to, hearer, hearer_of, Spells, bytes_to, from_topic, AnswersAreAtOnce, receipts_told, RunUnfolds}
 use Rattle.node.specs.Finding.{sends_by, FindsEach, IsPublished, IsQuiet}
 use Rattle.node.specs.Promising.{IsKept, nothing_yet, word_by, AreInTurn}
+use Rattle.node.specs.Answering.{AnswersEach}
 use Rattle.node.specs.Delivering.{DeliversEach}
 use Rattle.node.specs.declared.event.Event.{Event}
 use Rattle.node.specs.declared.event.Happening.{Happening}
@@ -60,10 +61,12 @@ ReceiptsAreFound = (old : Topic) (moves : List Move) (new : Topic) (steps : Move
 -- What sessions take from a topic that was quiet and sound are the answers to their accepted commands, in turn, or refusals
 -- after a failure; and what was told of subscriptions stands in the durable ones: each one that was subscribed to is there, with
 -- the positions that were acknowledged, while no UNSUBSCRIBE of its name was accepted since that command; and each one that was
--- unsubscribed is gone, while no SUBSCRIBE of its name was accepted since that command.
+-- unsubscribed is gone, while no SUBSCRIBE of its name was accepted since that command. So each reply that tells of an acceptance is
+-- the answer that its session was owed first, to a command of it that was accepted, and what is left of its promise stands.
 pub record WordIsKept (old : Topic) (moves : List Move) (new : Topic) (steps : Moves old moves new) : Type 0 where
   pub in_turn : AreInTurn old moves new steps nothing_yet
   pub kept : AllByRecursion (IsKept new.kept) (word_by old moves new steps nothing_yet).given
+  pub answered : AnswersEach old moves new steps nothing_yet (told_by moves)
 
 abbrev pub WordsAreKept : Type 0
 WordsAreKept = (old : Topic) (moves : List Move) (new : Topic) (steps : Moves old moves new) → IsQuiet old → IsSoundTopic old → WordIsKept old moves new steps
@@ -92,13 +95,14 @@ pub record AreOf (bytes : List ℕ) (said : List Said) : Type 0 where
   pub bounded : AreBounded (all_outgoing said)
   pub no_other : (frames : List Outgoing) → AreBounded frames → frames_of frames ≡ bytes → frames ≡ all_outgoing said
 
--- what goes out to each session are frames, each whole, and tells what was said to it; receipts and messages come from topics alone, and each topic can account for them
+-- what goes out to each session are frames, each whole, and tells what was said to it; receipts, messages and acceptances come from
+-- topics alone, and each topic can account for them
 pub record AccountsTo (old : Broker) (hearers : List (Option ℕ)) (outputs : List Output) (new : Broker) : Type 0 where
   pub said : List Said
   pub spells : Spells hearers outputs said
   pub heard : (who : ℕ) → AreOf (bytes_to who hearers outputs) (said_to who said)
-  pub at_once : AnswersAreAtOnce said
   pub each : (number : ℕ) → Account (topic_at old number) (from_topic number said) (topic_at new number)
+  pub at_once : AnswersAreAtOnce (λ number. (each number).moves) said
 
 abbrev pub Accounts : Broker → List Happening → List Output → Broker → Type 0
 Accounts old happenings outputs new = AccountsTo old (map (λ happening. hearer_of happening) happenings) outputs new

@@ -18,6 +18,7 @@ pub mod Telling
 pub mod Cuts
 pub mod Finding
 pub mod Promising
+pub mod Answering
 pub mod Delivering
 pub mod Laws
 pub mod Hearing

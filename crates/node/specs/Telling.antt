@@ -3,13 +3,17 @@ use Rattle.std.specs.Prelude.{◌≡◌, ℕ, ◌+◌, cond, nat_eq, Bool, true,
 use Rattle.std.specs.List.{AllByRecursion}
 use Rattle.commands.specs.declared.reply.Reply.{Reply}
 use Rattle.commands.specs.declared.reply.Reply.TheVariants.{Connected, ProducerSuccess, SendReceipt, SendError, Message, Success, Error, PartitionedMetadataResponse, LookupResponse, AckResponse, Pong}
+use Rattle.commands.specs.declared.giving_back.CloseConsumer.{CloseConsumer}
+use Rattle.topic_core.specs.declared.command.Answer.TheVariants.{Now}
+use Rattle.topic_core.specs.declared.command.TopicCommand.TheVariants as asked
 use Rattle.topic_core.specs.declared.dispatch.Outgoing.{Outgoing}
 use Rattle.topic_core.specs.State.{Topic}
 use Rattle.reply_queues.specs.Replies.{is_receipt}
 use Rattle.topic_core.specs.Steps.{receipts_of}
 use Rattle.session.specs.Broker.{Broker, topic_at}
 use Rattle.session.specs.Client.{plain, frames_of, AreBounded}
-use Rattle.node.specs.Moves.{Handed, outgoing, Move, Moves, told_by, is_of_session}
+use Rattle.node.specs.Moves.{Handed, outgoing, Move, Command, Moves, told_by, is_of_session}
+use Rattle.node.specs.Promising.{is_acceptance}
 use Rattle.node.specs.declared.event.Event.{Event}
 use Rattle.node.specs.declared.event.Event.TheVariants.{Open, Bytes, Pump, Close, OnTopic}
 use Rattle.node.specs.declared.event.Happening.{Happening}
@@ -58,15 +62,25 @@ is_message (LookupResponse request_id service_url) = false
 is_message (AckResponse consumer_id error request_id) = false
 is_message Pong = false
 
--- neither a receipt nor a message answers a command at once
-pub record IsAtOnce (reply : Reply) : Type 0 where
+-- it is the SUCCESS of a session's CLOSE_CONSUMER, which a topic accepted on these moves
+pub record IsDetached (moves : List Move) (who : ℕ) (reply : Reply) : Type 0 where
+  pub close : CloseConsumer
+  pub before : List Move
+  pub after : List Move
+  pub splits : moves ≡ before ++ Command who (asked.CloseConsumer close) (Now reply) ∷ after
+  pub success : reply ≡ Success close.request_id
+
+-- What answers a session's command at once is no receipt, no message and no acceptance, but the SUCCESS of a CLOSE_CONSUMER that a
+-- topic accepted on its moves: so no ACK_RESPONSE without an error does, and no SUCCESS of any other command.
+pub record IsAtOnce (moves : ℕ → List Move) (who : ℕ) (reply : Reply) : Type 0 where
   pub no_receipt : is_receipt reply ≡ false
   pub no_message : is_message reply ≡ false
+  pub accepts : is_acceptance reply ≡ true → (number : ℕ) × IsDetached (moves number) who reply
 
-abbrev pub AnswersAreAtOnce : List Said → Type 0
-AnswersAreAtOnce [] = Unit {0}
-AnswersAreAtOnce (AtOnce who reply ∷ more) = IsAtOnce reply × AnswersAreAtOnce more
-AnswersAreAtOnce (From number handed ∷ more) = AnswersAreAtOnce more
+abbrev pub AnswersAreAtOnce : (ℕ → List Move) → List Said → Type 0
+AnswersAreAtOnce moves [] = Unit {0}
+AnswersAreAtOnce moves (AtOnce who reply ∷ more) = IsAtOnce moves who reply × AnswersAreAtOnce moves more
+AnswersAreAtOnce moves (From number handed ∷ more) = AnswersAreAtOnce moves more
 
 -- how many receipts are among them
 abbrev pub receipts_told : List Handed → ℕ
@@ -130,13 +144,13 @@ pub record Unfolds (who : ℕ) (old : Broker) (bytes : List ℕ) (new : Broker) 
   pub written : bytes ≡ frames_of (all_outgoing said)
   pub bounded : AreBounded (all_outgoing said)
   pub heard : AreFor who said
-  pub at_once : AnswersAreAtOnce said
   pub each : (number : ℕ) → Talk (topic_at old number) (from_topic number said) (topic_at new number)
+  pub at_once : AnswersAreAtOnce (λ number. (each number).course.moves) said
 
 -- outputs go out to those who hear them, and each topic makes moves, on which it tells just its own ones
 pub record RunUnfolds (old : Broker) (hearers : List (Option ℕ)) (outputs : List Output) (new : Broker) : Type 0 where
   pub said : List Said
   pub spells : Spells hearers outputs said
   pub bounded : AreBounded (all_outgoing said)
-  pub at_once : AnswersAreAtOnce said
   pub each : (number : ℕ) → Course (topic_at old number) (from_topic number said) (topic_at new number)
+  pub at_once : AnswersAreAtOnce (λ number. (each number).moves) said

@@ -48,7 +48,8 @@ pub fn receipts_are_found()
 /// What sessions take from a topic are the answers to their accepted commands, in turn, or refusals after a failure. What was told
 /// of subscriptions stands ever after, through failures, openings and crashes: an answered SUBSCRIBE's is there, and the positions
 /// of an answered ACK are acknowledged on it, while no UNSUBSCRIBE of its name was accepted since that command; an answered
-/// UNSUBSCRIBE's isn't there, while no SUBSCRIBE of its name was accepted since that command.
+/// UNSUBSCRIBE's isn't there, while no SUBSCRIBE of its name was accepted since that command. So each reply that tells of an
+/// acceptance is the answer to a command of its session that the topic accepted, with that command's request id.
 pub fn words_are_kept()
     ensures { WordsAreKept }
 {}
@@ -71,7 +72,8 @@ pub fn lives_account()
     ensures { LivesAccount }
 {}
 
-/// So each receipt that can be read in the bytes that went out to a session is found, and each message was admitted.
+/// So each receipt that can be read in the bytes that went out to a session is found, each message was admitted, and each
+/// ACK_RESPONSE without error and each SUCCESS answers a command of that session that a topic accepted, whose promise stands.
 pub fn frames_are_accounted_for()
     ensures { FramesAreAccountedFor }
 {}
