@@ -9,6 +9,7 @@ use Rattle.records.specs.Maps.{Kept}
 use Rattle.topic_stores.specs.declared.store.TopicStore.{Ghosts as StoreMembers}
 use Rattle.topic_core.specs.Slots.{slots_of}
 use Rattle.topic_core.specs.State.{Topic, opened}
+use Rattle.topic_core.specs.Soundness.{IsSoundTopic}
 use Rattle.catalog.specs.Names.{Names}
 use Rattle.catalog.specs.Catalogs.{StandsFor as NamesStand, Holds as NamesHeld, remembered, per_ledger}
 use Rattle.catalog.specs.Laws.{holds_stands}
@@ -26,6 +27,10 @@ use Rattle.node.specs.Standing.{HeldStands, NamesLeft, TopicsStand, broker_of, v
 use Rattle.node.specs.Opening.{IsOpened, AllStand, AreJustOpened, IsJustOpened, IsTopicFault, IsFirstFault}
 use Rattle.node.specs.Passing.{standing_read}
 use Rattle.node.specs.Lists.{get_push, get_map, get_at, at_each}
+use Rattle.node.specs.Finding.{IsQuiet}
+use Rattle.node.specs.Laws.{IsAtStart}
+use Rattle.node.proofs.Sound.{fresh_sound}
+use Rattle.node.proofs.Starting.{starts_sound, starts_quiet}
 
 -- Those that were opened so far, as many as this number, stand on the device as it is now, which only read.
 pub record Going {T : Type 0} {store : StoreMembers T} (per_ledger : ℕ) (first now : Disk) (held : List (Held T store)) (number : ℕ) : Type 0 where
@@ -106,6 +111,15 @@ module _ {T : Type 0} {store : StoreMembers T} (n : ℕ) (url : List ℕ) (names
   abbrev cores : List Topic
   cores = map (λ (h : Held T store). h.core) held
 
+  -- each is sound, and owes nothing
+  at_start : IsAtStart (parts n url names None cores)
+  at_start = record {
+    sound = λ number. at_each (λ (u : Topic). IsSoundTopic u) (λ (h : Held T store). h.core) held number (fresh n) (fresh_sound n (omega (arith, is.ledgers.0)))
+        (λ j h at. let o = opens j h at in starts_sound n h.core o.opened (omega (arith, is.ledgers.0)) o.few h.matched.kept.durable);
+    quiet = λ number. at_each (λ (u : Topic). IsQuiet u) (λ (h : Held T store). h.core) held number (fresh n) (record { queues = refl; waiting = refl; sure = refl; counted = refl })
+        (λ j h at. starts_quiet n h.core (opens j h at).opened);
+  }
+
   pub just_opened : (sessions : List Client) (faults : ℕ) → sessions ≡ []
       → IsJustOpened store.stands files (record { broker = parts n url names None cores; stages = map (λ (h : Held T store). stage_of h.flight) held; sessions = sessions; used = 0; faults = faults })
   just_opened sessions faults none = record {
@@ -119,6 +133,7 @@ module _ {T : Type 0} {store : StoreMembers T} (n : ℕ) (url : List ℕ) (names
         let x = get_map (λ (h : Held T store). h.core) held number topic at in
         let o = opens number x.0 x.1 in
         subst (λ (u : Topic). store.stands number files u.ledger u.kept × (u ≡ opened n u.ledger (slots_of u.ledger) u.kept)) (sym x.2) (o.stands, o.opened);
+    start = at_start;
     stages = λ number. at_each (λ (s : Stage). s ≡ Resting) (λ (h : Held T store). stage_of h.flight) held number Resting refl (λ j h at. ap (λ f. stage_of f) (opens j h at).rests);
     sessions = none;
     used = refl;

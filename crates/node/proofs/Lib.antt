@@ -35,3 +35,9 @@ pub mod Accounts
 pub mod Cutting
 pub mod Segments
 pub mod Failing
+pub mod KeptNames
+pub mod Outages
+pub mod Starting
+pub mod Since
+pub mod Counting
+pub mod AfterCuts

@@ -15,7 +15,8 @@ use Rattle.managed_ledger.specs.Entries.{Ledger, end_of}
 use Rattle.records.specs.Maps.{Kept}
 use Rattle.node.specs.Runs.{Life, AllowedRun}
 use Rattle.node.specs.Cuts.{Amidst}
-use Rattle.node.specs.Laws.{IsAtStart, Accounts}
+use Rattle.node.specs.Laws.{IsSoundBroker, IsAtStart, Accounts}
+use Rattle.node.specs.Starting.{AccountsBehind}
 use Rattle.node.specs.declared.held.Held.{Held}
 use Rattle.node.specs.declared.event.Happening.{Happening}
 use Rattle.node.specs.declared.event.Happening.TheVariants as happening
@@ -87,7 +88,8 @@ module _ {T S : Type 0} {store : StoreMembers T} (disk : S → Disk) where
   disk_in m = disk (shelf_in m)
 
   -- The node was opened, and then a front of the happenings was worked, as long as the outputs that were added; all of them
-  -- where no memory was refused for an output. From a start where nothing is owed, what the sessions were told is accounted for.
+  -- where no memory was refused for an output. From a start where nothing is owed, what the sessions were told is accounted for;
+  -- from any sound one, what they were told since the first opening, where that was good.
   pub record Drove (first : State) (happenings : List Happening) (before : List Output) (result : Result (Machine T S store) AllocError) (after : List Output) : Type 0 where
     pub answers : List Output
     pub last : Life
@@ -95,3 +97,4 @@ module _ {T S : Type 0} {store : StoreMembers T} (disk : S → Disk) where
     pub run : AllowedRun (record { up = false; state = first }) (take (length answers) (happening.Crash ∷ happenings)) answers last
     pub whole : IfOk result (λ machine. (length answers ≡ suc (length happenings)) × Holds machine last)
     pub accounts : IsAtStart first.broker → Accounts first.broker (take (length answers) (happening.Crash ∷ happenings)) answers last.state.broker
+    pub since : IsSoundBroker first.broker → AccountsBehind first happenings answers last.state.broker

@@ -23,3 +23,6 @@ pub mod Delivering
 pub mod Laws
 pub mod Hearing
 pub mod Failing
+pub mod Keeping
+pub mod Starting
+pub mod Resuming

@@ -15,6 +15,7 @@ use Rattle.catalog.specs.Catalogs.{StandsFor as NamesStand}
 use Rattle.catalog.specs.Folded.{IsFault as CatalogFault}
 use Rattle.node.specs.State.{State, Resting, stage_at}
 use Rattle.node.specs.Naming.{IsFormed}
+use Rattle.node.specs.Laws.{IsAtStart}
 use Rattle.node.specs.Standing.{disk_of, HeldStands}
 use Rattle.node.specs.declared.held.Held.{Held}
 use Rattle.node.specs.declared.site.Site.{Site}
@@ -27,13 +28,14 @@ use Rattle.node.specs.declared.event.Verdict.TheVariants as verdict
 use Rattle.node.specs.declared.node.Node.{Node}
 
 -- The files stand for these names, and for the entries and subscriptions of each topic; the node has them, and nothing happened to
--- it since.
+-- it since: each topic is sound, owes nothing and has nothing waiting.
 pub record IsJustOpened (files_stand : ℕ → Image → Ledger → Kept → Type 0) (files : Image) (state : State) : Type 0 where
   pub names : NamesStand state.broker.per_ledger files state.broker.names
   pub formed : IsFormed state.broker
   pub sure : state.broker.doubtful ≡ None
   pub topics : (number : ℕ) (t : Topic) → slice_get state.broker.topics number ≡ Some t
       → files_stand number files t.ledger t.kept × (t ≡ opened state.broker.per_ledger t.ledger (slots_of t.ledger) t.kept)
+  pub start : IsAtStart state.broker
   pub stages : (number : ℕ) → stage_at state number ≡ Resting
   pub sessions : state.sessions ≡ []
   pub used : state.used ≡ 0

@@ -7,6 +7,7 @@ mod beginning;
 mod event;
 mod flight;
 mod held;
+mod keeping;
 mod laws;
 mod node;
 mod octets;
@@ -14,6 +15,7 @@ mod open;
 mod parts;
 mod port;
 mod power;
+mod resuming;
 mod searching;
 mod serving;
 mod site;
@@ -24,6 +26,7 @@ pub use catalog::EntriesPerLedger;
 pub use commands::ReplyText;
 pub use event::{Event, Happening, Output, TopicEvent, Verdict};
 pub use gated_log::Refusal;
+pub use keeping::{names_are_kept, outputs_tell_no_fault};
 pub use laws::{
     cuts_are_turns, frames_are_accounted_for, lives_account, lives_unfold, messages_are_admitted,
     moves_publish, openings_have_one_fault, receipts_are_covered, receipts_are_found, runs_unfold,
@@ -32,6 +35,7 @@ pub use laws::{
 pub use node::Node;
 pub use octets::Octets;
 pub use power::{Machine, drive};
+pub use resuming::{cuts_are_opened, lives_go_on, openings_are_starts};
 pub use session::Fault;
 pub use site::Site;
 pub use status::TopicStatus;

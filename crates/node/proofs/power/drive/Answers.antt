@@ -8,6 +8,7 @@ use Rattle.node.proofs.Accounts.{life_accounts}
 use Rattle.node.proofs.Carrying.{chain-push}
 use Rattle.node.proofs.Lives.{front_run, none_added, one_added, none_more, all_worked, worked_length}
 use Rattle.node.proofs.Reaching.{one_more}
+use Rattle.node.proofs.Since.{drove_since}
 use Rattle.node.proofs.power.drive.Goals as goal
 
 length_nil : (xs : List Happening) {n : ℕ} → n ≡ length xs → n ≡ 0 → xs ≡ []
@@ -57,6 +58,7 @@ returns-in-Err-clause-drove g c = λ first rest url.
       run = refl;
       whole = search rules;
       accounts = λ at_start. life_accounts start [] [] start refl at_start;
+      since = λ sound. tt;
     }
 
 pub returns-in-Err-reserve-clause-drove : goal.returns-in-Err-reserve-clause-drove
@@ -73,6 +75,7 @@ returns-in-Err-reserve-clause-drove g c = λ first rest url.
       run = run;
       whole = search rules;
       accounts = λ at_start. life_accounts start _ r.0 r.1 run at_start;
+      since = λ sound. drove_since first c.args.happenings.items r.0 r.1 run sound;
     }
 
 pub returns-clause-drove : goal.returns-clause-drove
@@ -92,6 +95,7 @@ returns-clause-drove g c = λ first rest url.
       run = run;
       whole = (worked_length start c.loop-happening.yielded c.args.happenings.items r.0 r.1 happening.Crash e r.3, r.4);
       accounts = λ at_start. life_accounts start _ r.0 r.1 run at_start;
+      since = λ sound. drove_since first c.args.happenings.items r.0 r.1 run sound;
     }
 
 pub returns-clause-any_moment : goal.returns-clause-any_moment
