@@ -1,3 +1,4 @@
+pub mod Counted
 pub mod Written
 pub mod Worked
 pub mod Told

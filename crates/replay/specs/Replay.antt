@@ -2,15 +2,20 @@
 use Rattle.std.specs.Prelude.{◌≡◌, ℕ, ◌+◌, Bool, true, false, List, [], ◌∷◌, ◌++◌, length, take, slice_get, codes, ◌⊎◌, Option, Some, None, Result, Ok, Err, IfOk}
 use Rattle.std.specs.List.{flat_map}
 use Rattle.std.specs.Io.KnownBytes.{Appends, Keeps}
+use Rattle.disk.specs.Disk.{Image}
 use Rattle.disk.specs.declared.crash_shelf.CrashForm.{CrashForm}
 use Rattle.disk.specs.declared.crash_shelf.Fuse.{Fuse}
 use Rattle.disk.specs.declared.crash_shelf.Fuse.TheVariants as fuse
 use Rattle.disk.specs.Laid.{Laid, after_arm}
 use Rattle.disk_mem.specs.declared.shelf.MemShelf.{MemShelf}
 use Rattle.disk_mem.specs.Device.{disk_of, laid, LeftAs}
-use Rattle.node.specs.State.{State, fresh_broker}
+use Rattle.managed_ledger.specs.Laid.{IsLaidOut}
+use Rattle.topic_core.specs.Standing.{Phase}
+use Rattle.session.specs.Broker.{topic_at}
+use Rattle.node.specs.State.{State, fresh_broker, stage_at}
+use Rattle.node.specs.Flights.{phase_at}
 use Rattle.node.specs.Runs.{Life, OpeningStep, HappeningStep}
-use Rattle.node.specs.Driving.{Cut, StatusIn}
+use Rattle.node.specs.Driving.{Cut, StatusIn, TellsSegments}
 use Rattle.node.specs.declared.status.TopicStatus.{TopicStatus}
 use Rattle.node.specs.declared.event.Output.{Output}
 use Rattle.node.specs.declared.event.Event.{Event}
@@ -68,19 +73,28 @@ Cuts number old form text new =
     ((ordered : Moment) × Armed (after_arm (fuse.CrashAs form) (laid old.device)) old ordered × Restarts number ordered text new)
     ⊎ (Armed (laid old.device) old new × (text ≡ output_line number [] (Refused refusal.NoMemory)))
 
+-- how far the store of a topic is, beside the topic
+abbrev pub phase_of : State → ℕ → Phase
+phase_of state number = phase_at (topic_at state.broker number).failed (stage_at state number)
+
+-- a topic is told with as many segment files as it has, by the files alone, but where its store met a failure of the device
+abbrev pub IsCounted : State → Image → ℕ → TopicStatus → Type 0
+IsCounted state files number status = TellsSegments (λ topic. IsLaidOut topic 0) number (phase_of state number) files status.segments
+
 -- what is told of the topics: one status for each, in the order of their numbers
-pub record AreTold (state : State) (told : List TopicStatus) : Type 0 where
+pub record AreTold (state : State) (files : Image) (told : List TopicStatus) : Type 0 where
   pub all : length told ≡ length state.broker.topics
   pub each : (number : ℕ) (status : TopicStatus) → slice_get told number ≡ Some status → StatusIn (Some number) state (Some status)
+  pub segments : (number : ℕ) (status : TopicStatus) → slice_get told number ≡ Some status → IsCounted state files number status
 
 -- the status lines of each topic, one after another; a node that is down has none
-abbrev pub StatusOf : Bool → State → List ℕ → Type 0
-StatusOf true state text = (told : List TopicStatus) × AreTold state told × (text ≡ flat_map lines_of told)
-StatusOf false state text = text ≡ []
+abbrev pub StatusOf : Bool → State → Image → List ℕ → Type 0
+StatusOf true state files text = (told : List TopicStatus) × AreTold state files told × (text ≡ flat_map lines_of told)
+StatusOf false state files text = text ≡ []
 
 pub record Tells (old : Moment) (text : List ℕ) (new : Moment) : Type 0 where
   pub same : new ≡ old
-  pub printed : StatusOf old.life.up old.life.state text
+  pub printed : StatusOf old.life.up old.life.state (disk_of old.device).seen text
 
 abbrev pub TaskStep : ℕ → Moment → Task → List ℕ → Moment → Type 0
 TaskStep number old (task.Event event) text new = Happens number old event text new

@@ -148,7 +148,7 @@ impl Replay {
 
     // The lines of all topics, in the order of their numbers; none where the node is down. An error is want of memory.
     fn topics_text(&self) -> Result<Vec<u8>, AllocError>
-        ensures { (life : Life) → Holds (⟦<MemShelf as Shelf>⟧.disk) self.now.machine life → IfOk result (λ text. StatusOf life.up life.state text.items) }
+        ensures { (life : Life) → Holds (⟦<MemShelf as Shelf>⟧.disk) self.now.machine life → IfOk result (λ text. StatusOf life.up life.state (⟦<MemShelf as Shelf>⟧.disk (shelf_in self.now.machine)).seen text.items) }
     {
         let mut text = Vec::new(self.alloc);
         let mut topic = 0;
