@@ -283,7 +283,7 @@ class Consumer:
 
     def acknowledge(self, rng):
         """Of what came: one in ten is left out, so that there are holes; of eight acknowledgements one has no answer."""
-        chosen = [it for it in self.batch if rng.random() < 0.9]
+        chosen = self.chosen(rng)
         self.batch.clear()
         if not chosen:
             return
@@ -295,6 +295,9 @@ class Consumer:
         else:
             answer = self.answer_to(positions, through)
             self.connection.ask(lambda request: ack(self.id, places, request, self.is_cumulative), answer)
+
+    def chosen(self, rng):
+        return [it for it in self.batch if rng.random() < 0.9]
 
     def answer_to(self, positions, through):
         """What is done with the answer; it may come when the consumer has gone and come again, under another id."""
@@ -311,6 +314,13 @@ class Consumer:
 
     def place(self, position):
         return place_of(position, self.connection.loop.per_ledger)
+
+
+class Thorough(Consumer):
+    """A consumer that acknowledges all that comes."""
+
+    def chosen(self, _):
+        return [*self.batch]
 
 
 class Passer(Consumer):

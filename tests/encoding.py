@@ -121,6 +121,11 @@ class Exchange:
     def feed(self, session, content, said=b"", result="ok"):
         return self.line(f"bytes {session} {content.hex()}", said, result)
 
+    def status(self, *lines):
+        self.script.append("status")
+        self.lines += lines
+        return self
+
     def connect(self, session):
         return self.line("open").feed(session, CONNECT, CONNECTED)
 
@@ -214,6 +219,21 @@ def keys_go_to_their_ranges():
     return exchange
 
 
+def writes_anew_where_a_ledger_begins():
+    """A subscription acknowledges both entries of a first segment, which is given back; behind 4,096 records the other slot says where the ledger begins."""
+    told = "T    0          3          2      1 persistent://a/b/c"
+    exchange = Exchange(2).begin().feed(0, subscribe(2)).line("flush 0").line("pump 0", success())
+    exchange.feed(0, send(1, 0) + send(1, 1)).line("flush 0").feed(0, send(1, 2)).line("flush 0")
+    exchange.line("pump 0", b"".join(receipt(1, n, n, 2) for n in range(3)))
+    exchange.feed(0, ack(2, [place_of(0, 2), place_of(1, 2)])).line("flush 0").line("pump 0", ack_response(2)).status(told, "S    0          2      0 s")
+    exchange.feed(0, ack(2, [place_of(1, 2)] * 4096)).line("flush 0").feed(0, ack(2, [place_of(2, 2)])).line("flush 0").line("pump 0", ack_response(2) * 2)
+    for form in ("old", "new"):
+        exchange.line(f"crash {form}").status(told, "S    0          3      0 s")
+    exchange.connect(0).feed(0, subscribe(2, b"t") + flow(2, 9)).line("flush 0").line("pump 0", success() + message(2, 2, per_ledger=2))
+    return exchange.status(told, "S    0          3      0 s", "S    0          2      0 t")
+
+
 LONG = (
     limits_of_what_waits, limit_of_an_entry, limit_of_bytes_that_wait, limit_of_changes, limit_of_changes_of_an_unsubscribe, keys_go_to_their_ranges,
+    writes_anew_where_a_ledger_begins,
 )

@@ -18,7 +18,8 @@ from errno import EACCES, EISDIR, ENOENT, ENOSPC, ENOTDIR
 
 sys.dont_write_bytecode = True
 from encoding import entry_of
-from openings import FEW, MANY, MARK, batch, entries, gated
+from openings import FEW, MANY, MARK, THREE, batch, entries, gated, record, records, trim
+from plain_reader import MADE, ONE, THROUGH
 from server import STAMP, told_holder
 
 SECONDS = 60
@@ -38,10 +39,23 @@ TOPICS = {
     "t00001-c1.dat": gated(0, gate=0),
 }
 LINES = (
-    "T    0          4      2 persistent://a/b/c\n"
+    "T    0          4          0      2 persistent://a/b/c\n"
     "S    0          1      1 s\n"
     "S    0          3      0 t\n"
-    "T    1          0      1 persistent://a/b/d-2\n"
+    "T    1          0          0      1 persistent://a/b/d-2\n"
+)
+MADE_AND_ACKNOWLEDGED = records(record(MADE, b"s", 0), record(THROUGH, b"s", 1))  # 28 bytes
+TRIMMED = {  # the first segment is given back, and two are there
+    "catalog.dat": gated(2, batch(NAMES[0])),
+    "t00000-e00000000.dat": b"",
+    "t00000-e00000001.dat": THREE["segment", 1],
+    "t00000-e00000002.dat": THREE["segment", 2],
+    "t00000-c0.dat": gated(1, MADE_AND_ACKNOWLEDGED, records(trim(2, 1)), records(record(ONE, b"s", 3))),
+    "t00000-c1.dat": gated(0, gate=0),
+}
+TRIMMED_LINES = (
+    "T    0          4          2      2 persistent://a/b/c\n"
+    "S    0          2      1 s\n"
 )
 RANGE = "error: invalid value '{0}' for '--entries <N>': {0} is not in 1..=50000\n\nFor more information, try '--help'.\n"
 
@@ -211,6 +225,38 @@ def topics_are_told(room):
     room.expect_kept(told("already initialised"), "init", "topics")
 
 
+def segments_that_are_given_back_are_not_read(room):
+    first = (b"", None, gated(0, entries(A, B), MARK), gated(7), gated(0, batch(b"\7")), b"\1", gated(0, version=9), bytes(40))
+    for number, content in enumerate(first):
+        files = {"lock": b"", **TRIMMED, "t00000-e00000000.dat": content}
+        room.lay(f"trimmed{number}", {name: it for name, it in files.items() if it is not None})
+        room.expect_kept((TRIMMED_LINES, "", 0), "inspect", f"trimmed{number}")
+
+
+def damage_beside_a_trim_is_told(room):
+    """Where a ledger begins is known by the bodies before the first fault of the slot; the segments are read before that is told."""
+    bad, begins, whole = batch(b"\7"), records(trim(2, 1)), {"t00000-e00000000.dat": gated(0, entries(A, B), MARK)}
+    damaged = (
+        ("t00000-e00000000.dat at 0", {"t00000-c0.dat": gated(1, bad, begins)}),
+        ("t00000-c0.dat at 16", {**whole, "t00000-c0.dat": gated(1, bad, begins)}),
+        ("t00000-c0.dat at 44", {**whole, "t00000-c0.dat": gated(1, MADE_AND_ACKNOWLEDGED, bad, begins)}),
+        ("t00000-c0.dat at 67", {"t00000-c0.dat": gated(1, MADE_AND_ACKNOWLEDGED, begins, bad)}),
+        ("t00000-c0.dat at 67", {"t00000-c0.dat": gated(1, MADE_AND_ACKNOWLEDGED, begins, records(record(ONE, b"s", 4)))}),
+        ("t00000-c0.dat at 67", {"t00000-c0.dat": gated(1, MADE_AND_ACKNOWLEDGED, begins, records(record(MADE, b"t", 1)))}),
+        ("t00000-c0.dat at 67", {"t00000-c0.dat": gated(1, MADE_AND_ACKNOWLEDGED, begins, records(trim(3, 2)))}),
+        ("t00000-e00000000.dat at 0", {"t00000-c0.dat": gated(1, MADE_AND_ACKNOWLEDGED, records(trim(3, 2)))}),
+        ("t00000-e00000001.dat at 0", {"t00000-e00000001.dat": b""}),
+        ("t00000-e00000001.dat at 0", {"t00000-e00000001.dat": gated(3, entries(C))}),
+        ("t00000-e00000001.dat at 16", {"t00000-e00000001.dat": gated(2, bad)}),
+        ("t00000-e00000002.dat at 0", {"t00000-e00000002.dat": gated(4)}),
+        ("t00000-e00000001.dat at 16", {"t00000-e00000001.dat": gated(2, bad), "t00000-c0.dat": gated(1, MADE_AND_ACKNOWLEDGED, begins, bad)}),
+        ("t00000-e00000002.dat at 0", {"t00000-c0.dat": gated(1, MADE_AND_ACKNOWLEDGED, records(trim(2, 2)))}),
+    )
+    for number, (place, files) in enumerate(damaged):
+        room.lay(f"beside{number}", {"lock": b"", **TRIMMED, **files})
+        room.expect_kept(told(f"damaged {place}"), "inspect", f"beside{number}")
+
+
 def damage_is_told(room):
     damaged = {
         "damaged catalog.dat at 0": {"catalog.dat": gated(0)},
@@ -298,7 +344,8 @@ def where_printing_fails(room):
     room.expect_files("made", {"catalog.dat": NEW})
 
 
-TRIED = (folders_are_made, words_are_refused, what_is_not_there_is_not_made, a_lock_file_that_lacks_is_made, topics_without_a_list_are_kept, half_made_ones_are_made, topics_are_told, damage_is_told,
+TRIED = (folders_are_made, words_are_refused, what_is_not_there_is_not_made, a_lock_file_that_lacks_is_made, topics_without_a_list_are_kept,
+         half_made_ones_are_made, topics_are_told, segments_that_are_given_back_are_not_read, damage_beside_a_trim_is_told, damage_is_told,
          what_is_no_folder_fails, without_permission_it_fails, one_process_has_it, where_printing_fails)
 
 

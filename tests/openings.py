@@ -12,8 +12,8 @@ from itertools import combinations
 
 sys.dont_write_bytecode = True
 from encoding import entry_of, number, text
-from plain_reader import (END_MARK, ENTRIES, LARGEST_ENTRY, LAST_GENERATION, MADE, MOST_NAMES, ONE, RANGE, RECORDS, REMOVED, THROUGH,
-                          opened)
+from plain_reader import (END_MARK, ENTRIES, LARGEST_ENTRY, LAST_GENERATION, MADE, MOST_ENTRIES, MOST_NAMES, ONE, RANGE, RECORDS, REMOVED, THROUGH,
+                          TRIM, opened)
 from table import Table
 
 TOPIC = 3
@@ -49,6 +49,11 @@ def records(*content):
 
 def record(kind, name, *positions):
     return bytes([kind, len(name)]) + name + b"".join(little(position, 8) for position in positions)
+
+
+def trim(base, first):
+    """A record that says where the ledger begins."""
+    return bytes([TRIM]) + little(base, 8) + little(first, 8)
 
 
 MARK = batch(bytes([END_MARK]))
@@ -183,10 +188,52 @@ def rows_of_records():
                    records(record(RANGE, b"t", 0, 3))),
         *of_bodies("bodies without bytes, of another kind or with records that aren't known", batch(b""), batch(b"\1"),
                    batch(b"\2" + record(ONE, b"s", 0)), *(records(it) for it in (b"\0", record(0, b"s", 0), record(6, b"s", 0), record(255, b"s"),
-                                                                                b"\x06" + bytes(16)))),
+                                                                                b"\x07" + bytes(16)))),
         *of_bodies("records that are cut short", *(records(it[:size]) for it in short for size in range(1, len(it)))),
         *of_bodies("batches of the slot that counts", batch(b"\0", 2), batch(b"\0", 2**25 + 1), records() + b"\1",
                    records(record(ONE, b"s", 4)) + b"\1")]
+
+
+# Where the ledger begins
+
+THREE = {("segment", 1): gated(2, entries(C), MARK), ("segment", 2): gated(3, entries(D))}  # whose first one is gone, as are its bytes
+TRIMMED = of_slots(gated(2, records(record(MADE, b"s", 0), record(THROUGH, b"s", 2)), records(trim(2, 1)), records(record(ONE, b"s", 3))), CLOSED, THREE)
+TWICE = of_slots(gated(1, records(record(MADE, b"s", 0))), gated(2, records(trim(1, 5), record(MADE, b"s", 3)), records(trim(3, 2)), records(record(MADE, b"t", 3))), THREE)
+
+
+def begun(*bodies, segments=None):
+    """A folder whose first segment is gone, with these batches behind a subscription that has the positions below 3 and lacks that one."""
+    front = records(record(MADE, b"s", 3))
+    return of_slots(gated(1, front, *bodies), CLOSED, THREE if segments is None else segments)
+
+
+def rows_of_trims():
+    there, gone = trim(2, 1), record(REMOVED, b"s")
+    cut = [records(trim(3, 2)[:size]) for size in (1, 9, 16)]
+    most = [records(gone, trim(2, MOST_ENTRIES)), records(gone, trim(2, MOST_ENTRIES + 1)), records(gone, trim(MOST_ENTRIES, 1)),
+            records(gone, trim(MOST_ENTRIES + 1, 1))]
+    lacking = {("segment", 2): THREE[("segment", 2)]}
+    closed = {**THREE, ("segment", 1): b"\0" + THREE[("segment", 1)][1:]}
+    whole = {("segment", 0): FULL, **THREE}
+    return [
+        *alone("where the ledger begins", begun(records(there)), begun(records(there), records(trim(3, 2))), begun(records(there, trim(3, 2))),
+               begun(records(there), records(there)), begun(records(trim(0, 0)), segments=whole), begun(records(trim(0, 0)), records(there)),
+               begun(records(gone), records(trim(3, 2))), begun(records(gone, trim(4, 3)), segments={("segment", 3): gated(4)}),
+               begun(records(there, record(MADE, b"t", 2))), begun(records(there), segments=whole), TRIMMED, TWICE),
+        *alone("a segment that isn't the one that is named", begun(records(trim(2, 0))), begun(records(trim(3, 1))), begun(records(trim(1, 1))),
+               begun(records(trim(2, 2))), begun(records(trim(2, 3))), begun(records(there), segments=lacking), begun(records(there), segments=closed),
+               begun(records(gone, trim(4, 2))), begun(records(gone, trim(5, 2))), begun()),
+        *alone("what can't stand there: a base that falls, or that a subscription lacks", begun(records(there), records(trim(1, 0))),
+               begun(records(there), records(trim(0, 0))), begun(records(there), records(trim(4, 2))), begun(records(there, trim(4, 2))),
+               begun(records(trim(3, 2)), records(record(MADE, b"t", 2), there)), begun(records(there), records(record(ONE, b"s", 3), trim(1, 0)))),
+        *alone("a subscription that begins before the ledger does", begun(records(there), records(record(MADE, b"t", 1))),
+               begun(records(there, record(MADE, b"t", 0))), begun(records(there), records(gone, record(MADE, b"s", 1)))),
+        *alone("a record that is cut short, and numbers at their limits", *(begun(records(there), it) for it in [*cut, *most])),
+        *alone("damage before it, behind it, and beside the ledger alone", begun(batch(b"\7"), records(there)), begun(records(there), batch(b"\7")),
+               begun(records(there), batch(b"\7"), records(trim(3, 2))), begun(records(record(ONE, b"s", 4)), records(there)),
+               begun(records(there), records(record(ONE, b"s", 4)), records(trim(3, 2))), begun(records(there), records(gone, trim(5, 2))),
+               begun(records(there), batch(b"", 9)), begun(records(there, record(ONE, b"u", 0))),
+               begun(records(there), records(record(ONE, b"s", 4)), segments=lacking), begun(records(there), batch(b"\7"), segments=lacking))]
 
 
 def rows_of_names():
@@ -225,8 +272,18 @@ def changes():
 
 def rows_of_pairs():
     pairs = [f"open {one}, {other}" for one, other in combinations(changes(), 2)]
-    return [line for title, files in (("where slot 0 counts", BOTH_OPEN), ("where slot 1 counts", ONE_COUNTS))
-            for line in [f"# two faults, {title}", *lay(files), *pairs, ""]]
+    of_trims = [f"open {one}, {other}" for one, other in combinations(changes_of_trims(), 2)]
+    return [line for title, files, asked in (("where slot 0 counts", BOTH_OPEN, pairs), ("where slot 1 counts", ONE_COUNTS, pairs),
+                                             ("where the first segment is gone", TWICE, of_trims))
+            for line in [f"# two faults, {title}", *lay(files), *asked, ""]]
+
+
+def changes_of_trims():
+    """One in each place of a folder whose slot 1 counts and says twice where the ledger begins."""
+    one, two, first, second = ("segment", 1), ("segment", 2), ("slot", 0), ("slot", 1)
+    return [change(one, 0, 0), change(one, 21, 9), change(two, 1, 0), change(two, 8, 2), change(two, 21, 9), change(first, 2, 0), change(first, 8, 2),
+            change(second, 0, 0), change(second, 7, 0), change(second, 22, 7), change(second, 23, 4), change(second, 31, 1), change(second, 56, 7),
+            change(second, 57, 4), change(second, 65, 1), "cut slot 1 56", "cut slot 1 80"]
 
 
 # Each byte and each length
@@ -234,9 +291,9 @@ def rows_of_pairs():
 
 def rows_of_bytes():
     lines = []
-    for title, files in (("slot 0 counts", BOTH_OPEN), ("slot 1 counts", ONE_COUNTS), ("slot 1 is closed", NEW)):
+    for title, files in (("slot 0 counts", BOTH_OPEN), ("slot 1 counts", ONE_COUNTS), ("slot 1 is closed", NEW), ("the first segment is gone", TRIMMED)):
         for file, content in files.items():
-            if files is BOTH_OPEN or file[0] == "slot" and (files is ONE_COUNTS or file[1] == 1):
+            if files in (BOTH_OPEN, TRIMMED) or file[0] == "slot" and (files is ONE_COUNTS or file[1] == 1):
                 lines += [f"# {title}: {file[0]} {file[1]} of {len(content)} bytes, each changed, and cut at each length", *lay(files),
                           *each_byte(files, file), *each_length(files, file), ""]
     return lines
@@ -299,7 +356,8 @@ def rows_at_random():
 
 
 def made_lines():
-    rows = (rows_of_chains, rows_of_batches, rows_of_headers, rows_of_records, rows_of_names, rows_of_positions, rows_of_pairs, rows_of_bytes, rows_at_random)
+    rows = (rows_of_chains, rows_of_batches, rows_of_headers, rows_of_records, rows_of_trims, rows_of_names, rows_of_positions, rows_of_pairs, rows_of_bytes,
+            rows_at_random)
     return [BEGINS, *(line for row in rows for line in row())]
 
 

@@ -17,6 +17,7 @@ MOST_SESSIONS, MOST_TOPICS, MOST_OF_A_SESSION = 256, 64, 64
 MOST_WAITING, MOST_WAITING_BYTES, LARGEST_ENTRY, LONGEST_NAME = 1_024, 16_777_216, 1_048_576, 255
 MOST_REPLIES, MOST_MESSAGES = 65_536, 64
 ROLL, APPEND, REPLACE, MAKE = 9, 4, 6, 13  # calls of the device: of a roll, of an append, of writing a slot anew, and of making a topic's files
+DROP = 2  # and of giving a segment back
 RECORDS = 4_096  # behind so many in a slot a flush with changes first writes the other one anew
 IN_DOUBT = 2  # the last calls of an append: where one of them fails, it is there or not
 READ = -1
@@ -95,13 +96,47 @@ def first_of(*refusals):
     return next((code for stands, code in refusals if stands), None)
 
 
+class Files:
+    """What the files of a topic hold: its entries, also those that were given back, at which positions the segments that are there begin, and what each
+    subscription acknowledged."""
+
+    def __init__(self, entries, starts, kept):
+        self.entries, self.starts, self.kept = entries, starts, kept
+
+    def base(self):
+        """The position of the first entry that is there."""
+        return self.starts[0]
+
+    def is_full(self, per_ledger):
+        return len(self.entries) - self.starts[-1] >= per_ledger
+
+    def rolled(self):
+        return Files(self.entries, (*self.starts, len(self.entries)), self.kept)
+
+    def longer(self, more):
+        return Files(self.entries + more, self.starts, self.kept)
+
+    def changed(self, kept):
+        return Files(self.entries, self.starts, kept)
+
+    def below(self, position):
+        """How many segments before the last one have no entry from this position on."""
+        return sum(end <= position for end in self.starts[1:])
+
+    def without(self, segments):
+        return Files(self.entries, self.starts[segments:], self.kept)
+
+
 class Batch:
-    """What a flush takes of what waits: how many entries and changes, which replies and closings; and once it is written, what the files may hold."""
+    """What a flush takes of what waits: how many entries and changes, which replies and closings, and up to where it may trim; and once it is written, what
+    the files may hold."""
 
     def __init__(self, topic):
         self.entries, self.changes, self.replies, self.closing = len(topic.waiting), len(topic.subs.changes), topic.later, topic.closing
         self.kept = {it.name: it.acked.copy() for it in topic.subs.subs}
-        self.left, self.is_well, self.is_anew = None, True, False
+        behind = min((acked.mark_delete() for acked in self.kept.values()), default=topic.files.base())
+        self.trim = max(topic.files.base(), behind - behind % topic.per_ledger)
+        self.left, self.counts, self.is_well, self.is_anew, self.trims = None, [], True, False, 0
 
 
 class Held:
@@ -110,16 +145,15 @@ class Held:
     def __init__(self, place, name, per_ledger):
         self.place, self.name, self.per_ledger = place, name, per_ledger
         self.due = []
-        self.begin(([], 1, 0, {}))
+        self.begin(Files([], (0,), {}))
 
-    def begin(self, found):
-        """As an opening finds it: entries, segments, how many entries the last one has, and what each subscription acknowledged."""
-        self.entries, self.segments, self.in_segment, self.kept = found
-        self.entries, self.left, self.batch, self.records = [*self.entries], None, None, 0
+    def begin(self, files):
+        """As an opening finds it."""
+        self.files, self.left, self.batch, self.records = files, None, None, 0
         self.waiting, self.later, self.names, self.closing = [], [], {}, set()
         self.subs = Topic()
-        self.subs.committed, self.subs.slots = len(self.entries), [slot_of(entry) for entry in self.entries]
-        for name, acked in self.kept.items():
+        self.subs.committed, self.subs.slots = len(files.entries), [slot_of(entry) for entry in files.entries]
+        for name, acked in files.kept.items():
             subscription = Subscription(name, 0)
             subscription.acked = acked.copy()
             self.subs.subs.append(subscription)
@@ -130,21 +164,29 @@ class Held:
     def has_room(self, entry):
         return len(self.waiting) < MOST_WAITING and sum(map(len, self.waiting)) + len(entry) <= MOST_WAITING_BYTES
 
+    def floor(self):
+        """Where a subscription begins that asks for the earliest: behind what a flush may give back."""
+        return self.batch.trim if self.batch else self.files.base()
+
     def steps(self):
-        """The steps of writing the batch: how many calls each makes, and what the files hold behind it."""
-        steps, count = [], self.batch.entries
-        segments, in_segment = self.segments, self.in_segment
-        if count and in_segment >= self.per_ledger:
-            segments, in_segment = segments + 1, 0
-            steps.append((ROLL, (self.entries, segments, in_segment, self.kept)))
-        entries = self.entries + self.waiting[:count]
+        """The steps of writing the batch."""
+        steps, files, count = [], self.files, self.batch.entries
+        if count and files.is_full(self.per_ledger):
+            files = files.rolled()
+            steps.append(Step(ROLL, files))
         if count:
-            steps.append((APPEND, (entries, segments, in_segment + count, self.kept)))
+            files = files.longer(self.waiting[:count])
+            steps.append(Step(APPEND, files))
         self.batch.is_anew = self.batch.changes > 0 and self.records >= RECORDS
         if self.batch.is_anew:
-            steps.append((REPLACE, (entries, segments, in_segment + count, self.kept)))
+            steps.append(Step(REPLACE, files))
         if self.batch.changes:
-            steps.append((APPEND, (entries, segments, in_segment + count, self.batch.kept)))
+            files = files.changed(self.batch.kept)
+            steps.append(Step(APPEND, files))
+        dropped = files.below(self.batch.trim)
+        if dropped:
+            steps.append(Step(APPEND, files.without(dropped), DROP * dropped))
+            self.batch.trims = 1
         return steps
 
     def take(self, _device):
@@ -159,8 +201,8 @@ class Held:
         if self.batch is None or self.batch.left:
             return "none"
         steps = self.steps()
-        failing = device.failing(sum(calls for calls, _ in steps))
-        self.batch.left = left_by((self.entries, self.segments, self.in_segment, self.kept), steps, failing)
+        failing = device.failing(sum(step.calls for step in steps))
+        self.batch.left, self.batch.counts = left_by(self.files, steps, failing)
         self.batch.is_well = not failing
         return "S1" if failing else "ok"
 
@@ -169,13 +211,13 @@ class Held:
             return "none"
         batch, self.batch = self.batch, None
         if not batch.is_well:
-            self.left = batch.left
+            self.left, self.counts = batch.left, batch.counts
             self.due += [(who, refusal) for who, _, refusal in batch.replies + self.later]
             self.later = []
             return "S1"
-        self.entries, self.segments, self.in_segment, self.kept = batch.left[0]
-        self.records = (0 if batch.is_anew else self.records) + batch.changes
-        self.subs.committed = len(self.entries)
+        self.files = batch.left[0]
+        self.records = (0 if batch.is_anew else self.records) + batch.changes + batch.trims
+        self.subs.committed = len(self.files.entries)
         self.subs.slots += map(slot_of, self.waiting[:batch.entries])
         self.subs.changes = self.subs.changes[batch.changes:]
         self.due += [(who, answer) for who, answer, _ in batch.replies]
@@ -200,7 +242,7 @@ class Held:
             return self.left[device.fate.choose(len(self.left))]
         if self.batch and self.batch.left:
             return self.batch.left[device.fate.choose(len(self.batch.left))]
-        return self.entries, self.segments, self.in_segment, self.kept
+        return self.files
 
     def reopen(self, device):
         if self.has_failed():
@@ -242,36 +284,53 @@ class Held:
         if device.read_fails():
             raise ReadFails
         before = min(subscription.send(key, position), 2**32 - 1)
-        return message(consumer, position, before, self.entries[position], self.per_ledger)
+        return message(consumer, position, before, self.files.entries[position], self.per_ledger)
 
-    def files(self, device):
-        """How many segments there are: those of what the files hold, where a write failed one of them."""
-        left = self.left or self.batch and self.batch.left
-        counts = sorted({segments for _, segments, _, _ in left}) if left else [self.segments]
+    def segments(self, device):
+        """How many segments are there: as the files hold, or, where a write failed, as they held before the step that did or would hold behind it."""
+        counts = self.counts if self.has_failed() else self.batch.counts if self.batch and self.batch.left else [len(self.files.starts)]
         return counts[device.fate.choose(len(counts))] if len(counts) > 1 else counts[0]
 
     def status(self, device):
-        lines = [f"T {self.place:>4} {len(self.entries):>10} {self.files(device):>6} {self.name}"]
+        lines = [f"T {self.place:>4} {len(self.files.entries):>10} {self.files.base():>10} {self.segments(device):>6} {self.name}"]
         for it in sorted(self.subs.subs, key=lambda it: it.name.encode()):
             lines.append(f"S {self.place:>4} {it.acked.mark_delete():>10} {it.acked.ranges():>6} {it.name}")
         return lines
 
 
+class Step:
+    """A part of writing a batch: how many calls it makes, and what the files hold behind it. Where one of the last of the calls that decide fails, they hold
+    that or what they held before; calls behind these decide nothing."""
+
+    def __init__(self, decide, behind, further=0):
+        self.decide, self.calls, self.behind = decide, decide + further, behind
+
+    def left(self, before, failing):
+        """What the files may hold where this call of it fails."""
+        if failing > self.decide:
+            return [self.behind]
+        return [before] if failing <= self.decide - IN_DOUBT else [before, self.behind]
+
+
+def counts_of(some):
+    return sorted({len(files.starts) for files in some})
+
+
 def left_by(before, steps, failing):
-    """What the files may hold behind steps of which a call fails, or none."""
+    """What the files may hold behind steps of which a call fails, or none; and how many segments there may be, as far as the store knows."""
     if failing == READ:
-        return [before, *(behind for _, behind in steps)]
-    for calls, behind in steps:
-        if 0 < failing <= calls:
-            return [before] if failing <= calls - IN_DOUBT else [before, behind]
-        before, failing = behind, failing - calls
-    return [before]
+        left = [before, *(step.behind for step in steps)]
+        return left, counts_of(left)
+    for step in steps:
+        if 0 < failing <= step.calls:
+            return step.left(before, failing), counts_of([before, step.behind])
+        before, failing = step.behind, failing - step.calls
+    return [before], counts_of([before])
 
 
 def calls_of_opening(found):
     """A sync of each segment and of both slots."""
-    _, segments, _, _ = found
-    return segments + 2
+    return len(found.starts) + 2
 
 
 def slot_of(entry):
@@ -385,7 +444,7 @@ class Session:
                            (topic and topic.has_failed(), PERSISTENCE), (topic and not topic.has_room(entry), TOO_MANY))
         if refusal:
             return send_error(it["producer_id"], it["sequence_id"], refusal)
-        position = len(topic.entries) + len(topic.waiting)
+        position = len(topic.files.entries) + len(topic.waiting)
         topic.waiting.append(entry)
         topic.later.append((self.place, receipt(it["producer_id"], it["sequence_id"], position, topic.per_ledger),
                             send_error(it["producer_id"], it["sequence_id"], PERSISTENCE)))
@@ -416,6 +475,8 @@ class Session:
                            (not SUBSCRIPTION_NAME.fullmatch(it["subscription"]), NOT_ALLOWED))
         topic, refusal = self.searched(refusal, it["topic"])
         ranges = ranges_of(it)
+        if topic:
+            topic.subs.first = topic.floor()
         refusal = refusal or REFUSALS[topic.subs.subscribe(it["subscription"], it["kind"], self.key(it["consumer_id"]), it["initial"], ranges)]
         if refusal:
             return error(refusal, it["request_id"])
@@ -566,7 +627,7 @@ class Broker:
         """The committed position that an id names, if it names one."""
         position = id["ledger_id"] * self.per_ledger + id["entry_id"]
         is_named = id["partition"] == -1 and id["batch_index"] == -1 and not id["has_ack_set"] and id["entry_id"] < self.per_ledger
-        return position if is_named and position < len(topic.entries) else None
+        return position if is_named and position < len(topic.files.entries) else None
 
     def leave(self, session):
         del self.sessions[session]

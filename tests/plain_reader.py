@@ -1,4 +1,5 @@
 """A plain slow reader of a topic's files, written from docs/FILES.md alone: what an opening of them answers."""
+from subscriptions import Acked
 from wire import Fault, read_entry
 
 OPEN, NAME, VERSION = 1, b"PULSAR", 1
@@ -6,7 +7,7 @@ HEADER = 16  # bytes
 LAST_GENERATION = 2**64 - 1
 LARGEST_BODY, LARGEST_ENTRY, MOST_ENTRIES = 33_554_432, 1_048_576, 2**62
 ENTRIES, END_MARK, RECORDS = 0, 1, 0  # kinds of bodies
-MADE, REMOVED, ONE, THROUGH, RANGE = 1, 2, 3, 4, 5  # records
+MADE, REMOVED, ONE, THROUGH, RANGE, TRIM = 1, 2, 3, 4, 5, 6  # records
 POSITIONS = {MADE: 1, REMOVED: 0, ONE: 1, THROUGH: 1, RANGE: 2}
 LONGEST_NAME, MOST_NAMES = 255, 64
 NAME_BYTES = b"0123456789ABCDEFGHIJKLMNOPQRSTUVWXYZabcdefghijklmnopqrstuvwxyz-_."
@@ -67,19 +68,23 @@ class File:
 
 
 class Segments:
-    """The entries of a chain of segments, and how many segments it has."""
+    """The entries of a chain of segments, and how many segments it has, from where the ledger begins on."""
 
-    def __init__(self, topic, files):
-        self.entries, self.count, self.goes_on = [], 0, True
+    def __init__(self, topic, files, base, first):
+        self.base, self.entries, self.count, self.goes_on = base, [], 0, True
         while self.goes_on:
-            self.read_segment(File(f"t{topic:05}-e{self.count:08}.dat", files.get(("segment", self.count), b"")))
+            number = first + self.count
+            self.read_segment(File(f"t{topic:05}-e{number:08}.dat", files.get(("segment", number), b"")))
             self.count += 1
+
+    def end(self):
+        return self.base + len(self.entries)
 
     def read_segment(self, file):
         if not file.is_open():
             raise file.damaged(0)
         file.judge_header()
-        if file.number() != len(self.entries):
+        if file.number() != self.end():
             raise file.damaged(0)
         self.goes_on = False
         file.read_bodies(self.take)
@@ -97,7 +102,7 @@ class Segments:
         while at < len(content):
             size = number_in(content[at:at + 4])
             entry = content[at + 4:at + 4 + size]
-            if at + 4 + size > len(content) or size > LARGEST_ENTRY or len(self.entries) == MOST_ENTRIES:
+            if at + 4 + size > len(content) or size > LARGEST_ENTRY or self.end() == MOST_ENTRIES:
                 raise NotOfItsForm
             try:
                 read_entry(entry)
@@ -107,27 +112,28 @@ class Segments:
             at += 4 + size
 
 
-class Subscriptions:
-    """The positions that each subscription has acknowledged, by the bodies of the slot that counts."""
+class Slots:
+    """Both slots of a topic, of which one counts."""
 
-    def __init__(self, topic, files, entries):
-        self.acked, self.entries = {}, entries
-        self.read(*(File(f"t{topic:05}-c{slot}.dat", files.get(("slot", slot), b"")) for slot in (0, 1)))
+    def __init__(self, topic, files):
+        self.zero, self.one = (File(f"t{topic:05}-c{slot}.dat", files.get(("slot", slot), b"")) for slot in (0, 1))
 
-    def read(self, zero, one):
+    def read(self, told):
+        """Hands over the bodies of the one that counts."""
+        zero, one = self.zero, self.one
         if not zero.is_open() and not one.is_open():
             raise zero.damaged(0)
         one_counts = one.is_open() and (not zero.is_open() or one.number() > zero.number())
         if zero.is_open():
             self.judge_header(zero)
         if not one_counts:
-            zero.read_bodies(self.take)
+            zero.read_bodies(told.take)
         if one.is_open():
             self.judge_header(one)
             if zero.is_open() and zero.number() == one.number():
                 raise one.damaged(0)
         if one_counts:
-            one.read_bodies(self.take)
+            one.read_bodies(told.take)
 
     @staticmethod
     def judge_header(file):
@@ -135,12 +141,41 @@ class Subscriptions:
         if file.number() == LAST_GENERATION:
             raise file.damaged(0)
 
+    def start(self):
+        """Where the ledger begins, by the bodies before the first fault that shows without the ledger."""
+        told = Told(MOST_ENTRIES)
+        try:
+            self.read(told)
+        except Refused:
+            pass
+        return told.start
+
+
+class Told:
+    """What bodies of records tell beside a ledger of so many entries: the positions that each subscription has acknowledged, and
+    where the ledger begins, by position and by segment, behind the last record and behind the last whole body."""
+
+    def __init__(self, entries):
+        self.acked, self.entries, self.begins, self.start = {}, entries, (0, 0), (0, 0)
+
     def take(self, body):
         if not body or body[0] != RECORDS:
             raise NotOfItsForm
         at = 1
         while at < len(body):
-            at = self.take_record(body, at)
+            at = self.take_trim(body, at) if body[at] == TRIM else self.take_record(body, at)
+        self.start = self.begins
+
+    def take_trim(self, body, at):
+        """The same of a record that says where the ledger begins."""
+        end = at + 17
+        base, first = number_in(body[at + 1:at + 9]), number_in(body[at + 9:end])
+        if end > len(body) or not self.begins[0] <= base <= self.entries or first > MOST_ENTRIES:
+            raise NotOfItsForm
+        if any(acked.mark_delete() < base for acked in self.acked.values()):
+            raise NotOfItsForm
+        self.begins = base, first
+        return end
 
     def take_record(self, body, at):
         """Takes the record at a place; answers the place behind it."""
@@ -156,21 +191,19 @@ class Subscriptions:
         return end
 
     def mean(self, kind, name, first=0, last=0):
-        if kind == MADE and len(self.acked) == MOST_NAMES or kind == RANGE and first > last:
+        if kind == MADE and (len(self.acked) == MOST_NAMES or first < self.begins[0]) or kind == RANGE and first > last:
             raise NotOfItsForm
         if kind == MADE:
-            self.acked[name] = set(range(first))
+            self.acked[name] = Acked(first)
         elif kind == REMOVED:
             del self.acked[name]
         else:
-            self.acked[name] |= set({ONE: range(first, first + 1), THROUGH: range(first + 1), RANGE: range(first, last + 1)}[kind])
+            self.acked[name].add(*{ONE: (first, first), THROUGH: (0, first), RANGE: (first, last)}[kind])
 
     def told(self, name):
         """The name, the mark-delete position, how many runs there are behind it, and whether each position is acknowledged."""
         acked = self.acked[name]
-        mark = next(position for position in range(self.entries + 1) if position not in acked)
-        runs = sum(position > mark and position - 1 not in acked for position in acked)
-        return f"; {name.decode()} {mark} {runs} {''.join('.a'[position in acked] for position in range(self.entries))}"
+        return f"; {name.decode()} {acked} {''.join('.a'[acked.has(position)] for position in range(self.entries))}"
 
 
 def told_entry(entry):
@@ -180,11 +213,15 @@ def told_entry(entry):
 
 def opened(topic, files):
     """What an opening answers of the bytes of a topic's files, which are named by their kind and number."""
+    slots = Slots(topic, files)
+    base, first = slots.start()
     try:
-        segments = Segments(topic, files)
-        subscriptions = Subscriptions(topic, files, len(segments.entries))
+        segments = Segments(topic, files, base, first)
+        told = Told(segments.end())
+        slots.read(told)
     except Refused as refusal:
         return str(refusal)
+    begins = f" from {base}" if base else ""
     entries = "".join(map(told_entry, segments.entries))
-    kept = "".join(map(subscriptions.told, sorted(subscriptions.acked)))
-    return f"ok, segments {segments.count}, entries {len(segments.entries)}:{entries}{kept}"
+    kept = "".join(map(told.told, sorted(told.acked)))
+    return f"ok, segments {segments.count}, entries {segments.end()}{begins}:{entries}{kept}"

@@ -1,13 +1,14 @@
 """Plain slow models of the device in memory and of the stores above it, written from docs/FILES.md and the definitions in `specs/`: what each
 call answers, and what it leaves in the files."""
 from plain_reader import (ENTRIES, END_MARK, HEADER, LARGEST_BODY, LARGEST_ENTRY, LAST_GENERATION, LONGEST_NAME, MADE, MOST_NAMES, NAME_BYTES, ONE,
-                          OPEN, POSITIONS, RANGE, RECORDS, REMOVED, THROUGH, File, NotOfItsForm, Refused, number_in)
+                          OPEN, POSITIONS, RANGE, RECORDS, REMOVED, THROUGH, TRIM, File, NotOfItsForm, Refused, number_in)
 from subscriptions import Acked
 from wire import Fault, metadata_in
 
 TOPIC = 3
 LONGEST_FILE = 2**62
 CLOSED = b"\0"
+LONGEST_LEDGER = LAST_FIRST = 2**62
 REPLACE_AFTER = 4_096  # records
 MOST_PER_LEDGER, MOST_TOPICS = 50_000, 64
 PREFIX = b"persistent://"
@@ -416,7 +417,15 @@ class Slots:
 
     @classmethod
     def open(cls, device, taken):
-        zero, one = (Head(device, name) for name in ("c0", "c1"))
+        return cls.open_from(device, cls.heads(device), taken)
+
+    @staticmethod
+    def heads(device):
+        return tuple(Head(device, name) for name in ("c0", "c1"))
+
+    @classmethod
+    def open_from(cls, device, heads, taken):
+        zero, one = heads
         zero_open, one_open = zero.file.is_open(), one.file.is_open()
         if not zero_open and not one_open:
             raise zero.file.damaged(0)
@@ -475,6 +484,42 @@ def record_bytes(kind, name, *positions):
     return bytes([kind, len(name)]) + name + b"".join(little(position, 8) for position in positions)
 
 
+def record_at(body, at):
+    """The record at a place, and the place behind it; none where none stands there."""
+    kind, size = body[at], body[at + 1] if at + 1 < len(body) else 0
+    end = at + 2 + size + 8 * POSITIONS.get(kind, 0)
+    if kind not in POSITIONS or at + 2 > len(body) or end > len(body):
+        return None
+    name = body[at + 2:at + 2 + size]
+    return (kind, name, *(number_in(body[start:start + 8]) for start in range(at + 2 + size, end, 8))), end
+
+
+def item_at(body, at):
+    """The same of a record or a trim."""
+    if body[at] != TRIM:
+        return record_at(body, at)
+    end = at + 17
+    return ((TRIM, number_in(body[at + 1:at + 9]), number_in(body[at + 9:end])), end) if end <= len(body) else None
+
+
+def parts_in(body, part_at):
+    """The parts of a body of records; none where it has another kind or something else stands in it."""
+    if not body or body[0] != RECORDS:
+        return None
+    at, parts = 1, []
+    while at < len(body):
+        found = part_at(body, at)
+        if found is None:
+            return None
+        parts.append(found[0])
+        at = found[1]
+    return parts
+
+
+def trim_bytes(base, first):
+    return bytes([TRIM]) + little(base, 8) + little(first, 8)
+
+
 class Kept:
     """The acknowledged positions of each subscription, by the bytes of its name."""
 
@@ -512,18 +557,8 @@ class Kept:
 
     def read_body(self, entries, body):
         """What is kept behind the records of a body; none where it isn't of its form."""
-        if not body or body[0] != RECORDS:
-            return None
-        at, records = 1, []
-        while at < len(body):
-            kind, size = body[at], body[at + 1] if at + 1 < len(body) else 0
-            end = at + 2 + size + 8 * POSITIONS.get(kind, 0)
-            if kind not in POSITIONS or at + 2 > len(body) or end > len(body):
-                return None
-            name = body[at + 2:at + 2 + size]
-            records.append((kind, name, *(number_in(body[start:start + 8]) for start in range(at + 2 + size, end, 8))))
-            at = end
-        return self.apply_all(entries, records)
+        records = parts_in(body, record_at)
+        return None if records is None else self.apply_all(entries, records)
 
     def told(self, name):
         acked = self.acked[name]
@@ -533,61 +568,126 @@ class Kept:
     def told_all(self):
         return f"{len(self.acked)}" + "".join(map(self.told, sorted(self.acked)))
 
-    def snapshot(self):
-        """The body that makes all from nothing; none where there is nothing."""
-        body = bytes([RECORDS])
+    def records(self):
+        """The bytes of records that make all from nothing."""
+        content = b""
         for name in sorted(self.acked):
             acked = self.acked[name]
             mark = acked.mark_delete()
-            body += record_bytes(MADE, name, mark)
+            content += record_bytes(MADE, name, mark)
             for first in sorted({first for first, end in acked.parts if mark < first < end and not acked.has(first - 1)}):
-                body += record_bytes(RANGE, name, first, acked.first_open(first) - 1)
-        return [body] if self.acked else []
+                content += record_bytes(RANGE, name, first, acked.first_open(first) - 1)
+        return content
 
 
-class KeptTaken:
-    """Takes the records out of bodies."""
+class Told:
+    """Where the ledger begins, by position and by segment, and its subscriptions."""
+
+    def __init__(self, kept=None, start=(0, 0)):
+        self.kept, self.start = kept or Kept(), start
+
+    def may_begin(self, entries, base, first):
+        """Not before it did, nor past its end, nor past a position that a subscription lacks."""
+        lacks = any(acked.mark_delete() < base for acked in self.kept.acked.values())
+        return self.start[0] <= base <= entries and first <= LAST_FIRST and not lacks
+
+    def is_item(self, entries, kind, *what):
+        if kind == TRIM:
+            return self.may_begin(entries, *what)
+        return not (kind == MADE and what[1] < self.start[0]) and self.kept.is_formed(entries, kind, *what)
+
+    def behind(self, entries, items):
+        """What is told behind records and trims; none where one isn't of its form at its place."""
+        after = Told(self.kept.copy(), self.start)
+        for item in items:
+            if not after.is_item(entries, *item):
+                return None
+            if item[0] == TRIM:
+                after.start = item[1:]
+            else:
+                after.kept.apply(*item)
+        return after
+
+    def snapshot(self):
+        """The body that tells all from nothing; none where there is nothing."""
+        content = (trim_bytes(*self.start) if self.start != (0, 0) else b"") + self.kept.records()
+        return [bytes([RECORDS]) + content] if content else []
+
+
+class ItemsTaken:
+    """Takes the records and the trims out of bodies."""
 
     def __init__(self, entries):
-        self.entries, self.kept = entries, Kept()
+        self.entries, self.told = entries, Told()
 
     def begin(self, number):
         pass
 
     def body(self, body):
-        after = self.kept.read_body(self.entries, body)
+        items = parts_in(body, item_at)
+        after = None if items is None else self.told.behind(self.entries, items)
         if after is None:
             raise NotOfItsForm
-        self.kept = after
+        self.told = after
 
 
 class CursorStore:
-    """Slots of records, what these make, and how many were appended since the last replace."""
+    """Slots of records and trims, what these tell, and how many were appended since the last replace."""
 
-    def __init__(self, slots, kept):
-        self.slots, self.kept, self.appended = slots, kept, 0
+    def __init__(self, slots, told):
+        self.slots, self.told, self.appended = slots, told, 0
 
     @classmethod
     def create(cls, device):
-        return cls(Slots.create(device), Kept())
+        return cls(Slots.create(device), Told())
 
     @classmethod
     def open(cls, device, entries):
-        taken = KeptTaken(entries)
-        slots = Slots.open(device, taken)
-        return cls(slots, taken.kept)
+        return cls.open_from(device, Slots.heads(device), entries)
+
+    @classmethod
+    def open_from(cls, device, heads, entries):
+        taken = ItemsTaken(entries)
+        slots = Slots.open_from(device, heads, taken)
+        return cls(slots, taken.told)
+
+    @staticmethod
+    def begin(device):
+        """The heads of both slots, and where the ledger begins, by the bodies before the first fault that shows without it."""
+        heads, taken = Slots.heads(device), ItemsTaken(LONGEST_LEDGER)
+        try:
+            Slots.open_from(device, heads, taken)
+        except Refused:
+            pass
+        return heads, taken.told.start
+
+    def after(self, records):
+        return self.told.behind(LONGEST_LEDGER, records) if records else None
 
     def append(self, device, records):
         """Whether the records are of their form, and so appended."""
-        after = self.kept.apply_all(LONGEST_FILE, records) if records else None
+        after = self.after(records)
         if after is None:
             return False
         if self.appended >= REPLACE_AFTER and self.slots.can_replace():
-            self.slots.replace(device, self.kept.snapshot())
+            self.slots.replace(device, self.told.snapshot())
             self.appended = 0
-        self.slots.append(device, bytes([RECORDS]) + b"".join(record_bytes(*record) for record in records))
-        self.kept, self.appended = after, min(self.appended + len(records), REPLACE_AFTER)
+        self.add(device, b"".join(record_bytes(*record) for record in records), len(records), after)
         return True
+
+    def trim(self, device, start, records=()):
+        """Whether the ledger may begin there, behind these records, and so does; without that none is appended."""
+        after = self.after(records) if records else self.told
+        if after is None or not after.may_begin(LONGEST_LEDGER, *start):
+            return False
+        if records:
+            self.append(device, records)
+        self.add(device, trim_bytes(*start), 1, Told(self.told.kept, start))
+        return True
+
+    def add(self, device, content, count, after):
+        self.slots.append(device, bytes([RECORDS]) + content)
+        self.told, self.appended = after, min(self.appended + count, REPLACE_AFTER)
 
 
 # The catalog

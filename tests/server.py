@@ -9,13 +9,24 @@ import socket
 import subprocess
 import tempfile
 from contextlib import suppress
+from typing import NamedTuple
 
 PORTS = range(20_000, 32_000)  # below those that a client gets of the system, which would take one that is looked up and not yet bound
 SECONDS = 60  # until the program must have answered or ended; a machine that does other things too needs some
 THREADS = 66  # of a broker at rest: a flusher for each of 64 topics, the ringer, and the one that takes connections
-TOPIC_LINE = re.compile(r"T +(\d+) +(\d+) +(\d+) (\S+)")
+TOPIC_LINE = re.compile(r"T +(\d+) +(\d+) +(\d+) +(\d+) (\S+)")
 STAMP = re.compile(r"\d{4}-\d\d-\d\dT\d\d:\d\d:\d\d\.\d{3}Z ")  # before each line of a served broker's log
 SUBSCRIPTION_LINE = re.compile(r"S +(\d+) +(\d+) +(\d+) (\S+)")
+
+
+class Listed(NamedTuple):
+    """What `inspect` says of a topic: how many entries came, where the first one stands that is there, in how many segments, and the mark-delete positions of
+    its subscriptions by their names."""
+
+    entries: int
+    base: int
+    segments: int
+    marks: dict
 
 
 class Wrong(Exception):
@@ -48,6 +59,7 @@ class Server:
 
     def __init__(self, program, folder, entries=1000, survives_limits=False, words=()):
         self.program, self.folder, self.log, self.process, self.port = program, folder, f"{folder}.log", None, None
+        self.entries = entries  # of a segment
         self.words = words  # that `serve` gets besides
         self.restores = not survives_limits  # a limit that is passed is an error of the call, and no signal ends the program
         said = self.run("init", folder, "--entries", str(entries))
@@ -134,7 +146,7 @@ class Server:
                 raise Wrong(f"a second {words[0]} of a served folder ended with status {status}, printed {said!r}, and said {errors!r}")
 
     def inspect(self):
-        """By topics: their names, numbers of entries, and the mark-delete positions of their subscriptions by their names."""
+        """What is listed, by the topics' names."""
         status, said, errors = self.run("inspect", self.folder)
         if status or errors:
             raise Wrong(f"inspect ended with status {status}, and said {errors!r}")
@@ -142,12 +154,12 @@ class Server:
         for line in said.splitlines():
             topic, subscription = TOPIC_LINE.fullmatch(line), SUBSCRIPTION_LINE.fullmatch(line)
             if topic and int(topic[1]) == len(found):
-                found.append((topic[4], int(topic[2]), {}))
+                found.append((topic[5], Listed(*map(int, topic.group(2, 3, 4)), {})))
             elif subscription and int(subscription[1]) == len(found) - 1:
-                found[-1][2][subscription[4]] = int(subscription[2])
+                found[-1][1].marks[subscription[4]] = int(subscription[2])
             else:
                 raise Wrong(f"inspect printed the line {line!r}")
-        return {name: (entries, marks) for name, entries, marks in found}
+        return dict(found)
 
 
 class Troubled(Server):

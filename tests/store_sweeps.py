@@ -2,7 +2,7 @@
 of slots beside each other, bodies of records, and calls of the device at random."""
 import random
 
-from plain_stores import HEADER, LAST_GENERATION, MADE, ONE, RANGE, REMOVED, THROUGH, header, is_topic, record_bytes
+from plain_stores import HEADER, LAST_FIRST, LAST_GENERATION, MADE, ONE, RANGE, REMOVED, THROUGH, header, is_topic, record_bytes, trim_bytes
 
 BEGINS = "# sweeps: a stop and a failure at each call, in each form of crash; and files that are changed"
 FORMS = ("old", "new", "00", "01", "07")
@@ -120,7 +120,20 @@ def of_cursors():
         *sweep("an append of records", made, "cursors append one:s:2", 4, behind, again),
         *sweep("an opening of a cursor store behind an append whose last sync failed", line(made, "fail 4; cursors append one:s:2"), "cursors open 10", 2,
                behind, "sync c0"),
-        *sweep_reads("an opening of a cursor store", made, "cursors open 10", 5)]
+        *sweep_reads("an opening of a cursor store", made, "cursors open 10", 5), *of_trims()]
+
+
+def of_trims():
+    made = line("room c0 c1", "cursors create; cursors append made:s:3; cursors trim 1 1")
+    steps = "cursors begin; cursors from 10; cursors start"
+    behind = line(steps, "cursors append one:s:4; cursors trim 3 3; cursors state; cursors open 10; cursors start")
+    again = "cursors trim 3 2; cursors start; cursors kept; cursors state"
+    unsynced = line(made, "fail 4; cursors trim 2 2")
+    return [
+        *sweep("a trim of a cursor store", made, "cursors trim 2 2", 4, behind, again),
+        *sweep("a trim of a cursor store behind records", made, "cursors trim 4 2 one:s:3", 8, behind),
+        *sweep("an opening of a cursor store in two steps behind a trim whose last sync failed", unsynced, steps, 2, behind, "sync c0"),
+        *sweep_reads("an opening of a cursor store in two steps", made, steps, 14)]
 
 
 def of_due_replaces():
@@ -139,7 +152,10 @@ def of_due_replaces():
             "# - as many records as make a replace due, and then an opening, from which the count begins",
             line("cursors create", DUE, "cursors open 10; cursors append one:s:1; read c0 8 1; read c1 8 1"), "",
             "# - the snapshot byte by byte, where the append behind it fails",
-            line(made, "fail 7; cursors append one:s:1; cursors kept; read c1 0 53"), ""]
+            line(made, "fail 7; cursors append one:s:1; cursors kept; read c1 0 53"), "",
+            "# - a trim counts as one record, replaces nothing, and is the first record of a snapshot",
+            *(line("cursors create; cursors append made:s:1", f"cursors append {count}*one:s:2; cursors trim 1 1; read c1 8 1; cursors append one:s:4",
+                   "read c1 0 66; cursors begin; cursors from 10; cursors start") for count in (4_093, 4_094, 4_095)), ""]
 
 
 def of_catalogs():
@@ -227,10 +243,46 @@ def of_records():
     last = header(LAST_GENERATION, 1)[:7] + b"\x09" + header(LAST_GENERATION, 1)[8:] + b"\0"
     pairs = [(log_of(*bodies), one) for one in (version, log_of(), last) for bodies in ((MADE_S_BODY, b"\7"), (MADE_S_BODY,))]
     pairs.append((last, bytes(17)))
-    return ["# - bodies of records behind one that makes a subscription", *(line(lay("c0", log_of(MADE_S_BODY, it)), "cursors open 10") for it in
+    return [*of_trim_bodies(), "# - bodies of records behind one that makes a subscription", *(line(lay("c0", log_of(MADE_S_BODY, it)), "cursors open 10") for it in
                                                                           [*bad, *good]), "",
             "# - which fault of slots with records is told", *(line(lay("c0", it), lay("c1", bytes(17)), "cursors open 10") for it in slots),
             *(line(lay("c0", zero), lay("c1", one), "cursors open 10") for zero, one in pairs), ""]
+
+
+STEPS_BESIDE_10 = "cursors begin; cursors from 10; cursors start; cursors open 10"
+
+
+def of_trim_bodies():
+    """Bodies behind one that makes s at 4 and one by which the ledger begins at 2, and what begins it where a fault shows only beside the ledger."""
+    s, t = b"s", b"t"
+    front = [b"\0" + record_bytes(MADE, s, 4), b"\0" + trim_bytes(2, 3)]
+    good = [trim_bytes(2, 3), trim_bytes(4, 3), trim_bytes(3, 0), trim_bytes(2, LAST_FIRST), record_bytes(REMOVED, s) + trim_bytes(10, 4),
+            record_bytes(THROUGH, s, 9) + trim_bytes(10, 4), trim_bytes(3, 5) + record_bytes(MADE, t, 3), record_bytes(MADE, t, 2), b""]
+    bad = [trim_bytes(1, 3), trim_bytes(0, 0), trim_bytes(5, 4), trim_bytes(2, LAST_FIRST + 1), trim_bytes(2, 2**64 - 1), trim_bytes(2, 3)[:-1], b"\6",
+           trim_bytes(2, 3) + b"\0", trim_bytes(3, 4) + b"\7", record_bytes(MADE, t, 1), trim_bytes(3, 4) + record_bytes(MADE, t, 2),
+           record_bytes(MADE, t, 2) + trim_bytes(3, 4), record_bytes(REMOVED, s) + record_bytes(MADE, s, 1), record_bytes(ONE, s, 5) + trim_bytes(5, 4),
+           record_bytes(REMOVED, s) + trim_bytes(2**62 + 1, 4)]
+    beside = [record_bytes(THROUGH, s, 10) + trim_bytes(11, 4), record_bytes(REMOVED, s) + trim_bytes(11, 4), record_bytes(ONE, s, 10) + trim_bytes(3, 4),
+              record_bytes(REMOVED, s) + trim_bytes(2**62, 4), record_bytes(MADE, t, 2**62) + trim_bytes(4, LAST_FIRST)]
+    lines = []
+    for what, items in (("a trim or none", good), ("what can't stand there", bad), ("what can't stand there beside the ledger", beside)):
+        files = [log_of(*front, b"\0" + it, end=end) for it in items for end in ((b"\0",) if items is good else (b"\0", b"\1"))]
+        lines += [f"# - behind a trim {what}, and where the ledger begins then", *(line(lay("c0", it), STEPS_BESIDE_10) for it in files),
+                  *(line(lay("c0", log_of(*front, b"\0" + it, b"\0" + trim_bytes(4, 9))), STEPS_BESIDE_10) for it in items), ""]
+    whole = log_of(*front)
+    return [*lines, "# - a trim in a file that is changed, and cut at each length", *changed({"c0": whole}, "c0", STEPS_BESIDE_10), "",
+            "# - headers of slots with trims", *of_trim_headers(front), ""]
+
+
+def of_trim_headers(front):
+    """Each kind of header of slot 0 beside each kind of slot 1, of a lower, an equal and a higher generation."""
+
+    def kinds(generation, first):
+        bodies = front[0], b"\0" + trim_bytes(2, first)
+        whole, last = log_of(*bodies, number=generation), log_of(*bodies, number=LAST_GENERATION)
+        return [whole, whole[:15], b"\0" + whole[1:], whole[:1] + b"\0" + whole[2:], whole[:7] + b"\2" + whole[8:], last, log_of(*bodies, b"\7", number=generation)]
+
+    return [line(lay("c0", zero), lay("c1", one), STEPS_BESIDE_10) for zero in kinds(3, 5) for generation in (2, 3, 4) for one in kinds(generation, 6)]
 
 
 # Headers of slots

@@ -19,7 +19,7 @@ from table import Table
 LOG = "e12"
 LONG = b"-" * 256
 STORES = ("log", "journal", "slots", "ledger", "cursors", "catalog")
-MAKING = ("create", "open", "behind", "from", "head", "some", "count", "limit")  # steps that need no store
+MAKING = ("create", "open", "behind", "begin", "from", "head", "some", "count", "limit")  # steps that need no store
 
 
 def content_of(word):
@@ -66,7 +66,7 @@ class Steps:
 
     def __init__(self):
         self.device, self.taken, self.kept = Device(), Taken(), Kept()
-        self.log = self.journal = self.slots = self.ledger = self.cursors = self.catalog = self.other = self.head = None
+        self.log = self.journal = self.slots = self.ledger = self.cursors = self.catalog = self.other = self.head = self.slot_heads = None
 
     def step(self, step):
         """The answer of a step, which is `ok` where its method has none."""
@@ -325,19 +325,35 @@ class Steps:
 
     def cursors_open(self, entries):
         self.cursors = CursorStore.open(self.device, int(entries))
-        return f"ok {self.cursors.kept.told_all()}"
+        return f"ok {self.cursors_kept()}"
+
+    def cursors_begin(self):
+        self.slot_heads, start = CursorStore.begin(self.device)
+        return told_start(start)
+
+    def cursors_from(self, entries):
+        if self.slot_heads is None:
+            return "none"
+        self.cursors = CursorStore.open_from(self.device, self.slot_heads, int(entries))
+        return f"ok {self.cursors_kept()}"
 
     def cursors_append(self, *words):
         return "ok" if self.cursors.append(self.device, records_of(words)) else "no"
 
+    def cursors_trim(self, base, first, *words):
+        return "ok" if self.cursors.trim(self.device, (int(base), int(first)), records_of(words)) else "no"
+
+    def cursors_start(self):
+        return told_start(self.cursors.told.start)
+
     def cursors_formed(self, entries, word):
-        return yes(self.cursors.kept.is_formed(int(entries), *record_of(word)))
+        return yes(self.cursors.told.kept.is_formed(int(entries), *record_of(word)))
 
     def cursors_kept(self):
-        return self.cursors.kept.told_all()
+        return self.cursors.told.kept.told_all()
 
     def cursors_state(self):
-        return f"topic {TOPIC}, {len(self.cursors.kept.acked)}, {standing(self.cursors.slots.failed)}"
+        return f"topic {TOPIC}, {len(self.cursors.told.kept.acked)}, {standing(self.cursors.slots.failed)}"
 
     # What records make
 

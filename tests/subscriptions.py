@@ -259,7 +259,7 @@ class Subscription:
 
 class Topic:
     def __init__(self):
-        self.subs, self.changes, self.slots, self.committed = [], [], [], 0
+        self.subs, self.changes, self.slots, self.first, self.committed = [], [], [], 0, 0
 
     def named(self, name):
         return next((sub for sub in self.subs if sub.name == name), None)
@@ -282,7 +282,7 @@ class Topic:
         refusal = self.refusal(name, mode, ranges)
         if refusal == "None":
             if not self.named(name):
-                start = self.committed if initial == "Latest" else 0
+                start = self.committed if initial == "Latest" else self.first
                 self.subs.append(Subscription(name, start))
                 self.changes.append(f"made {name} {start}")
             self.named(name).attach(mode, Consumer(key, ranges))

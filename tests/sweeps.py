@@ -75,7 +75,7 @@ def changed_is_found(said):
 
 def made_or_not(said):
     """A topic that was told is there, and one that was refused is there or isn't; the other one stays, and the next search settles it."""
-    told = [re.findall(r"^T +(\d+) +(\d+) +1 (\S+)$", lines, re.M) for lines in re.split(r"^\d+ .*\n", said, flags=re.M) if lines]
+    told = [re.findall(r"^T +(\d+) +(\d+) +0 +1 (\S+)$", lines, re.M) for lines in re.split(r"^\d+ .*\n", said, flags=re.M) if lines]
     if len(told) != 3:
         return "it was not opened"
     first = ("0", "1", "persistent://a/b/c") if RECEIPT in said else told[1][0]
@@ -129,6 +129,33 @@ def acknowledged_or_not(said):
     return "an answered acknowledgement is lost" if said.count(ACK_RESPONSE) == 2 and left != ["4096"] else None
 
 
+# Three messages in ledgers of two, and a subscription that has acknowledged none; then it has acknowledged both of the first segment, and that one is given
+# back in the same flush.
+TRIMS_BEGIN = BEGIN + SUBSCRIBE + "flush 0\n" + send(0) + send(1) + "flush 0\n" + send(2) + END
+TRIMS = "bytes 0 0000001400000010080a520c080210011a04080010014009\n" + END
+
+# The same, where the next message comes with the acknowledgement, and rolls to a third segment, and the slot of the subscription has so many records that it is
+# written anew first.
+ROLLS_BEGIN = BEGIN + SUBSCRIBE + "flush 0\n" + sends(0, 2) + "flush 0\n" + sends(2, 4) + "flush 0\n" + acknowledge([0] * 4095) + END
+ROLLS = "bytes 0 0000001400000010080a520c080210011a04080010014009\n" + send(4) + END
+
+
+def trimmed_or_not(said):
+    """Each entry is there, but those of the first segment where they are acknowledged; which they are where that was answered."""
+    left = re.findall(r"^T    0 +3 +(\d+) +(\d+) \S+\nS    0 +(\d+) +0 s$", said, re.M)
+    if left not in ([("0", "2", "0")], [("0", "2", "2")], [("2", "1", "2")]):
+        return "it has another state than before, behind the acknowledgement and behind the trim"
+    return "an answered acknowledgement is lost" if said.count(ACK_RESPONSE) == 1 and left != [("2", "1", "2")] else None
+
+
+def rolled_and_trimmed_or_not(said):
+    """The same of a flush with an entry: that is there before the acknowledgement is, and this before the trim is."""
+    left = re.findall(r"^T    0 +(\d+) +(\d+) +(\d+) \S+\nS    0 +(\d+) +0 s$", said, re.M)
+    if left not in ([("4", "0", "2", "1")], [("4", "0", "3", "1")], [("5", "0", "3", "1")], [("5", "0", "3", "2")], [("5", "2", "2", "2")]):
+        return "it has another state than before and behind each part of the flush"
+    return "an answered acknowledgement is lost" if said.count(ACK_RESPONSE) == 2 and left != [("5", "2", "2", "2")] else None
+
+
 # What is done, what is done after the crash, the judge, up to which call, and the forms of crash behind a stop. A single failure is followed by `old`.
 SWEEPS = {
     "receipted": (SENDS, "status\n", receipted_is_found, 20, ("old", "new", "fill 01", "fill 07")),
@@ -138,10 +165,12 @@ SWEEPS = {
     "made": (MAKES, MAKES_AGAIN, made_or_not, 22, ("old", "new", "fill 01", "fill 07")),
     "changed": (CHANGES, "status\n", changed_is_found, 13, ("old", "new", "fill 01", "fill 07")),
     "replaced": (REPLACES, "status\n", acknowledged_or_not, 11, ("old", "new", "fill 01", "fill 07")),
+    "trimmed": (TRIMS, "status\n", trimmed_or_not, 11, ("old", "new", "fill 01", "fill 07")),
+    "rolled_replaced_and_trimmed": (ROLLS, "status\n", rolled_and_trimmed_or_not, 30, ("old", "new", "fill 01", "fill 07")),
 }
 
 # What is done before the failure is ordered.
-BEGINNINGS = {"replaced": REPLACES_BEGIN}
+BEGINNINGS = {"replaced": REPLACES_BEGIN, "trimmed": TRIMS_BEGIN, "rolled_replaced_and_trimmed": ROLLS_BEGIN}
 
 
 def scripts():

@@ -65,6 +65,10 @@ class Subscription:
         self.kept.update(positions)
         self.kept_through = max(self.kept_through, through)
 
+    def forget_below(self, base):
+        """Nothing before this position is asked for any more."""
+        self.asked, self.kept = ({it for it in some if it >= base} for some in (self.asked, self.kept))
+
 
 class Topic:
     """What was told of a topic: receipts, messages, subscriptions."""
@@ -73,6 +77,7 @@ class Topic:
         self.name, self.is_told = name, False
         self.sent, self.authors, self.places, self.subscriptions = {}, {}, {}, {}
         self.receipts, self.messages, self.acknowledgements = 0, 0, 0
+        self.base = 0  # the entries before it were given back
         self.end = 0  # all receipts are below
 
     def wrong(self, what):
@@ -106,6 +111,8 @@ class Topic:
             raise self.wrong(f"position {position} has message {sequence} of {producer.decode(errors='replace')} on {topic}")
         if sequence >= self.sent.get(producer, 0):
             raise self.wrong(f"position {position} has message {sequence} of {producer.decode(errors='replace')}, which wasn't sent")
+        if position < self.base:
+            raise self.wrong(f"position {position} came, though the entries before position {self.base} were given back")
         if entry != entry_for(topic, producer, sequence):
             raise self.wrong(f"position {position} has message {sequence} of {producer.decode()} with other bytes than were sent")
         self.stands(producer, sequence, position)
@@ -119,21 +126,37 @@ class Topic:
         if place != position:
             raise self.wrong(f"message {sequence} of {producer.decode()} stands at position {position}, and stood at {place}")
 
+    def give_back(self, base):
+        """The entries before this position are gone: on no subscription that is there may one be that nobody acknowledged. They are forgotten here, too."""
+        if base < self.base:
+            raise self.wrong(f"the entries from position {base} on are there, and those before position {self.base} were given back")
+        for name, subscription in self.subscriptions.items():
+            if subscription.is_told and not subscription.is_to_go:
+                lacking = [it for it in range(self.base, base) if it in self.authors and subscription.must_have(it, self.authors[it])]
+                if lacking:
+                    raise self.wrong(f"the entries before position {base} were given back, though nobody acknowledged {lacking[:5]} on {name}")
+        for position in range(self.base, base):
+            self.places.pop(self.authors.pop(position, None), None)
+        for subscription in self.subscriptions.values():
+            subscription.forget_below(base)
+        self.base = base
+
     def must_be_all(self, entries):
-        """All entries were read, from the first one on: they must have all receipts, and of each producer a front of what it sent, in order."""
+        """All entries were read, from the first one that is there: they must have all receipts, and of each producer a front of what it sent, in order, but
+        what was given back."""
         if entries < self.end:
             raise self.wrong(f"there are {entries} entries, and a receipt for position {self.end - 1}")
         heard = {}
-        for position in range(entries):
+        for position in range(self.base, entries):
             producer, sequence = self.authors[position]
-            if sequence != heard.get(producer, 0):
+            if sequence != heard.get(producer, sequence if self.base else 0):
                 raise self.wrong(f"position {position} has message {sequence} of {producer.decode()} behind its message {heard.get(producer, 0) - 1}")
             heard[producer] = sequence + 1
 
     def must_have_come(self, name, came, entries):
         """These positions came on a subscription after a start: all that nobody acknowledged, and none of an answered acknowledgement."""
         subscription = self.subscriptions[name]
-        for position in range(entries):
+        for position in range(self.base, entries):
             if position in came:
                 if subscription.is_kept(position):
                     raise self.wrong(f"position {position} came on {name} again, though its acknowledgement was answered")
@@ -148,11 +171,12 @@ class Topic:
             if self.is_told:
                 raise self.wrong("inspect doesn't list the topic, though a PRODUCER or a SUBSCRIBE of it was answered")
             return
-        entries, marks = found
+        entries, marks = found.entries, found.marks
         if entries < self.end:
             raise self.wrong(f"inspect says {entries} entries, and there was a receipt for position {self.end - 1}")
         for name, subscription in self.subscriptions.items():
             self.must_stand(name, subscription, marks.get(name), entries)
+        self.give_back(found.base)
         unknown = set(marks) - set(self.subscriptions)
         if unknown:
             raise self.wrong(f"inspect lists subscriptions that nobody made: {sorted(unknown)}")
@@ -166,6 +190,6 @@ class Topic:
             raise self.wrong(f"inspect lists {name}, though its UNSUBSCRIBE was answered")
         if subscription.is_kept(mark):
             raise self.wrong(f"{name} has mark-delete {mark}, which is acknowledged for good")
-        early = [it for it in range(min(mark, entries)) if it in self.authors and subscription.must_have(it, self.authors[it])]
+        early = [it for it in range(self.base, min(mark, entries)) if it in self.authors and subscription.must_have(it, self.authors[it])]
         if mark > entries or early:
             raise self.wrong(f"{name} has mark-delete {mark}, of {entries} entries, and nobody acknowledged {early[:5]}")

@@ -9,9 +9,10 @@ use std::io::Write;
 use subscriptions::SubscriptionStatus;
 
 /// Writes the line of each topic, and behind it those of its subscriptions, in the order of the slices. Our own rule: `T`,
-/// the topic's number in 4 places, its entries in 10, its segment files in 6, and its name; `S`, the topic's number in 4
-/// places, the mark-delete position in 10, the ranges after it in 6, and the subscription's name; one space apart, and a
-/// line feed. A number stands right in its places, behind spaces; a wider one takes more.
+/// the topic's number in 4 places, its entries in 10, the position of the first one that is still there in 10, the segment
+/// files from there on in 6, and its name; `S`, the topic's number in 4 places, the mark-delete position in 10, the ranges
+/// after it in 6, and the subscription's name; one space apart, and a line feed. A number stands right in its places, behind
+/// spaces; a wider one takes more.
 ///
 /// A fault of the writer is handed on, and how much went out isn't said.
 pub fn print_status<W: Write>(statuses: &[TopicStatus], writer: &mut W) -> io::Result<()>
@@ -38,11 +39,14 @@ pub fn print_topic<W: Write>(status: &TopicStatus, writer: &mut W) -> io::Result
 
 #[tactic(auto, using(crate::proofs::Padding::right_in_is))]
 fn print_topic_line<W: Write>(status: &TopicStatus, writer: &mut W) -> io::Result<()>
-    ensures { OnOk result (Appends (W.contents writer.old) (W.contents writer.new) (topic_line status.now.number status.now.entries status.now.segments status.now.name)) }
+    ensures { OnOk result (Appends (W.contents writer.old) (W.contents writer.new) (topic_line status.now.number status.now.entries status.now.base status.now.segments status.now.name)) }
 {
-    let name = status.name.as_str();
-    let (number, entries, segments) = (status.number, status.entries, status.segments);
-    writeln!(writer, "T {number:>4} {entries:>10} {segments:>6} {name}")
+    let (number, name) = (status.number, status.name.as_str());
+    let (entries, base, segments) = (status.entries, status.base, status.segments);
+    writeln!(
+        writer,
+        "T {number:>4} {entries:>10} {base:>10} {segments:>6} {name}"
+    )
 }
 
 #[tactic(auto, using(crate::proofs::Padding::right_in_is))]

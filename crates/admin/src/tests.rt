@@ -25,6 +25,7 @@ fn topic(alloc: Global, number: u64, name: &str) -> Result<TopicStatus, Fail> {
         number,
         name: TopicName::read(alloc, name.as_bytes())?,
         entries: number.wrapping_mul(7),
+        base: number.wrapping_mul(3),
         segments: 1,
         subscriptions,
     })
@@ -38,10 +39,10 @@ fn lines_stand_in_their_places(rt: HostRuntime) -> Result<(), Fail> {
     let mut lines = Vec::new(rt.alloc());
     print_status(topics.as_slice(), &mut lines)?;
     let wanted = concat!(
-        "T    0          0      1 persistent://a/b/c\n",
+        "T    0          0          0      1 persistent://a/b/c\n",
         "S    0          0      0 a\n",
         "S    0 12345678901 1234567 my-sub_0.b\n",
-        "T 1844674407370955161 12912720851596686127      1 persistent://a/b/d\n",
+        "T 1844674407370955161 12912720851596686127 5534023222112865483      1 persistent://a/b/d\n",
         "S 1844674407370955161          0      0 a\n",
         "S 1844674407370955161 12345678901 1234567 my-sub_0.b\n",
     );
@@ -98,7 +99,7 @@ fn a_fault_of_the_writer_is_handed_on(rt: HostRuntime) -> Result<(), Fail> {
     topics.push(topic(rt.alloc(), 0, "persistent://a/b/c")?)?;
     let mut writer = failing_at(0);
     print_status(topics.as_slice(), &mut writer)?;
-    assert_eq!(rt; writer.taken, 109);
+    assert_eq!(rt; writer.taken, 120);
     for fails_at in 1..10 {
         let mut writer = failing_at(fails_at);
         let why = print_status(topics.as_slice(), &mut writer)

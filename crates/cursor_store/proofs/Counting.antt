@@ -1,14 +1,14 @@
--- How many records stand behind a snapshot, or behind what was found.
-use Rattle.std.proofs.Common.{◌≡◌, ℕ, ◌+◌, ◌<◌, ◌≤◌, Bool, true, false, ◌&&◌, nat_le, min, List, [], ◌∷◌, ◌++◌, length, inl, inr, refl, sym, ◌∙◌, ap, subst, arith, append-nil, append_assoc}
-use Rattle.std.specs.Prelude.{sum_by, map as each}
+-- How many items stand behind a snapshot, or behind what was found.
+use Rattle.std.proofs.Common.{◌≡◌, ℕ, ◌+◌, ◌<◌, Bool, true, false, ◌&&◌, nat_le, min, List, [], ◌∷◌, ◌++◌, length, inl, inr, refl, sym, ◌∙◌, ap, arith, append-nil, append_assoc}
+use Rattle.std.specs.Prelude.{map as each}
 use Rattle.std.proofs.lemmas.Bool.{cases_lt}
 use Rattle.std.proofs.lemmas.Bool.Decides.{nat_tests}
 use Rattle.std.proofs.lemmas.List.{map-append}
 use Rattle.std.proofs.lemmas.List.Sums.{sum_by_push}
 use Rattle.gated_log.specs.Batches.{Bodies}
-use Rattle.records.specs.declared.record.Record.{Record}
-use Rattle.records.specs.Maps.{Kept}
-use Rattle.records.specs.Bytes.{body_of}
+use Rattle.cursor_store.specs.declared.told.Told.{Told}
+use Rattle.cursor_store.specs.declared.item.Item.{Item}
+use Rattle.cursor_store.specs.ItemBytes.{body_of_items}
 use Rattle.cursor_store.specs.Behind.{is_due_at, counted_on, AreBehind, AreGrown, StayFew}
 
 -- nothing is behind what is found
@@ -16,23 +16,23 @@ pub none_behind : (bodies : Bodies) → AreBehind bodies bodies 0 0
 none_behind bodies = record { batches = []; are = sym (append-nil bodies); counted = refl; few = omega (arith) }
 
 -- one batch is behind a snapshot
-one_behind : (base new : Bodies) (records : List Record) → new ≡ base ++ body_of records ∷ [] → AreBehind base new (min 4096 (length records)) (length records)
-one_behind base new records grown = record {
-  batches = records ∷ [];
+one_behind : (base new : Bodies) (items : List Item) → new ≡ base ++ body_of_items items ∷ [] → AreBehind base new (min 4096 (length items)) (length items)
+one_behind base new items grown = record {
+  batches = items ∷ [];
   are = grown;
   counted = omega (arith);
   few = omega (arith);
 }
 
 -- one more is behind those that were counted
-more_behind : (base old next new : Bodies) (count last : ℕ) (records : List Record) → AreBehind base old count last → next ≡ old → new ≡ next ++ body_of records ∷ [] → count < 4096 → AreBehind base new (min 4096 (count + length records)) (length records)
-more_behind base old next new count last records behind same grown low =
+more_behind : (base old next new : Bodies) (count last : ℕ) (items : List Item) → AreBehind base old count last → next ≡ old → new ≡ next ++ body_of_items items ∷ [] → count < 4096 → AreBehind base new (min 4096 (count + length items)) (length items)
+more_behind base old next new count last items behind same grown low =
     let batches = behind.batches in
-    let all = sum_by_push length batches records in
+    let all = sum_by_push length batches items in
     record {
-      batches = batches ++ records ∷ [];
-      are = grown ∙ ap (λ (b : Bodies). b ++ body_of records ∷ []) (same ∙ behind.are) ∙ append_assoc base (each body_of batches) (body_of records ∷ [])
-          ∙ ap (λ (b : Bodies). base ++ b) (sym (map-append body_of batches (records ∷ [])));
+      batches = batches ++ items ∷ [];
+      are = grown ∙ ap (λ (b : Bodies). b ++ body_of_items items ∷ []) (same ∙ behind.are) ∙ append_assoc base (each body_of_items batches) (body_of_items items ∷ [])
+          ∙ ap (λ (b : Bodies). base ++ b) (sym (map-append body_of_items batches (items ∷ [])));
       counted = omega (arith, behind.counted, all, low);
       few = omega (arith, behind.counted, all, low);
     }
@@ -47,12 +47,25 @@ is_low count not = elim (cases_lt count 4096) [
   | inr high ↦ let t : nat_le 4096 count ≡ true = grind (arith, nat_tests) in absurd (not_both (nat_le 4096 count) t not)
 ]
 
-by_due : (due : Bool) (entries : ℕ) (kept : Kept) (base old new : Bodies) (count last : ℕ) (records : List Record) → AreBehind base old count last → (due ≡ false → count < 4096) → AreGrown due entries kept old new records
-    → StayFew due entries kept base new (counted_on due count (length records)) (length records)
-by_due true entries kept base old new count last records behind low grown = record { next = grown.base; is_next = grown.is_base; behind = one_behind grown.base new records grown.grown }
-by_due false entries kept base old new count last records behind low grown = record { next = base; is_next = refl; behind = more_behind base old grown.base new count last records behind grown.is_base grown.grown (low refl) }
+by_due : (due : Bool) (entries : ℕ) (told : Told) (base old new : Bodies) (count last : ℕ) (items : List Item) → AreBehind base old count last → (due ≡ false → count < 4096) → AreGrown due entries told old new items
+    → StayFew due entries told base new (counted_on due count (length items)) (length items)
+by_due true entries told base old new count last items behind low grown = record { next = grown.base; is_next = grown.is_base; behind = one_behind grown.base new items grown.grown }
+by_due false entries told base old new count last items behind low grown = record { next = base; is_next = refl; behind = more_behind base old grown.base new count last items behind grown.is_base grown.grown (low refl) }
 
-pub few_stay : (entries : ℕ) (kept : Kept) (base old new : Bodies) (count last : ℕ) (can : Bool) (records : List Record) → AreBehind base old count last → AreGrown (is_due_at count can) entries kept old new records → can ≡ true
-    → StayFew (is_due_at count can) entries kept base new (counted_on (is_due_at count can) count (length records)) (length records)
-few_stay entries kept base old new count last false records behind grown is = cc
-few_stay entries kept base old new count last true records behind grown is = by_due (nat_le 4096 count && true) entries kept base old new count last records behind (λ not. is_low count not) grown
+pub few_stay : (entries : ℕ) (told : Told) (base old new : Bodies) (count last : ℕ) (can : Bool) (items : List Item) → AreBehind base old count last → AreGrown (is_due_at count can) entries told old new items → can ≡ true
+    → StayFew (is_due_at count can) entries told base new (counted_on (is_due_at count can) count (length items)) (length items)
+few_stay entries told base old new count last false items behind grown is = cc
+few_stay entries told base old new count last true items behind grown is = by_due (nat_le 4096 count && true) entries told base old new count last items behind (λ not. is_low count not) grown
+
+-- a trim adds one, whatever is counted
+pub one_trimmed : (base old new : Bodies) (count last : ℕ) (item : Item) → AreBehind base old count last → new ≡ old ++ body_of_items (item ∷ []) ∷ [] → AreBehind base new (counted_on false count 1) (last + 1)
+one_trimmed base old new count last item behind grown =
+    let batches = behind.batches in
+    let all = sum_by_push length batches (item ∷ []) in
+    record {
+      batches = batches ++ (item ∷ []) ∷ [];
+      are = grown ∙ ap (λ (b : Bodies). b ++ body_of_items (item ∷ []) ∷ []) behind.are ∙ append_assoc base (each body_of_items batches) (body_of_items (item ∷ []) ∷ [])
+          ∙ ap (λ (b : Bodies). base ++ b) (sym (map-append body_of_items batches ((item ∷ []) ∷ [])));
+      counted = omega (arith, behind.counted, all);
+      few = omega (arith, behind.few, all);
+    }

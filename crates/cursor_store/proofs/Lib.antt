@@ -1,5 +1,10 @@
 mod Appending
+mod Begins
+mod Changes
 mod Counting
 mod Replacing
 mod Snapshots
 mod Taking
+mod ItemReading
+mod Trimming
+mod Passing

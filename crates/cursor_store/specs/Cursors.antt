@@ -1,6 +1,5 @@
 -- What a store of subscriptions remembers of its slots.
 use Rattle.std.specs.Prelude.{◌≡◌, ℕ, ◌+◌, ◌^◌, Bool, nat_lt, List, length}
-use Rattle.std.specs.FinMap as map
 use Rattle.disk.specs.Disk.{Image}
 use Rattle.gated_log.specs.Batches.{Bodies}
 use Rattle.gated_log.specs.Logs.{IsBatchOf}
@@ -9,9 +8,12 @@ use Rattle.two_slot.specs.TwoSlots.{Holds as SlotsHold, content as slots_content
 use Rattle.records.specs.declared.record.Record.{Record}
 use Rattle.records.specs.Maps.{Kept}
 use Rattle.records.specs.Records.{after_all}
-use Rattle.records.specs.Bytes.{body_of, Means}
+use Rattle.records.specs.Bytes.{body_of}
+use Rattle.gated_log.specs.declared.start.Start.{Start}
 use Rattle.cursor_store.specs.declared.cursor_store.CursorStore.{CursorStore}
 use Rattle.cursor_store.specs.declared.cursor_store.PreparedRecords.{PreparedRecords}
+use Rattle.cursor_store.specs.Items.{untold, told_of}
+use Rattle.cursor_store.specs.ItemBytes.{MeansItems}
 use Rattle.cursor_store.specs.Behind.{is_due_at}
 use Rattle.cursor_store.specs.Snapshots.{IsSnapshotIf}
 
@@ -23,28 +25,32 @@ topic_of store = slots_topic store.slots
 abbrev pub failed : CursorStore → Bool
 failed store = slots_failed store.slots
 
+-- where the ledger begins, as it remembers it
+abbrev pub start_of : CursorStore → Start
+start_of store = store.told.start
+
 -- the subscriptions that it remembers
 abbrev pub content : CursorStore → Kept
-content store = store.kept
+content store = store.told.kept
 
 -- the bodies in the slot that counts, as many as it remembers
 abbrev pub written : CursorStore → Image → Bodies
 written store image = slots_content store.slots image
 
--- the slots of the topic stand for bodies that mean these subscriptions, beside a ledger of so many entries
-pub record StandsFor (topic entries : ℕ) (image : Image) (kept : Kept) : Type 0 where
+-- The slots of the topic stand for bodies that tell where its ledger begins, and these subscriptions, beside a ledger of so many entries.
+pub record StandsFor (topic entries : ℕ) (start : Start) (image : Image) (kept : Kept) : Type 0 where
   pub bodies : Bodies
   pub stands : Stands topic image bodies
-  pub means : Means entries map.empty bodies kept
+  pub means : MeansItems entries untold bodies (told_of start kept)
 
 -- the store works, and its slots hold such bodies just as it remembers them
-pub record Holds (store : CursorStore) (entries : ℕ) (image : Image) (kept : Kept) : Type 0 where
+pub record Holds (store : CursorStore) (entries : ℕ) (start : Start) (image : Image) (kept : Kept) : Type 0 where
   pub bodies : Bodies
   pub slots : SlotsHold store.slots image bodies
-  pub means : Means entries map.empty bodies kept
-  pub same : store.kept ≡ kept
+  pub means : MeansItems entries untold bodies (told_of start kept)
+  pub same : store.told ≡ told_of start kept
 
--- how many records were appended since the slots were opened or replaced, but no more than 4,096
+-- how many records were appended since the slots were opened or replaced, but no more than 4,096; a trim is one
 abbrev pub counted : CursorStore → ℕ
 counted store = store.appended
 
@@ -60,5 +66,5 @@ is_due store = is_due_at (counted store) (can_replace store)
 pub record IsFor (store : CursorStore) (prepared : PreparedRecords) (records : List Record) : Type 0 where
   pub batch : IsBatchOf prepared.batch (body_of records)
   pub count : prepared.count ≡ length records
-  pub kept : prepared.kept ≡ after_all records store.kept
-  pub snapshot : IsSnapshotIf (is_due store) store.kept prepared.snapshot
+  pub kept : prepared.kept ≡ after_all records store.told.kept
+  pub snapshot : IsSnapshotIf (is_due store) store.told prepared.snapshot

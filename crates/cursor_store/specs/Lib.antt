@@ -4,3 +4,11 @@ pub mod Folded
 pub mod Laws
 pub mod Snapshots
 pub mod Replaced
+pub mod Items
+pub mod ItemBytes
+pub mod ItemSpelled
+pub mod ItemMeaning
+pub mod Fitting
+pub mod Trimming
+pub mod Fronts
+pub mod FrontLaws

@@ -1,24 +1,25 @@
 // The subscriptions of a topic in two slots.
 ghost use Rattle.std.specs.Prelude.{◌≤◌};
 
+use crate::Told;
 use gated_log::{PreparedBatch, PreparedLog};
 use records::KeptSubscriptions;
 use std::alloc::Global;
 use two_slot::TwoSlot;
 
-/// The durable subscriptions of a topic: their records in two slots, what these make, and how many records were appended since
-/// the slots were opened or replaced, but no more than 4,096.
+/// The durable subscriptions of a topic, and where its ledger begins: their records and the trims in two slots, what these
+/// tell, and how many of them were appended since the slots were opened or replaced, but no more than 4,096.
 #[derive(Drop)]
 pub struct CursorStore {
     pub(crate) alloc: Global,
     pub(crate) slots: TwoSlot,
-    pub(crate) kept: KeptSubscriptions,
+    pub(crate) told: Told,
     pub(crate) appended: u64,
     ghost few: { appended ≤ 4096 },
 }
 
 /// The batch of some records, how many they are, and what is kept after them; and where a replace goes first, a snapshot of what
-/// was kept before them. It shares with the store the cursors that no record names.
+/// was told before them. It shares with the store the cursors that no record names.
 #[derive(Drop)]
 pub struct PreparedRecords {
     pub(crate) batch: PreparedBatch,

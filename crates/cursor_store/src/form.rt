@@ -11,6 +11,6 @@ impl CursorStore {
     pub fn is_formed(&self, change: &Record, entries: u64) -> bool
         ensures { IsTrue result ↔ IsFormed entries (content self.now) change.now }
     {
-        self.kept.is_formed(change, entries)
+        self.told.kept.is_formed(change, entries)
     }
 }

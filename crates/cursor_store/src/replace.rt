@@ -3,8 +3,10 @@ ghost use Rattle.std.specs.Prelude.{◌≡◌, ◌+◌, ℕ, Bool, true, false, 
 ghost use Rattle.disk.specs.Disk.{Kept as Counted, Failed};
 ghost use Rattle.disk.specs.Contents.{Steady, Appends};
 ghost use Rattle.records.specs.Maps.{Kept};
+ghost use Rattle.gated_log.specs.declared.start.Start.{Start};
 ghost use Rattle.two_slot.specs.Slots.{SlotsOf};
 ghost use Rattle.cursor_store.specs.Cursors.{Holds, StandsFor, content, written, topic_of, failed, counted, is_due};
+ghost use Rattle.cursor_store.specs.Items.{told_of};
 ghost use Rattle.cursor_store.specs.Behind.{IsNextBase};
 ghost use Rattle.cursor_store.specs.Snapshots.{IsSnapshotIf};
 ghost use Rattle.cursor_store.specs.Replaced.{HasReplaced};
@@ -33,13 +35,13 @@ impl CursorStore {
         shelf: &mut S,
         snapshot: Option<PreparedLog>,
     ) -> Result<(), DeviceError>
-        // What is kept is kept at each moment of the call, and after a failure.
-        ensures replaces { (entries : ℕ) (kept : Kept) → IsSnapshotIf (is_due self.old) (content self.old) snapshot → Steady (Holds self.old entries) (written self.old) (S.disk shelf.old) kept →
-            Appends result (Steady (Holds self.new entries) (written self.new)) (λ c. content self.new) (SlotsOf (topic_of self.old)) (StandsFor (topic_of self.old) entries) (S.disk shelf.old) (S.disk shelf.new) kept kept }
-        ensures base { (entries : ℕ) (kept : Kept) → IsSnapshotIf (is_due self.old) (content self.old) snapshot → Steady (Holds self.old entries) (written self.old) (S.disk shelf.old) kept →
-            OnOk result (IsNextBase (is_due self.old) entries kept (written self.old (S.disk shelf.old).seen) (written self.new (S.disk shelf.new).seen)) }
-        ensures replaced { IsSnapshotIf (is_due self.old) (content self.old) snapshot → OnOk result (HasReplaced (is_due self.old) self.old self.new) }
-        ensures content { content self.new ≡ content self.old }
+        // What is told is told at each moment of the call, and after a failure.
+        ensures replaces { (entries : ℕ) (start : Start) (kept : Kept) → IsSnapshotIf (is_due self.old) self.old.told snapshot → Steady (Holds self.old entries start) (written self.old) (S.disk shelf.old) kept →
+            Appends result (Steady (Holds self.new entries start) (written self.new)) (λ c. content self.new) (SlotsOf (topic_of self.old)) (StandsFor (topic_of self.old) entries start) (S.disk shelf.old) (S.disk shelf.new) kept kept }
+        ensures base { (entries : ℕ) (start : Start) (kept : Kept) → IsSnapshotIf (is_due self.old) self.old.told snapshot → Steady (Holds self.old entries start) (written self.old) (S.disk shelf.old) kept →
+            OnOk result (IsNextBase (is_due self.old) entries (told_of start kept) (written self.old (S.disk shelf.old).seen) (written self.new (S.disk shelf.new).seen)) }
+        ensures replaced { IsSnapshotIf (is_due self.old) self.old.told snapshot → OnOk result (HasReplaced (is_due self.old) self.old self.new) }
+        ensures told { self.new.told ≡ self.old.told }
         ensures topic { topic_of self.new ≡ topic_of self.old }
         ensures works { OnOk result (failed self.new ≡ failed self.old) }
         ensures failed { IsErr result → failed self.new ≡ true }

@@ -1,18 +1,19 @@
-// What is kept is made anew from nothing.
+// What is told is told anew from nothing.
 ghost use Rattle.std.specs.Prelude.{◌≡◌, true, ℕ, IfOk, IsErrOf};
 ghost use Rattle.std.specs.FinMap as map;
 ghost use Rattle.records.specs.Maps.{Kept};
 ghost use Rattle.records.specs.Names.{is_subscription_name};
 ghost use Rattle.records.specs.Records.{IsNew};
-ghost use Rattle.records.specs.Within.{AreBelow, IsWithin};
-ghost use Rattle.cursor_store.specs.Cursors.{content};
+ghost use Rattle.records.specs.Within.{AreBelow};
+ghost use Rattle.gated_log.specs.declared.start.Start.{Start as Begins};
+ghost use Rattle.records.specs.Floors.{HasBelow};
+ghost use Rattle.cursor_store.specs.Items.{FitsLedger, told_of};
 ghost use Rattle.cursor_store.specs.Snapshots.{HasWritten, IsSnapshot, IsSnapshotIf};
 
-use crate::CursorStore;
 use crate::snapshot_writer::SnapshotWriter;
+use crate::{CursorStore, Told};
 use cursor::Cursor;
 use gated_log::{PrepareError, PreparedLog};
-use records::KeptSubscriptions;
 use std::alloc::Global;
 
 // Adds the records of a subscription: that it was made with all below its mark-delete position, and each range behind that.
@@ -22,8 +23,8 @@ fn add_cursor(
     cursor: &Cursor,
 ) -> Result<SnapshotWriter, PrepareError>
     requires { is_subscription_name name.now ≡ true }
-    ensures written { (entries : ℕ) (sofar : Kept) → HasWritten entries begun sofar → IsNew sofar name.now → AreBelow entries cursor.now →
-        IfOk result (λ writer. HasWritten entries writer (map.insert sofar name.now cursor.now)) }
+    ensures written { (entries : ℕ) (start : Begins) (sofar : Kept) → HasWritten entries begun (told_of start sofar) → IsNew sofar name.now → AreBelow entries cursor.now → HasBelow start.base cursor.now →
+        IfOk result (λ writer. HasWritten entries writer (told_of start (map.insert sofar name.now cursor.now))) }
     ensures fits { ¬ IsErrOf result PrepareError.TooLarge }
 {
     let mut next = cursor.mark_delete();
@@ -36,17 +37,14 @@ fn add_cursor(
     Ok(writer)
 }
 
-// The bodies of records that make these subscriptions from nothing, each as long as it may be: one that the next record would
-// make longer than a body may be ends before it.
-pub(crate) fn snapshot_of(
-    alloc: Global,
-    kept: &KeptSubscriptions,
-) -> Result<PreparedLog, PrepareError>
-    ensures made { (entries : ℕ) → IsWithin entries kept.now → IfOk result (λ log. IsSnapshot entries log kept.now) }
+// The bodies of items that tell this from nothing, each as long as it may be: one that the next record would make longer than a
+// body may be ends before it. Unless the ledger begins at its first entry, a trim goes first.
+pub(crate) fn snapshot_of(alloc: Global, told: &Told) -> Result<PreparedLog, PrepareError>
+    ensures made { (entries : ℕ) → FitsLedger entries told.now → IfOk result (λ log. IsSnapshot entries log told.now) }
     ensures fits { ¬ IsErrOf result PrepareError.TooLarge }
 {
-    let mut writer = SnapshotWriter::new(alloc)?;
-    for (name, shared) in kept.iter() {
+    let mut writer = SnapshotWriter::new(alloc, told.start)?;
+    for (name, shared) in told.kept.iter() {
         let more = add_cursor(writer, name.as_str(), shared.as_cursor())?;
         writer = more;
     }
@@ -57,24 +55,24 @@ pub(crate) fn snapshot_of(
 pub(crate) fn snapshot_if(
     due: bool,
     alloc: Global,
-    kept: &KeptSubscriptions,
+    told: &Told,
 ) -> Result<Option<PreparedLog>, PrepareError>
-    ensures made { IfOk result (λ snapshot. IsSnapshotIf due kept.now snapshot) }
+    ensures made { IfOk result (λ snapshot. IsSnapshotIf due told.now snapshot) }
     ensures fits { ¬ IsErrOf result PrepareError.TooLarge }
 {
     if !due {
         return Ok(None);
     }
-    let snapshot = snapshot_of(alloc, kept)?;
+    let snapshot = snapshot_of(alloc, told)?;
     Ok(Some(snapshot))
 }
 
 impl CursorStore {
-    /// What a replace writes: bodies of records that make what is kept from nothing, of at most 33,554,432 bytes each.
+    /// What a replace writes: bodies of items that tell from nothing what is told, of at most 33,554,432 bytes each.
     pub fn snapshot(&self) -> Result<PreparedLog, PrepareError>
-        ensures made { (entries : ℕ) → IsWithin entries (content self.now) → IfOk result (λ log. IsSnapshot entries log (content self.now)) }
+        ensures made { (entries : ℕ) → FitsLedger entries self.now.told → IfOk result (λ log. IsSnapshot entries log self.now.told) }
         ensures fits { ¬ IsErrOf result PrepareError.TooLarge }
     {
-        snapshot_of(self.alloc, &self.kept)
+        snapshot_of(self.alloc, &self.told)
     }
 }

@@ -13,3 +13,4 @@ pub mod Folds
 pub mod OneFault
 pub mod Torn
 pub mod Wholes
+pub mod Starts

@@ -25,6 +25,7 @@ mod read_at;
 mod read_error;
 mod reader;
 mod refusal;
+mod start;
 
 pub use batch_list::BatchList;
 pub use builder::BatchBuilder;
@@ -43,4 +44,6 @@ pub use prepare_error::PrepareError;
 pub use prepared::{MAX_BODY, PreparedBatch};
 pub use prepared_log::{LogBuilder, PreparedLog};
 pub use read_error::ReadError;
+pub use reader::LogReader;
 pub use refusal::Refusal;
+pub use start::{Start, UNTRIMMED};

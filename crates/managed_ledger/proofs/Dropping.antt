@@ -10,7 +10,7 @@ use Rattle.journal.specs.Journals as journals
 use Rattle.journal.specs.Links as links
 use Rattle.managed_ledger.specs.declared.managed_ledger.ManagedLedger.{ManagedLedger}
 use Rattle.managed_ledger.specs.declared.segment_index.SegmentIndex.{SegmentIndex}
-use Rattle.managed_ledger.specs.declared.start.Start.{Start}
+use Rattle.gated_log.specs.declared.start.Start.{Start}
 use Rattle.managed_ledger.specs.Behind.{few_before, many_before, rest_index, rest_few, rest_stands}
 use Rattle.managed_ledger.specs.Entries.{Ledger, Stands, trimmed}
 use Rattle.managed_ledger.specs.Ledgers.{Holds, IndexHolds, ledger_topic, start_of, counts_of}

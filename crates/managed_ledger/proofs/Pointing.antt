@@ -3,7 +3,7 @@ use Rattle.std.proofs.Common.{◌≡◌, inl, inr, ℕ, zero, suc, ◌+◌, ◌<
 use Rattle.std.proofs.lemmas.Bool.{cases_lt}
 use Rattle.std.proofs.lemmas.List.{take-append-le, length-map}
 use Rattle.managed_ledger.specs.declared.segment_index.SegmentIndex.{SegmentIndex}
-use Rattle.managed_ledger.specs.declared.start.Start.{Start}
+use Rattle.gated_log.specs.declared.start.Start.{Start}
 use Rattle.managed_ledger.specs.Points.{IsTrimPoint, LastBelow, IsLastBelow, counts_with}
 use Rattle.managed_ledger.specs.Shape.{total, starts_from, start_at, firsts_of, sizes_of, AreInOrder}
 use Rattle.managed_ledger.specs.Totals.{counts_rolled, counts_grown, is_full, not_full}

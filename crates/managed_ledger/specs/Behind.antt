@@ -7,7 +7,7 @@ use Rattle.journal.specs.Chains as chains
 use Rattle.journal.specs.Links as links
 use Rattle.managed_ledger.specs.declared.managed_ledger.ManagedLedger.{ManagedLedger}
 use Rattle.managed_ledger.specs.declared.segment_index.SegmentIndex.{SegmentIndex}
-use Rattle.managed_ledger.specs.declared.start.Start.{Start}
+use Rattle.gated_log.specs.declared.start.Start.{Start}
 use Rattle.managed_ledger.specs.Entries.{Entries, Ledger, Stands, end_of, trimmed}
 use Rattle.managed_ledger.specs.Ledgers.{SegmentHolds, ClosedHold, IndexHolds, Holds, ledger_topic, start_of, counts_of}
 use Rattle.managed_ledger.specs.Places.{found_length}

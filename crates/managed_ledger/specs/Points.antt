@@ -1,6 +1,6 @@
 -- Where a ledger may begin once its first segments are gone.
 use Rattle.std.specs.Prelude.{◌≡◌, ℕ, zero, suc, ◌+◌, ◌<◌, ◌≤◌, List, length, take, Option, None, Some}
-use Rattle.managed_ledger.specs.declared.start.Start.{Start}
+use Rattle.gated_log.specs.declared.start.Start.{Start}
 use Rattle.managed_ledger.specs.Shape.{total, counts_after}
 
 -- how many entries each segment has once so many more are appended; where there are none, nothing is appended

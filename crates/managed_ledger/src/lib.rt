@@ -24,7 +24,6 @@ mod place;
 mod prepare;
 mod prepared;
 mod segment_index;
-mod start;
 mod trim;
 mod trim_point;
 
@@ -36,4 +35,3 @@ pub use law::{
 };
 pub use managed_ledger::ManagedLedger;
 pub use prepared::PreparedEntries;
-pub use start::Start;

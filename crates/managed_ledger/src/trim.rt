@@ -12,8 +12,8 @@ ghost use Rattle.managed_ledger.specs.Shape.{total};
 
 use crate::ManagedLedger;
 use crate::segment_index::SegmentIndex;
-use crate::start::Start;
 use disk::{DeviceError, Shelf};
+use gated_log::Start;
 use std::collections::VecDeque;
 
 // Forgets the first tables.

@@ -6,7 +6,7 @@ ghost use Rattle.managed_ledger.specs.Shape.{sizes_of};
 
 use crate::ManagedLedger;
 use crate::find::segment_of;
-use crate::start::Start;
+use gated_log::Start;
 
 impl ManagedLedger {
     // Whether an append of so many entries rolls the last segment first.

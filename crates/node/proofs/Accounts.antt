@@ -1,5 +1,5 @@
 -- Each life of a node accounts for what its sessions were told.
-use Rattle.std.proofs.Common.{◌≡◌, ℕ, ◌<◌, ◌+◌, ◌≤◌, false, Option, List, map, refl, sym, subst}
+use Rattle.std.proofs.Common.{◌≡◌, ℕ, ◌<◌, ◌+◌, ◌≤◌, false, Option, List, map, refl, sym, subst, arith}
 use Rattle.std.specs.List.{AllByRecursion}
 use Rattle.managed_ledger.specs.Entries.{end_of}
 use Rattle.topic_core.specs.State.{Topic, receipts_due}
@@ -24,7 +24,7 @@ use Rattle.node.proofs.Hearing.{are_of}
 use Rattle.node.proofs.Unfolding.{life_unfolds, cut_life_unfolds}
 
 fresh_quiet : (n : ℕ) → IsQuiet (fresh n)
-fresh_quiet n = record { queues = refl; waiting = refl; sure = refl; counted = refl }
+fresh_quiet n = record { queues = refl; waiting = refl; sure = refl; counted = refl; trims = omega arith }
 
 pub fresh_at_start : (n : ℕ) (url : List ℕ) → 0 < n → IsAtStart (fresh_broker n url)
 fresh_at_start n url some = record { sound = fresh_broker_sound n url some; quiet = λ number. fresh_quiet n }

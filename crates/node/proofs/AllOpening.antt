@@ -5,6 +5,7 @@ use Rattle.std.proofs.lemmas.Option.{none-some}
 use Rattle.disk.specs.Disk.{Disk, Image, Same, Leaves, Kept as Counted}
 use Rattle.disk.specs.Moments.{starts, joins}
 use Rattle.managed_ledger.specs.Entries.{Ledger, end_of}
+use Rattle.records.specs.Floors.{HaveBelow}
 use Rattle.records.specs.Maps.{Kept}
 use Rattle.topic_stores.specs.declared.store.TopicStore.{Ghosts as StoreMembers}
 use Rattle.topic_core.specs.Slots.{slots_of}
@@ -107,7 +108,8 @@ module _ {T S : Type 0} {store : StoreMembers T} (disk : S → Disk) where
   }
 
 -- and was just opened
-module _ {T : Type 0} {store : StoreMembers T} (n : ℕ) (url : List ℕ) (names : Names) (held : List (Held T store)) (files : Image) (count : length held ≡ length names) (is : NamesStand n files names) (opens : AreJustOpened store.stands n files held) where
+module _ {T : Type 0} {store : StoreMembers T} (n : ℕ) (url : List ℕ) (names : Names) (held : List (Held T store)) (files : Image) (count : length held ≡ length names) (is : NamesStand n files names) (opens : AreJustOpened store.stands n files held)
+    (below : (t : ℕ) (image : Image) (ledger : Ledger) (k : Kept) → store.stands t image ledger k → HaveBelow ledger.base k) where
   abbrev cores : List Topic
   cores = map (λ (h : Held T store). h.core) held
 
@@ -115,8 +117,8 @@ module _ {T : Type 0} {store : StoreMembers T} (n : ℕ) (url : List ℕ) (names
   at_start : IsAtStart (parts n url names None cores)
   at_start = record {
     sound = λ number. at_each (λ (u : Topic). IsSoundTopic u) (λ (h : Held T store). h.core) held number (fresh n) (fresh_sound n (omega (arith, is.ledgers.0)))
-        (λ j h at. let o = opens j h at in starts_sound n h.core o.opened (omega (arith, is.ledgers.0)) o.few h.matched.kept.durable);
-    quiet = λ number. at_each (λ (u : Topic). IsQuiet u) (λ (h : Held T store). h.core) held number (fresh n) (record { queues = refl; waiting = refl; sure = refl; counted = refl })
+        (λ j h at. let o = opens j h at in starts_sound n h.core o.opened (omega (arith, is.ledgers.0)) o.few h.matched.kept.durable (below j files h.core.ledger h.core.kept o.stands));
+    quiet = λ number. at_each (λ (u : Topic). IsQuiet u) (λ (h : Held T store). h.core) held number (fresh n) (record { queues = refl; waiting = refl; sure = refl; counted = refl; trims = omega arith })
         (λ j h at. starts_quiet n h.core (opens j h at).opened);
   }
 

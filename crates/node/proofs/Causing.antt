@@ -72,8 +72,8 @@ resting_isnt is = cc
 taken_isnt : Taken ≡ Written (Err Device) → ⊥
 taken_isnt is = cc
 
-written_ok : (done : Unit {0}) → Written (Ok done) ≡ Written (Err Device) → ⊥
-written_ok done is = cc
+written_ok : (base : ℕ) → Written (Ok base) ≡ Written (Err Device) → ⊥
+written_ok base is = cc
 
 written_full : Written (Err NoMemory) ≡ Written (Err Device) → ⊥
 written_full is = cc
@@ -111,7 +111,7 @@ module _ (base : ℕ) where
     flush_in : (fails nothing : Bool) (result : Result ℕ WriteError) → q.stage ≡ p.stage → (fails ≡ false → result ≡ Err Device → p.faults < q.faults) → FlushIn fails nothing p.topic result q.topic → Caused q
     flush_in true nothing result stage cause s = still stage (alike p.topic q.topic s.1)
     flush_in false true result stage cause s = still stage (alike p.topic q.topic s.1)
-    flush_in false false (Ok count) stage cause s = calm (ap (λ (x : Topic). x.failed) s.1) (λ at some. no_some q.topic.doubt (ap (λ (x : Topic). x.doubt) s.1) some)
+    flush_in false false (Ok count) stage cause s = calm (ap (λ (x : Topic). x.failed) s.1.is) (λ at some. no_some q.topic.doubt (ap (λ (x : Topic). x.doubt) s.1.is) some)
     flush_in false false (Err NoMemory) stage cause s = still stage (alike p.topic q.topic s)
     flush_in false false (Err Device) stage cause s = now_failed (cause refl refl)
 
@@ -121,13 +121,13 @@ module _ (base : ℕ) where
     take (Err Device) stage s = still stage (alike p.topic q.topic s.1)
     take (Err NoMemory) stage s = still stage (alike p.topic q.topic s.2)
 
-    wrote : (result : Result (Unit {0}) WriteError) → q.topic ≡ p.topic → q.stage ≡ Written result → (result ≡ Err Device → p.faults < q.faults) → Caused q
-    wrote (Ok done) same stage cause = at_stage (Written (Ok done)) stage (written_ok done) (ap (λ (x : Topic). x.failed) same)
+    wrote : (result : Result ℕ WriteError) → q.topic ≡ p.topic → q.stage ≡ Written result → (result ≡ Err Device → p.faults < q.faults) → Caused q
+    wrote (Ok begins) same stage cause = at_stage (Written (Ok begins)) stage (written_ok begins) (ap (λ (x : Topic). x.failed) same)
     wrote (Err NoMemory) same stage cause = at_stage (Written (Err NoMemory)) stage written_full (ap (λ (x : Topic). x.failed) same)
     wrote (Err Device) same stage cause = now_failed (cause refl)
 
-    finish : (written : Result (Unit {0}) WriteError) (result : Result ℕ WriteError) → p.stage ≡ Written written → is_some p.topic.doubt ≡ true → q.stage ≡ Resting → FinishStep p.topic written result q.topic → Caused q
-    finish (Ok done) result was some stage s = at_stage Resting stage resting_isnt (ap (λ (x : Topic). x.failed) s.1)
+    finish : (written : Result ℕ WriteError) (result : Result ℕ WriteError) → p.stage ≡ Written written → is_some p.topic.doubt ≡ true → q.stage ≡ Resting → FinishStep p.topic written result q.topic → Caused q
+    finish (Ok begins) result was some stage s = at_stage Resting stage resting_isnt (ap (λ (x : Topic). x.failed) s.1)
     finish (Err NoMemory) result was some stage s = at_stage Resting stage resting_isnt (ap (λ (x : Topic). x.failed) s.1)
     finish (Err Device) result was some stage s =
         let one = h.going_to was some in

@@ -1,5 +1,5 @@
 -- What a command leaves of a topic, by its answer.
-use Rattle.std.proofs.Common.{◌≡◌, ◌⊎◌, inl, inr, ⊎_elim, ℕ, Bool, true, false, cond, Option, Some, None, Result, Ok, Err, List, [], refl, sym, ap, subst}
+use Rattle.std.proofs.Common.{◌≡◌, ◌⊎◌, inl, inr, ⊎_elim, ℕ, Bool, true, false, cond, Option, Some, None, Result, Ok, Err, List, [], refl, sym, subst}
 use Rattle.commands.specs.declared.reply.Reply.{Reply}
 use Rattle.commands.specs.declared.reply.Reply.TheVariants.{ProducerSuccess, SendError, Success, Error, AckResponse}
 use Rattle.commands.specs.declared.server_error.ServerError.{ServerError}
@@ -193,7 +193,3 @@ module _ (t : Topic) (who : ℕ) (R : TopicCommand → Answer → Topic → Type
   by_command (asked.Unsubscribe unsubscribe) a u step = other (asked.Unsubscribe unsubscribe) a u (λ n p. refl) (unsubscribe_topic a t who unsubscribe u step)
   by_command (asked.CloseConsumer close) a u step = other (asked.CloseConsumer close) a u (λ n p. refl) (detach_topic a t who close u step)
   by_command (asked.Redeliver redeliver) a u step = other (asked.Redeliver redeliver) a u (λ n p. refl) (redeliver_topic a t who redeliver u step)
-
--- no command touches the ledger
-pub command_ledger : (t : Topic) (who : ℕ) (c : TopicCommand) (a : Answer) (u : Topic) → TopicStep t who c a u → u.ledger ≡ t.ledger
-command_ledger t who c a u step = by_command t who (λ c a u. u.ledger ≡ t.ledger) (λ c a u none awaits. awaits.ledger) (λ send u works is. ap (λ (x : Topic). x.ledger) is) c a u step

@@ -36,7 +36,7 @@ abbrev SameHanded : Topic → Topic → Type 0
 SameHanded t u = u.handed ≡ t.handed
 
 flush_counts : RespectedByFlushes SameHanded
-flush_counts = record { same = λ t. refl; then = λ t u v first second. second ∙ first; take = λ t. refl; finish = λ t. refl; take_back = λ t. refl; fail = λ t. refl }
+flush_counts = record { same = λ t. refl; then = λ t u v first second. second ∙ first; take = λ t p point. refl; finish = λ t b low. refl; take_back = λ t. refl; fail = λ t. refl }
 
 reopen_counts : (t : Topic) (result : Result (Unit {0}) Refusal) (u : Topic) → ReopenStep t result u → u.handed ≡ t.handed
 reopen_counts t result u s = ⊎_elim (λ is. ap (λ (x : Topic). x.handed) is) (λ again. ap (λ (x : Topic). x.handed) again.again) (reopen_cases t result u s)

@@ -1,9 +1,9 @@
 -- Each message that goes out was admitted, and is the entry of its position ever after.
-use Rattle.std.proofs.Common.{◌≡◌, ⊎_elim, ◌∙◌, ℕ, true, false, cond, not, Some, List, [], ◌∷◌, ◌++◌, map, take, refl, sym, ap, subst}
+use Rattle.std.proofs.Common.{◌≡◌, inr, ⊎_elim, ℕ, true, false, cond, not, List, [], ◌∷◌, ◌++◌, map, take, refl, sym, ap, subst}
 use Rattle.std.specs.List.{AllByRecursion}
 use Rattle.commands.specs.declared.reply.Reply.{Reply}
 use Rattle.commands.specs.declared.reply.Reply.TheVariants.{Message}
-use Rattle.managed_ledger.specs.Entries.{Ledger, entry_at, lengthened}
+use Rattle.managed_ledger.specs.Entries.{Ledger}
 use Rattle.topic_core.specs.declared.command.Answer.{Answer}
 use Rattle.topic_core.specs.declared.command.TopicCommand.{TopicCommand}
 use Rattle.topic_core.specs.State.{Topic}
@@ -15,11 +15,11 @@ use Rattle.topic_core.proofs.Queues.{all-queued, all-collected, all-filter, all-
 use Rattle.topic_core.proofs.Receipts.{all-append, all-drop_one}
 use Rattle.node.specs.Moves.{Handed, outgoing, Move, Command, Tell, Lose, Grant, Deliver, Miss, Leave, Flush, Take, Finish, Reopen, Crash, Cut, MoveStep, Moves, Takes, told_on, told_by}
 use Rattle.node.specs.Telling.{is_message}
-use Rattle.node.specs.Finding.{IsQuiet}
+use Rattle.node.specs.Finding.{Keeps, IsQuiet}
 use Rattle.node.specs.Delivering.{Delivers, DeliversEach}
 use Rattle.node.proofs.Commands.{Awaits, by_command, granted_topic, sent_topic}
-use Rattle.node.proofs.Endings.{RespectedByFlushes, taking, finishing, flushing, reopen_cases, moves_grow, cutting}
-use Rattle.node.proofs.Finding.{stays}
+use Rattle.node.proofs.Endings.{RespectedByFlushes, taking, finishing, flushing, reopen_cases, cutting, Counts, move_grows, moves_grow, quiet_counts}
+use Rattle.node.proofs.Extending.{grown_extends}
 
 -- no message is owed: those go out at once
 abbrev IsNoMessage : Reply → Type 0
@@ -84,8 +84,8 @@ flush_keeps : RespectedByFlushes KeepsNone
 flush_keeps = record {
   same = λ t none. none;
   then = λ t u v first second none. second (first none);
-  take = λ t none. all-map HasNoMessage HasNoMessage hand_on t.queues (λ q n. record { due = n.due; pending = n.pending }) none;
-  finish = λ t none. all-map HasNoMessage HasNoMessage make_due t.queues
+  take = λ t p point none. all-map HasNoMessage HasNoMessage hand_on t.queues (λ q n. record { due = n.due; pending = n.pending }) none;
+  finish = λ t b low none. all-map HasNoMessage HasNoMessage make_due t.queues
       (λ q n. record {
         due = all-append IsNoMessage q.due (take q.handed_on q.pending) n.due (all-taken IsNoMessage q.handed_on q.pending n.pending);
         pending = all-dropped IsNoMessage q.handed_on q.pending n.pending;
@@ -114,15 +114,14 @@ not_message : (r : Reply) → is_message r ≡ false → is_message r ≡ true �
 not_message r isnt is = cc
 
 -- what goes out on the first of some moves
-told_first : (t : Topic) (m : Move) (u : Topic) (ms : List Move) (v : Topic) → MoveStep t m u → Moves u ms v → OwesNoMessage t → DeliversEach t (m ∷ ms) v.ledger (told_on m)
-told_first t (Tell h) u ms v s rest none = (
+told_first : (t : Topic) (m : Move) (u : Topic) (ms : List Move) (v : Topic) → MoveStep t m u → Moves u ms v → Counts u → OwesNoMessage t → DeliversEach t (m ∷ ms) v.ledger (told_on m)
+told_first t (Tell h) u ms v s rest counts none = (
   λ is. absurd (not_message h.reply (due_none h.session t.queues h.reply (due_to h.session u.queues) none s.first) is),
   tt,
 )
-told_first t (Deliver id h) u ms v s rest none = (
+told_first t (Deliver id h) u ms v s rest counts none = (
   λ is.
       let a = dispatch-admits t h.session id (outgoing h) u s in
-      let p = moves_grow u ms v rest in
       record {
         consumer = id;
         before = [];
@@ -132,13 +131,11 @@ told_first t (Deliver id h) u ms v s rest none = (
         steps = refl;
         position = a.0;
         admitted = a.1;
-        stands =
-            subst (λ (l : Ledger). entry_at l a.0 ≡ Some h.entry) (sym (p.grown ∙ ap (λ (x : Topic). lengthened x.ledger p.more) s.1.sent))
-            (stays t.ledger p.more a.0 h.entry a.1.published);
+        stands = grown_extends u.ledger v.ledger (moves_grow u ms v rest counts).grown a.0 h.entry (subst (λ (x : Topic). Keeps x.ledger a.0 h.entry) (sym s.1.sent) (inr a.1.published));
       },
   tt,
 )
-told_first t _ u ms v s rest none = tt
+told_first t _ u ms v s rest counts none = tt
 
 -- one move before
 later : (t : Topic) (m : Move) (u : Topic) (ms : List Move) (ledger : Ledger) (h : Handed) → MoveStep t m u → Delivers u ms ledger h → Delivers t (m ∷ ms) ledger h
@@ -164,13 +161,14 @@ both : (t : Topic) (ms : List Move) (ledger : Ledger) (xs ys : List Handed) → 
 both t ms ledger [] ys a b = b
 both t ms ledger (x ∷ xs) ys a b = (a.0, both t ms ledger xs ys a.1 b)
 
-delivered : (t : Topic) (moves : List Move) (u : Topic) → Moves t moves u → OwesNoMessage t → DeliversEach t moves u.ledger (told_by moves)
-delivered t [] u steps none = tt
-delivered t (m ∷ ms) v steps none =
+delivered : (t : Topic) (moves : List Move) (u : Topic) → Moves t moves u → Counts t → OwesNoMessage t → DeliversEach t moves u.ledger (told_by moves)
+delivered t [] u steps counts none = tt
+delivered t (m ∷ ms) v steps counts none =
     let u = steps.0 in
+    let then = (move_grows t m u steps.1 counts).counts in
     both t (m ∷ ms) v.ledger (told_on m) (told_by ms)
-    (told_first t m u ms v steps.1 steps.2 none)
-    (each_later t m u ms v.ledger (told_by ms) steps.1 (delivered u ms v steps.2 (moved t m u steps.1 none)))
+    (told_first t m u ms v steps.1 steps.2 then none)
+    (each_later t m u ms v.ledger (told_by ms) steps.1 (delivered u ms v steps.2 then (moved t m u steps.1 none)))
 
 pub moves_delivered : (t : Topic) (moves : List Move) (u : Topic) → Moves t moves u → IsQuiet t → DeliversEach t moves u.ledger (told_by moves)
-moves_delivered t moves u steps quiet = delivered t moves u steps (subst OweNoMessage (sym quiet.queues) tt)
+moves_delivered t moves u steps quiet = delivered t moves u steps (quiet_counts t quiet) (subst OweNoMessage (sym quiet.queues) tt)

@@ -1,26 +1,26 @@
 -- Each entry is that of the latest SEND for its position, and what a receipt promised is found ever after.
-use Rattle.std.proofs.Common.{◌≡◌, ⊎_elim, ◌∙◌, ℕ, ◌<◌, ◌≤◌, Bool, true, false, Some, None, List, [], ◌∷◌, ◌++◌, length, map, take, drop, refl, sym, ap, subst, arith, length-append, append-nil, append_assoc}
-use Rattle.std.proofs.lemmas.List.{length-take-le, take_all, take-append-drop, take-append-le}
+use Rattle.std.proofs.Common.{◌≡◌, inl, inr, ⊎_elim, ◌∙◌, ℕ, ◌+◌, ◌<◌, ◌≤◌, Bool, true, false, Option, Some, None, List, [], ◌∷◌, ◌++◌, length, map, take, refl, sym, ap, subst, arith, length-append, append-nil, append_assoc}
+use Rattle.std.proofs.lemmas.List.{length-take-le, take_all, take-append-le}
 use Rattle.std.specs.List.{AllByRecursion}
 use Rattle.commands.specs.declared.reply.Reply.{Reply}
 use Rattle.commands.specs.declared.reply.Reply.TheVariants.{Connected}
 use Rattle.topic_core.specs.declared.command.Answer.{Answer}
 use Rattle.topic_core.specs.declared.command.Send.{Send}
 use Rattle.topic_core.specs.declared.command.TopicCommand.{TopicCommand}
-use Rattle.managed_ledger.specs.Entries.{Entries, Ledger, end_of, entry_at, lengthened}
-use Rattle.managed_ledger.specs.Trims.{end_lengthened, entry_within, entry_kept, entry_last, entry_or_last, lengthened_none, lengthened_both}
+use Rattle.managed_ledger.specs.Entries.{Entries, Ledger, end_of, entry_at, lengthened, trimmed}
+use Rattle.managed_ledger.specs.Trims.{end_lengthened, end_trimmed, entry_within, entry_last, entry_or_last, lengthened_none, lengthened_both}
 use Rattle.topic_core.specs.Slots.{slots_of}
-use Rattle.topic_core.specs.State.{Topic, next_position, opened, entries_of, entries_in_doubt}
+use Rattle.topic_core.specs.State.{Topic, Doubt, floor, floor_of, next_position, opened, entries_of, entries_in_doubt}
 use Rattle.reply_queues.specs.Replies.{SessionReplies, is_receipt, due_to, hand_on, make_due, take_back, refused, refuse_pending}
 use Rattle.topic_core.specs.Steps.{TopicStep, bytes_of, accepted, receipt, collected, left}
-use Rattle.topic_core.specs.Flush.{handed_on, finished, taken_back, failed}
-use Rattle.topic_core.specs.Crashes.{TopicCrash, reopened}
-use Rattle.topic_core.proofs.Keeps.{moved as moved_on}
+use Rattle.topic_core.specs.Flush.{IsTrimPoint, handed_on, finished, taken_back, failed}
+use Rattle.topic_core.specs.Crashes.{IsLeft, TopicCrash, reopened, longer}
 use Rattle.topic_core.proofs.Receipts.{all-append}
 use Rattle.node.specs.Moves.{Handed, Move, Command, Tell, Lose, Grant, Deliver, Miss, Leave, Flush, Take, Finish, Reopen, Crash, Cut, MoveStep, Moves, Takes, told_on, told_by}
 use Rattle.node.specs.Finding.{Sent, sent_at, sent_by, sends_on, sends_by, IsLatest, Finds, FindsEach, IsPublished, IsQuiet}
 use Rattle.node.proofs.Commands.{Awaits, by_command, granted_topic, sent_topic}
-use Rattle.node.proofs.Endings.{RespectedByFlushes, taking, finishing, flushing, reopen_cases, Reopened, Front, left_front, moves_grow, cutting}
+use Rattle.node.proofs.Endings.{RespectedByFlushes, taking, finishing, flushing, reopen_cases, Reopened, moves_grow, quiet_counts, cutting}
+use Rattle.node.proofs.Extending.{Extends, keeps_below, extends_then, more_extends, more_within, trim_extends, trim_within, longer_extends, finished_log, left_extends, left_within}
 use Rattle.node.proofs.Queues.{Debt, Due, HandedOn, Pending, hands_on, makes_due, takes_back, refuses, debts_to, AreWithin, within-queued, within-collected, within-left, within-mapped, debts-handed_on, debts-made_due, debts-taken_back, debts-refused}
 use Rattle.node.proofs.Owed.{handed, same_handed, AllOwed, each_owed, queued_owed, due_owed, collected_owed, left_owed, turned_owed}
 
@@ -31,15 +31,6 @@ not_receipt r isnt is = cc
 refused_plain : (r : Reply) → is_receipt (refused r) ≡ false
 refused_plain Connected = refl
 refused_plain _ = refl
-
--- ---- ledgers
-
--- what stands in one ledger stands in the other one
-abbrev pub Extends : Ledger → Ledger → Type 0
-Extends l m = (i : ℕ) (entry : List ℕ) → entry_at l i ≡ Some entry → entry_at m i ≡ Some entry
-
-pub stays : (l : Ledger) (more : Entries) → Extends l (lengthened l more)
-stays l more i entry is = entry_kept l more i entry is
 
 -- ---- SENDs
 
@@ -60,9 +51,9 @@ latest_more sends s send other is = record {
   latest = all-append (λ (x : Sent). x.position ≡ send.position → ⊥) is.after (s ∷ []) is.latest (other, tt);
 }
 
--- what was found is found in a longer ledger
-finds_more : (sends : List Sent) (ledger longer : Ledger) (h : Handed) → Extends ledger longer → Finds sends ledger h → Finds sends longer h
-finds_more sends ledger longer h more found = λ is.
+-- what was found is found in a ledger that extends that one
+finds_more : (sends : List Sent) (ledger other : Ledger) (h : Handed) → Extends ledger other → Finds sends ledger h → Finds sends other h
+finds_more sends ledger other h more found = λ is.
     let f = found is in
     record { send = f.send; sent = f.sent; promised = f.promised; stands = more f.send.position f.send.entry f.stands }
 
@@ -70,17 +61,11 @@ finds_more sends ledger longer h more found = λ is.
 finds_sent : (sends : List Sent) (s : Sent) (ledger : Ledger) (h : Handed) → end_of ledger ≤ s.position → Finds sends ledger h → Finds (sends ++ s ∷ []) ledger h
 finds_sent sends s ledger h behind found = λ is.
     let f = found is in
-    let within = (entry_within ledger f.send.position f.send.entry f.stands).1 in
+    let within = keeps_below ledger f.send.position f.send.entry f.stands in
     record { send = f.send; sent = latest_more sends s f.send (λ same. omega (arith, same, within, behind)) f.sent; promised = f.promised; stands = f.stands }
 
 of_more : (sends : List Sent) (s : Sent) (i : ℕ) (entry : List ℕ) → i < s.position → IsOf sends i entry → IsOf (sends ++ s ∷ []) i entry
 of_more sends s i entry behind is = (is.0, latest_more sends s is.0 (λ same. omega (arith, same, behind, is.2)) is.1, is.2, is.3)
-
--- what is in doubt are the first ones of all that wait
-in_doubt : (ledger : Ledger) (waiting : Entries) (n : ℕ) → Extends (lengthened ledger (take n waiting)) (lengthened ledger waiting)
-in_doubt ledger waiting n =
-    subst (λ (l : Ledger). Extends (lengthened ledger (take n waiting)) l) (lengthened_both ledger (take n waiting) (drop n waiting) ∙ ap (λ (w : Entries). lengthened ledger w) (take-append-drop n waiting))
-    (stays (lengthened ledger (take n waiting)) (drop n waiting))
 
 -- ---- what is owed
 
@@ -94,23 +79,25 @@ Found sends ledger entries waiting fails who (Pending r) = Finds sends (lengthen
 abbrev FoundIn : List Sent → Topic → ℕ → Debt → Type 0
 FoundIn sends t = Found sends t.ledger (entries_in_doubt t) t.waiting t.failed
 
--- between two moves: the entries from one position on are those of the latest SENDs, and each receipt has its entry
+-- between two moves: the entries from one position on are those of the latest SENDs, each receipt has its entry, and a trim takes
+-- committed entries alone
 record Owes (base : ℕ) (sends : List Sent) (t : Topic) : Type 0 where
   counted : end_of t.ledger ≡ t.committed
+  trims : floor t ≤ t.committed
   fits : entries_of t.doubt ≤ length t.waiting
   within : AreWithin t.queues
   entries : (i : ℕ) (entry : List ℕ) → base ≤ i → entry_at (lengthened t.ledger t.waiting) i ≡ Some entry → IsOf sends i entry
   queues : AllOwed (FoundIn sends t) t.queues
 
 -- a move keeps what is owed, and what was found
-record Keeps (base : ℕ) (before after : List Sent) (t u : Topic) : Type 0 where
+record Upholds (base : ℕ) (before after : List Sent) (t u : Topic) : Type 0 where
   owes : Owes base after u
   found : (h : Handed) → Finds before t.ledger h → Finds after u.ledger h
 
 module _ (base : ℕ) (before : List Sent) where
   -- without a SEND
   abbrev KeepsOn : Topic → Topic → Type 0
-  KeepsOn t u = Keeps base before before t u
+  KeepsOn t u = Upholds base before before t u
 
   -- the ledger stays
   still : (t u : Topic) → Owes base before u → u.ledger ≡ t.ledger → KeepsOn t u
@@ -144,8 +131,8 @@ module _ (base : ℕ) (before : List Sent) where
     short : end_of t.ledger ≤ s.position
     short = omega (arith, size, end_lengthened t.ledger t.waiting)
 
-    longer : Extends log (lengthened t.ledger u.waiting)
-    longer = subst (λ (l : Ledger). Extends log l) (sym one_behind) (stays log (bytes_of send.entry ∷ []))
+    more : Extends log (lengthened t.ledger u.waiting)
+    more = subst (λ (l : Ledger). Extends log l) (sym one_behind) (more_extends log (bytes_of send.entry ∷ []))
 
     there : entry_at (lengthened t.ledger u.waiting) s.position ≡ Some (bytes_of send.entry)
     there = ap (λ (l : Ledger). entry_at l s.position) one_behind ∙ entry_last log (bytes_of send.entry) s.position (sym size)
@@ -163,12 +150,13 @@ module _ (base : ℕ) (before : List Sent) where
       subst (λ (e : List (List ℕ)). Finds with_sent (lengthened t.ledger e) (handed other r)) (sym same_doubt) (finds_sent before s (lengthened t.ledger (entries_in_doubt t)) (handed other r) in_log f.0),
       works,
     )
-    stays_found other (Pending r) f = (finds_more with_sent log (lengthened t.ledger u.waiting) (handed other r) longer (finds_sent before s log (handed other r) (omega (arith, size)) f.0), works)
+    stays_found other (Pending r) f = (finds_more with_sent log (lengthened t.ledger u.waiting) (handed other r) more (finds_sent before s log (handed other r) (omega (arith, size)) f.0), works)
 
-    accepts : Keeps base before with_sent t u
+    accepts : Upholds base before with_sent t u
     accepts = record {
       owes = record {
         counted = o.counted;
+        trims = o.trims;
         fits = omega (arith, o.fits, length-append t.waiting (bytes_of send.entry ∷ []));
         within = within-queued who (receipt t send.producer_id send.sequence_id) t.queues o.within;
         entries = λ i entry from stands. ⊎_elim
@@ -177,7 +165,7 @@ module _ (base : ℕ) (before : List Sent) where
             (entry_or_last log (bytes_of send.entry) i entry (ap (λ (l : Ledger). entry_at l i) (sym one_behind) ∙ stands));
         queues =
             queued_owed (FoundIn with_sent u) t.queues (each_owed (FoundIn before t) t.queues o.queues (FoundIn with_sent u) stays_found) who (receipt t send.producer_id send.sequence_id) o.within
-            (λ is. record { send = s; sent = last_is_latest before s; promised = refl; stands = there }, works);
+            (λ is. record { send = s; sent = last_is_latest before s; promised = refl; stands = inr there }, works);
       };
       found = λ h f. finds_sent before s t.ledger h short f;
     }
@@ -195,6 +183,7 @@ module _ (base : ℕ) (before : List Sent) where
   awaits : (t u : Topic) (who : ℕ) → Awaits who t u → Owes base before t → KeepsOn t u
   awaits t u who a o = still t u (record {
     counted = ap (λ (l : Ledger). end_of l) a.ledger ∙ o.counted ∙ sym a.committed;
+    trims = omega (arith, o.trims, a.committed, ap (λ (l : Ledger). floor_of l.base u.doubt) a.ledger, ap (λ (d : Option Doubt). floor_of t.ledger.base d) a.doubt);
     fits = omega (arith, o.fits, ap (λ d. entries_of d) a.doubt, ap (λ (w : List (List ℕ)). length w) a.waiting);
     within = ⊎_elim
         (λ same. subst AreWithin (sym same) o.within)
@@ -211,14 +200,14 @@ module _ (base : ℕ) (before : List Sent) where
   }) a.ledger
 
   -- after no SEND
-  none_sent : (t u : Topic) → KeepsOn t u → Keeps base before (before ++ []) t u
-  none_sent t u k = subst (λ (l : List Sent). Keeps base before l t u) (sym (append-nil before)) k
+  none_sent : (t u : Topic) → KeepsOn t u → Upholds base before (before ++ []) t u
+  none_sent t u k = subst (λ (l : List Sent). Upholds base before l t u) (sym (append-nil before)) k
 
   commanded : (t : Topic) (who : ℕ) (c : TopicCommand) (a : Answer) (u : Topic) → TopicStep t who c a u → Owes base before t
-      → Keeps base before (before ++ sent_by t.per_ledger (next_position t) who c a) t u
-  commanded t who c a u s o = by_command t who (λ c a u. Keeps base before (before ++ sent_by t.per_ledger (next_position t) who c a) t u)
-      (λ c a u none more. subst (λ (l : List Sent). Keeps base before l t u) (sym (ap (λ (l : List Sent). before ++ l) (none t.per_ledger (next_position t)) ∙ append-nil before)) (awaits t u who more o))
-      (λ send u works is. subst (λ (x : Topic). Keeps base before (before ++ sent_at t.per_ledger (next_position t) who send ∷ []) t x) (sym is) (accepts t who send works o))
+      → Upholds base before (before ++ sent_by t.per_ledger (next_position t) who c a) t u
+  commanded t who c a u s o = by_command t who (λ c a u. Upholds base before (before ++ sent_by t.per_ledger (next_position t) who c a) t u)
+      (λ c a u none more. subst (λ (l : List Sent). Upholds base before l t u) (sym (ap (λ (l : List Sent). before ++ l) (none t.per_ledger (next_position t)) ∙ append-nil before)) (awaits t u who more o))
+      (λ send u works is. subst (λ (x : Topic). Upholds base before (before ++ sent_at t.per_ledger (next_position t) who send ∷ []) t x) (sym is) (accepts t who send works o))
       c a u s
 
   -- ---- sessions
@@ -226,6 +215,7 @@ module _ (base : ℕ) (before : List Sent) where
   takes_reply : (t u : Topic) (h : Handed) → Takes t h u → Owes base before t → KeepsOn t u
   takes_reply t u h takes o = subst (λ (x : Topic). KeepsOn t x) (sym takes.taken) (still t (collected t h.session h.reply) (record {
     counted = o.counted;
+    trims = o.trims;
     fits = o.fits;
     within = within-collected h.session t.queues o.within;
     entries = o.entries;
@@ -235,6 +225,7 @@ module _ (base : ℕ) (before : List Sent) where
   leaves : (t u : Topic) (who : ℕ) → u ≡ left t who → Owes base before t → KeepsOn t u
   leaves t u who is o = subst (λ (x : Topic). KeepsOn t x) (sym is) (still t (left t who) (record {
     counted = o.counted;
+    trims = o.trims;
     fits = o.fits;
     within = within-left who t.queues o.within;
     entries = o.entries;
@@ -244,54 +235,72 @@ module _ (base : ℕ) (before : List Sent) where
   -- ---- flushes
 
   -- all that waits is in doubt
-  on_hands : (t : Topic) (who : ℕ) (d : Debt) → FoundIn before t who d → FoundIn before (handed_on t) who (hands_on d)
-  on_hands t who (Due r) f = f
-  on_hands t who (HandedOn r) f = (
+  on_hands : (t : Topic) (p : ℕ) (who : ℕ) (d : Debt) → FoundIn before t who d → FoundIn before (handed_on t p) who (hands_on d)
+  on_hands t p who (Due r) f = f
+  on_hands t p who (HandedOn r) f = (
     subst (λ (e : List (List ℕ)). Finds before (lengthened t.ledger e) (handed who r)) (sym (take_all (length t.waiting) t.waiting (omega arith)))
-        (finds_more before (lengthened t.ledger (entries_in_doubt t)) (lengthened t.ledger t.waiting) (handed who r) (in_doubt t.ledger t.waiting (entries_of t.doubt)) f.0),
+        (finds_more before (longer t) (lengthened t.ledger t.waiting) (handed who r) (longer_extends t) f.0),
     f.1,
   )
-  on_hands t who (Pending r) f = (subst (λ (e : List (List ℕ)). Finds before (lengthened t.ledger e) (handed who r)) (sym (take_all (length t.waiting) t.waiting (omega arith))) f.0, f.1)
+  on_hands t p who (Pending r) f = (subst (λ (e : List (List ℕ)). Finds before (lengthened t.ledger e) (handed who r)) (sym (take_all (length t.waiting) t.waiting (omega arith))) f.0, f.1)
 
-  takes : (t : Topic) → Owes base before t → KeepsOn t (handed_on t)
-  takes t o = still t (handed_on t) (record {
+  point_low : (t : Topic) (p : ℕ) → IsTrimPoint t p → end_of t.ledger ≡ t.committed → p ≤ t.committed
+  point_low t p (inl is) counted = omega (arith, is, counted)
+  point_low t p (inr is) counted = is.committed
+
+  takes : (t : Topic) (p : ℕ) → IsTrimPoint t p → Owes base before t → KeepsOn t (handed_on t p)
+  takes t p point o = still t (handed_on t p) (record {
     counted = o.counted;
+    trims = point_low t p point o.counted;
     fits = omega arith;
     within = within-mapped (λ q. hand_on q) (λ q. omega arith) t.queues;
     entries = o.entries;
-    queues = turned_owed (FoundIn before t) t.queues o.queues (FoundIn before (handed_on t)) hands_on (map (λ q. hand_on q) t.queues) (λ who. debts-handed_on who t.queues) (on_hands t);
+    queues = turned_owed (FoundIn before t) t.queues o.queues (FoundIn before (handed_on t p)) hands_on (map (λ q. hand_on q) t.queues) (λ who. debts-handed_on who t.queues) (on_hands t p);
   }) refl
 
-  -- what was in doubt is committed
-  more_found : (t : Topic) (h : Handed) → Finds before t.ledger h → Finds before (finished t).ledger h
-  more_found t h f = finds_more before t.ledger (finished t).ledger h (stays t.ledger (entries_in_doubt t)) f
+  -- what was in doubt is committed, and the ledger trimmed up to a position
+  module _ (t : Topic) (b : ℕ) (low : b ≤ floor t) (o : Owes base before t) where
+    all_doubted : end_of (longer t) ≡ t.committed + entries_of t.doubt
+    all_doubted = omega (arith, o.counted, end_lengthened t.ledger (entries_in_doubt t), length-take-le (entries_of t.doubt) t.waiting o.fits)
 
-  on_due : (t : Topic) (who : ℕ) (d : Debt) → FoundIn before t who d → FoundIn before (finished t) who (makes_due d)
-  on_due t who (Due r) f = more_found t (handed who r) f
-  on_due t who (HandedOn r) f = f.0
-  on_due t who (Pending r) f = (subst (λ (l : Ledger). Finds before l (handed who r)) (moved_on t) f.0, f.1)
+    in_longer : b ≤ end_of (longer t)
+    in_longer = omega (arith, low, o.trims, all_doubted)
 
-  finishes : (t : Topic) → Owes base before t → KeepsOn t (finished t)
-  finishes t o = record {
-    owes = record {
-      counted = omega (arith, o.counted, end_lengthened t.ledger (entries_in_doubt t), length-take-le (entries_of t.doubt) t.waiting o.fits);
-      fits = omega arith;
-      within = within-mapped (λ q. make_due q) (λ q. omega arith) t.queues;
-      entries = λ i entry from stands. o.entries i entry from (ap (λ (l : Ledger). entry_at l i) (moved_on t) ∙ stands);
-      queues = turned_owed (FoundIn before t) t.queues o.queues (FoundIn before (finished t)) makes_due (map (λ q. make_due q) t.queues) (λ who. debts-made_due who t.queues) (on_due t);
-    };
-    found = more_found t;
-  }
+    more_found : (h : Handed) → Finds before t.ledger h → Finds before (finished t b).ledger h
+    more_found h f = finds_more before t.ledger (finished t b).ledger h (extends_then t.ledger (longer t) (finished t b).ledger (more_extends t.ledger (entries_in_doubt t)) (trim_extends (longer t) b)) f
+
+    on_due : (who : ℕ) (d : Debt) → FoundIn before t who d → FoundIn before (finished t b) who (makes_due d)
+    on_due who (Due r) f = more_found (handed who r) f
+    on_due who (HandedOn r) f = finds_more before (longer t) (finished t b).ledger (handed who r) (trim_extends (longer t) b) f.0
+    on_due who (Pending r) f = (
+      subst (λ (l : Ledger). Finds before l (handed who r)) (sym (finished_log t b in_longer))
+          (finds_more before (lengthened t.ledger t.waiting) (trimmed b (lengthened t.ledger t.waiting)) (handed who r) (trim_extends (lengthened t.ledger t.waiting) b) f.0),
+      f.1,
+    )
+
+    finishes : KeepsOn t (finished t b)
+    finishes = record {
+      owes = record {
+        counted = end_trimmed (longer t) b in_longer ∙ all_doubted;
+        trims = omega (arith, low, o.trims, o.counted);
+        fits = omega arith;
+        within = within-mapped (λ q. make_due q) (λ q. omega arith) t.queues;
+        entries = λ i entry from stands. o.entries i entry from (trim_within (lengthened t.ledger t.waiting) b i entry (ap (λ (l : Ledger). entry_at l i) (sym (finished_log t b in_longer)) ∙ stands));
+        queues = turned_owed (FoundIn before t) t.queues o.queues (FoundIn before (finished t b)) makes_due (map (λ q. make_due q) t.queues) (λ who. debts-made_due who t.queues) on_due;
+      };
+      found = more_found;
+    }
 
   -- it waits again
   on_back : (t : Topic) (who : ℕ) (d : Debt) → FoundIn before t who d → FoundIn before (taken_back t) who (takes_back d)
   on_back t who (Due r) f = f
-  on_back t who (HandedOn r) f = (finds_more before (lengthened t.ledger (entries_in_doubt t)) (lengthened t.ledger t.waiting) (handed who r) (in_doubt t.ledger t.waiting (entries_of t.doubt)) f.0, f.1)
+  on_back t who (HandedOn r) f = (finds_more before (longer t) (lengthened t.ledger t.waiting) (handed who r) (longer_extends t) f.0, f.1)
   on_back t who (Pending r) f = f
 
   takes_all_back : (t : Topic) → Owes base before t → KeepsOn t (taken_back t)
   takes_all_back t o = still t (taken_back t) (record {
     counted = o.counted;
+    trims = omega (arith, o.counted);
     fits = omega arith;
     within = within-mapped (λ q. take_back q) (λ q. omega arith) t.queues;
     entries = o.entries;
@@ -307,6 +316,7 @@ module _ (base : ℕ) (before : List Sent) where
   fails : (t : Topic) → Owes base before t → KeepsOn t (failed t)
   fails t o = still t (failed t) (record {
     counted = o.counted;
+    trims = o.trims;
     fits = o.fits;
     within = within-mapped (λ q. refuse_pending q) (λ q. omega arith) t.queues;
     entries = o.entries;
@@ -328,24 +338,20 @@ module _ (base : ℕ) (before : List Sent) where
 
   -- ---- openings and crashes
 
-  -- a topic over a ledger with a front of what waited, where nothing waits now
-  fronted : (t u : Topic) → end_of u.ledger ≡ u.committed → u.waiting ≡ [] → u.doubt ≡ None → Front t u.ledger → AreWithin u.queues
+  -- a topic over what a crash left, where nothing waits now
+  fronted : (t u : Topic) → end_of u.ledger ≡ u.committed → u.waiting ≡ [] → u.doubt ≡ None → IsLeft t u.ledger u.kept → AreWithin u.queues
       → (((h : Handed) → Finds before t.ledger h → Finds before u.ledger h) → AllOwed (FoundIn before u) u.queues)
       → Owes base before t → KeepsOn t u
-  fronted t u counted none sure front within queues o =
-      let log = lengthened t.ledger t.waiting in
-      let longer : Extends t.ledger u.ledger = subst (λ (l : Ledger). Extends t.ledger l) (sym front.grown) (stays t.ledger front.more) in
-      let all : log ≡ lengthened u.ledger front.rest =
-      ap (λ (w : Entries). lengthened t.ledger w) front.waited ∙ sym (lengthened_both t.ledger front.more front.rest) ∙ ap (λ (l : Ledger). lengthened l front.rest) (sym front.grown) in
-      let within_log : Extends u.ledger log = subst (λ (l : Ledger). Extends u.ledger l) (sym all) (stays u.ledger front.rest) in
-      let more = λ (h : Handed) (f : Finds before t.ledger h). finds_more before t.ledger u.ledger h longer f in
+  fronted t u counted none sure left within queues o =
+      let more = λ (h : Handed) (f : Finds before t.ledger h). finds_more before t.ledger u.ledger h (left_extends t u.ledger u.kept left) f in
       record {
         owes = record {
           counted = counted;
+          trims = omega (arith, counted, ap (λ (d : Option Doubt). floor_of u.ledger.base d) sure);
           fits = omega (arith, ap (λ d. entries_of d) sure);
           within = within;
-          entries = λ i entry from stands.
-              o.entries i entry from (within_log i entry (ap (λ (l : Ledger). entry_at l i) (sym (ap (λ (w : Entries). lengthened u.ledger w) none ∙ lengthened_none u.ledger)) ∙ stands));
+          entries = λ i entry from stands. o.entries i entry from
+              (left_within t u.ledger u.kept left i entry (ap (λ (l : Ledger). entry_at l i) (sym (ap (λ (w : Entries). lengthened u.ledger w) none ∙ lengthened_none u.ledger)) ∙ stands));
           queues = queues more;
         };
         found = more;
@@ -361,16 +367,16 @@ module _ (base : ℕ) (before : List Sent) where
   opens_again t u s o =
       let v : Topic = reopened t u.ledger (slots_of u.ledger) u.kept in
       subst (λ (x : Topic). KeepsOn t x) (sym s.again)
-      (fronted t v refl refl refl (left_front t u.ledger u.kept s.left) o.within (λ more. each_owed (FoundIn before t) t.queues o.queues (FoundIn before v) (on_again t v s.failed more)) o)
+      (fronted t v refl refl refl s.left o.within (λ more. each_owed (FoundIn before t) t.queues o.queues (FoundIn before v) (on_again t v s.failed more)) o)
 
   crashes : (t u : Topic) → TopicCrash t u → Owes base before t → KeepsOn t u
   crashes t u s o =
       let v : Topic = opened t.per_ledger u.ledger (slots_of u.ledger) u.kept in
-      subst (λ (x : Topic). KeepsOn t x) (sym s.again) (fronted t v refl refl refl (left_front t u.ledger u.kept s.left) tt (λ more who. tt) o)
+      subst (λ (x : Topic). KeepsOn t x) (sym s.again) (fronted t v refl refl refl s.left tt (λ more who. tt) o)
 
   -- ---- moves
 
-  moved : (t : Topic) (m : Move) (u : Topic) → MoveStep t m u → Owes base before t → Keeps base before (before ++ sends_on t m) t u
+  moved : (t : Topic) (m : Move) (u : Topic) → MoveStep t m u → Owes base before t → Upholds base before (before ++ sends_on t m) t u
   moved t (Command who c a) u s o = commanded t who c a u s o
   moved t (Tell h) u s o = none_sent t u (takes_reply t u h s o)
   moved t (Lose h) u s o = none_sent t u (takes_reply t u h s o)
@@ -413,7 +419,7 @@ none_carried base before t u is o =
     subst (λ (x : Topic). Carried base before (before ++ []) t [] x) (sym is)
     (subst (λ (l : List Sent). Carried base before l t [] t) (sym (append-nil before)) (record { owes = o; told = tt; found = λ h f. f }))
 
-one_carried : (base : ℕ) (before sends later : List Sent) (t : Topic) (m : Move) (u : Topic) (ms : List Move) (v : Topic) → Keeps base before (before ++ sends) t u → FindsEach before t.ledger (told_on m)
+one_carried : (base : ℕ) (before sends later : List Sent) (t : Topic) (m : Move) (u : Topic) (ms : List Move) (v : Topic) → Upholds base before (before ++ sends) t u → FindsEach before t.ledger (told_on m)
     → Carried base (before ++ sends) ((before ++ sends) ++ later) u ms v → Carried base before (before ++ (sends ++ later)) t (m ∷ ms) v
 one_carried base before sends later t m u ms v k told c =
     let after = (before ++ sends) ++ later in
@@ -440,6 +446,7 @@ quiet_owes t quiet =
     let all : lengthened t.ledger t.waiting ≡ t.ledger = ap (λ (w : Entries). lengthened t.ledger w) quiet.waiting ∙ lengthened_none t.ledger in
     record {
       counted = quiet.counted;
+      trims = quiet.trims;
       fits = omega (arith, quiet.sure);
       within = subst AreWithin (sym quiet.queues) tt;
       entries = λ i entry from stands. absurd (omega (arith, from, (entry_within t.ledger i entry (ap (λ (l : Ledger). entry_at l i) (sym all) ∙ stands)).1));
@@ -452,9 +459,4 @@ moves_found t moves u steps quiet = (carried (end_of t.ledger) [] t moves u step
 pub moves_publish : (t : Topic) (moves : List Move) (u : Topic) (steps : Moves t moves u) → IsQuiet t → IsPublished (sends_by t moves u steps) t.ledger u.ledger
 moves_publish t moves u steps quiet =
     let c = carried (end_of t.ledger) [] t moves u steps (quiet_owes t quiet) in
-    let g = moves_grow t moves u steps in
-    record {
-      more = g.more;
-      grown = g.grown;
-      each = λ i entry from stands. c.owes.entries i entry from (stays u.ledger u.waiting i entry stands);
-    }
+    record { grown = (moves_grow t moves u steps (quiet_counts t quiet)).grown; each = λ i entry from stands. c.owes.entries i entry from (more_within u.ledger u.waiting i entry stands) }

@@ -8,7 +8,7 @@ use Rattle.disk.specs.declared.file_id.FileId.{FileId}
 use Rattle.disk.specs.Contents.{Settled}
 use Rattle.disk.specs.Moments.{weaken}
 use Rattle.disk.specs.Areas.{OfTopic, Agree, Within, apart}
-use Rattle.managed_ledger.specs.Entries.{Ledger, whole}
+use Rattle.managed_ledger.specs.Entries.{Ledger, trimmed, whole}
 use Rattle.records.specs.Maps.{Kept}
 use Rattle.topic_stores.specs.declared.store.TopicStore.{Ghosts as StoreMembers}
 use Rattle.topic_stores.specs.declared.batch.Batch.{Batch}
@@ -20,7 +20,8 @@ use Rattle.topic_core.specs.State.{Topic}
 use Rattle.topic_core.specs.Crashes.{IsLeft}
 use Rattle.topic_core.specs.Standing.{Phase, Before, Lost, Holds, Standing}
 use Rattle.topic_core.specs.Standing as phases
-use Rattle.topic_core.specs.Flush.{TakeStep, FinishStep, has_no_flush}
+use Rattle.topic_core.specs.Soundness.{HasFloor}
+use Rattle.topic_core.specs.Flush.{IsTrimPoint, TakeStep, FinishStep, has_no_flush}
 use Rattle.topic_core.proofs.Standings.{standing_handed_on, finish_standing}
 use Rattle.topic_core.specs.Crashes.{longer, changed}
 use Rattle.catalog.specs.declared.catalog.Catalog.{Catalog}
@@ -40,7 +41,8 @@ use Rattle.node.specs.Standing.{StandsForBroker, StandsForSome, NamesLeft, view_
 use Rattle.node.specs.Passing.{each_with, count_is, untouched, names_as, formed_of}
 use Rattle.node.specs.Naming.{IsFormed}
 use Rattle.node.specs.Brokers.{set_at}
-use Rattle.node.specs.Steps.{Spot, flushing, amid_work}
+use Rattle.node.specs.Steps.{Spot, flushing, amid_work, Amid}
+use Rattle.node.specs.declared.event.Event.TheVariants as asked
 use Rattle.node.specs.declared.event.TopicEvent.{TopicEvent}
 use Rattle.node.specs.declared.event.TopicEvent.TheVariants as on_topic
 use Rattle.node.specs.Numbers.{IsNumbered, AreNumbered, StaysNumbered}
@@ -71,7 +73,7 @@ module _ (stands : ℕ → Image → Ledger → Kept → Type 0) (local : (t : �
 
   holds_still : (phase : Phase) (t : Topic) (v : StoreView) → AreLaws stands v → (old new : Disk) → Undisturbed (OfTopic v.topic) old new → Holds phase t v old → Holds phase t v new
   holds_still Before t v laws old new u x = settled_stays stands v laws old new t.ledger t.kept u x
-  holds_still phases.Written t v laws old new u x = settled_stays stands v laws old new (longer t) (changed t) u x
+  holds_still (phases.Written base) t v laws old new u x = settled_stays stands v laws old new (trimmed base (longer t)) (changed t) u x
   holds_still Lost t v laws old new u x = tt
 
   -- a topic stands where its files are left alone
@@ -81,6 +83,7 @@ module _ (stands : ℕ → Image → Ledger → Kept → Type 0) (local : (t : �
     honest = u.honest s.honest;
     counted = s.counted;
     slots = s.slots;
+    acknowledged = s.acknowledged;
     left = λ files may. let was = u.left files may in same_files v.topic (IsLeft t) was.0 files was.2 (s.left was.0 was.1);
     holds = holds_still phase t v laws old new u s.holds;
   }
@@ -100,39 +103,39 @@ same_topic b number = ap (λ (ts : List Topic). over b ts) (set-get_or b.topics 
 
 -- ---- parts of a flush that write nothing
 
-resting_isnt : (r : Result (Unit {0}) WriteError) → Resting ≡ Written r → ⊥
+resting_isnt : (r : Result ℕ WriteError) → Resting ≡ Written r → ⊥
 resting_isnt r is = cc
 
-taken_isnt : (r : Result (Unit {0}) WriteError) → Taken ≡ Written r → ⊥
+taken_isnt : (r : Result ℕ WriteError) → Taken ≡ Written r → ⊥
 taken_isnt r is = cc
 
 module _ {T : Type 0} {store : StoreMembers T} (laws : (s : T) → AreLaws store.stands (store.view s)) where
-  take_as : (h next : Held T store) (d : Disk) (taken : Result (Option Batch) WriteError) → next.stores ≡ h.stores → stage_of next.flight ≡ stage_after taken (stage_of h.flight) → TakeStep h.core taken next.core → HeldStands h d
+  take_as : (h next : Held T store) (d : Disk) (taken : Result (Option Batch) WriteError) → HasFloor h.core → next.stores ≡ h.stores → stage_of next.flight ≡ stage_after taken (stage_of h.flight) → TakeStep h.core taken next.core → HeldStands h d
       → Standing store.stands (phase_at next.core.failed (stage_after taken (stage_of h.flight))) next.core (view_in h) d
-  take_as h next d (Ok None) stores stage step s = subst (λ (u : Topic). Standing store.stands (phase_at u.failed (stage_of h.flight)) u (view_in h) d) (sym step.2) s
-  take_as h next d (Ok (Some batch)) stores stage step s = subst (λ (u : Topic). Standing store.stands Before u (view_in h) d) (sym step.2)
-      (standing_handed_on store.stands h.core (view_in h) d (laws h.stores) (subst (λ p. Standing store.stands p h.core (view_in h) d) (takes_before h.core h.flight h.under_way step.0 step.1) s))
-  take_as h next d (Err why) stores stage step s = subst (λ (u : Topic). Standing store.stands (phase_at u.failed (stage_of h.flight)) u (view_in h) d) (sym (untaken h.core why next.core step)) s
+  take_as h next d (Ok None) floored stores stage step s = subst (λ (u : Topic). Standing store.stands (phase_at u.failed (stage_of h.flight)) u (view_in h) d) (sym step.2) s
+  take_as h next d (Ok (Some batch)) floored stores stage step s = subst (λ (u : Topic). Standing store.stands Before u (view_in h) d) (sym step.2)
+      (standing_handed_on store.stands h.core batch.trim (view_in h) d (laws h.stores) floored step.5 (subst (λ p. Standing store.stands p h.core (view_in h) d) (takes_before h.core h.flight h.under_way step.0 step.1) s))
+  take_as h next d (Err why) floored stores stage step s = subst (λ (u : Topic). Standing store.stands (phase_at u.failed (stage_of h.flight)) u (view_in h) d) (sym (untaken h.core why next.core step)) s
 
   -- what stood beside the same store
   beside : (h next : Held T store) (d : Disk) (stage : Stage) → next.stores ≡ h.stores → stage_of next.flight ≡ stage → Standing store.stands (phase_at next.core.failed stage) next.core (view_in h) d → HeldStands next d
   beside h next d stage stores is s =
       subst (λ (x : T). Standing store.stands (phase_in next) next.core (store.view x) d) (sym stores) (subst (λ st. Standing store.stands (phase_at next.core.failed st) next.core (view_in h) d) (sym is) s)
 
-  pub take_stands : (h next : Held T store) (d : Disk) (result : Result (Unit {0}) WriteError) → next.stores ≡ h.stores → TakesPart h.core (stage_of h.flight) result next.core (stage_of next.flight) → HeldStands h d → HeldStands next d
-  take_stands h next d result stores part s = beside h next d (stage_after part.taken (stage_of h.flight)) stores part.stage (take_as h next d part.taken stores part.stage part.step s)
+  pub take_stands : (h next : Held T store) (d : Disk) (result : Result (Unit {0}) WriteError) → HasFloor h.core → next.stores ≡ h.stores → TakesPart h.core (stage_of h.flight) result next.core (stage_of next.flight) → HeldStands h d → HeldStands next d
+  take_stands h next d result floored stores part s = beside h next d (stage_after part.taken (stage_of h.flight)) stores part.stage (take_as h next d part.taken floored stores part.stage part.step s)
 
-  finish_as : (h : Held T store) (flight : Option Flight) (d : Disk) (written : Result (Unit {0}) WriteError) (result : Result ℕ WriteError) (u : Topic) → h.flight ≡ flight → stage_of flight ≡ Written written → FinishStep h.core written result u → HeldStands h d
+  finish_as : (h : Held T store) (flight : Option Flight) (d : Disk) (written : Result ℕ WriteError) (result : Result ℕ WriteError) (u : Topic) → HasFloor h.core → h.flight ≡ flight → stage_of flight ≡ Written written → FinishStep h.core written result u → HeldStands h d
       → Standing store.stands (phase_at u.failed Resting) u (view_in h) d
-  finish_as h None d written result u is at step s = absurd (resting_isnt written at)
-  finish_as h (Some (flight.Taken batch)) d written result u is at step s = absurd (taken_isnt written at)
-  finish_as h (Some (flight.Written batch ended)) d written result u is at step s =
+  finish_as h None d written result u floored is at step s = absurd (resting_isnt written at)
+  finish_as h (Some (flight.Taken batch)) d written result u floored is at step s = absurd (taken_isnt written at)
+  finish_as h (Some (flight.Written batch ended)) d written result u floored is at step s =
       let is_for = subst (λ (f : Option Flight). IsUnderWay h.core f) is h.under_way in
-      finish_standing store.stands h.core (works h.core batch is_for) (view_in h) d (laws h.stores) (fits h.core batch is_for) written result u step
+      finish_standing store.stands h.core (works h.core batch is_for) (view_in h) d (laws h.stores) (fits h.core batch is_for) floored written result u step
       (subst (λ st. Standing store.stands (phase_at h.core.failed st) h.core (view_in h) d) (ap (λ f. stage_of f) is ∙ at) s)
 
-  pub finish_stands : (h next : Held T store) (d : Disk) (result : Result ℕ WriteError) → next.stores ≡ h.stores → FinishesPart h.core (stage_of h.flight) result next.core (stage_of next.flight) → HeldStands h d → HeldStands next d
-  finish_stands h next d result stores part s = beside h next d Resting stores part.stage (finish_as h h.flight d part.written result next.core refl part.was part.step s)
+  pub finish_stands : (h next : Held T store) (d : Disk) (result : Result ℕ WriteError) → HasFloor h.core → next.stores ≡ h.stores → FinishesPart h.core (stage_of h.flight) result next.core (stage_of next.flight) → HeldStands h d → HeldStands next d
+  finish_stands h next d result floored stores part s = beside h next d Resting stores part.stage (finish_as h h.flight d part.written result next.core floored refl part.was part.step s)
 
 -- ---- one topic in its list
 
@@ -192,14 +195,19 @@ same_spot h next f f' core flight calm =
     ap (λ t. spot t (stage_of next.flight) f') core ∙ ap (λ x. spot h.core (stage_of x) f') flight ∙ ap (λ n. spot h.core (stage_of h.flight) n) calm
 
 -- a flush leaves the number of entry ids
-flushing_ledgers : (fails nothing : Bool) (t : Topic) → (flushing fails nothing t).per_ledger ≡ t.per_ledger
-flushing_ledgers true nothing t = refl
-flushing_ledgers false true t = refl
-flushing_ledgers false false t = refl
+flushing_ledgers : (fails nothing : Bool) (t : Topic) (limit : ℕ) → (flushing fails nothing t limit).per_ledger ≡ t.per_ledger
+flushing_ledgers true nothing t limit = refl
+flushing_ledgers false true t limit = refl
+flushing_ledgers false false t limit = refl
 
-amid_ledgers : (event : TopicEvent) (t : Topic) → (amid_work event t).per_ledger ≡ t.per_ledger
-amid_ledgers on_topic.Flush t = flushing_ledgers t.failed (has_no_flush t) t
-amid_ledgers _ t = refl
+amid_ledgers : (event : TopicEvent) (t : Topic) (limit : ℕ) → (amid_work event t limit).per_ledger ≡ t.per_ledger
+amid_ledgers on_topic.Flush t limit = flushing_ledgers t.failed (has_no_flush t) t limit
+amid_ledgers _ t limit = refl
+
+-- a broker while an event of one topic goes on, as one of those that there may be
+amid_some : (stands : ℕ → Image → Ledger → Kept → Type 0) (b : Broker) (number : ℕ) (event : TopicEvent) (limit : ℕ) (old new : Disk) → IsTrimPoint (topic_at b number) limit
+    → Leaves (StandsForBroker stands (with_topic b number (amid_work event (topic_at b number) limit))) old new → Leaves (StandsForSome stands (λ broker. Amid b (asked.OnTopic number event) broker)) old new
+amid_some stands b number event limit old new point leaves = weaken _ _ old new leaves (λ files is. (with_topic b number (amid_work event (topic_at b number) limit), (limit, point, refl), is))
 
 -- a broker of which one topic changes
 formed_changed : (b : Broker) (number : ℕ) (u : Topic) → u.per_ledger ≡ b.per_ledger → IsFormed b → IsFormed (with_topic b number u)
@@ -249,10 +257,13 @@ module _ {T S : Type 0} {store : StoreMembers T} where
       (length-map (slice_set t.held.items number next) (λ (x : Held T store). x.core) ∙ length-set t.held.items number next ∙ sym (count_is t)) is
 
   -- an event of a topic that isn't there
-  pub beyond_leaves : (disk : S → Disk) (t : Topics T S store) (number : ℕ) → ¬ (number < length t.held.items) → (amid : Topic) → TopicsStand disk t → Leaves (StandsForBroker store.stands (with_topic (broker_of t) number amid)) (disk t.shelf) (disk t.shelf)
-  beyond_leaves disk t number high amid s =
-      subst (λ (ts : List Topic). Leaves (StandsForBroker store.stands (over (broker_of t) ts)) (disk t.shelf) (disk t.shelf))
-      (sym (set_beyond (broker_of t).topics number amid (λ low. high (omega (arith, low, count_is t))))) (untouched disk t t.shelf s refl)
+  pub beyond_leaves : (disk : S → Disk) (t : Topics T S store) (number : ℕ) → ¬ (number < length t.held.items) → (event : TopicEvent) → TopicsStand disk t
+      → Leaves (StandsForSome store.stands (λ broker. Amid (broker_of t) (asked.OnTopic number event) broker)) (disk t.shelf) (disk t.shelf)
+  beyond_leaves disk t number high event s =
+      let topic = topic_at (broker_of t) number in
+      amid_some store.stands (broker_of t) number event topic.ledger.base (disk t.shelf) (disk t.shelf) (inl refl)
+      (subst (λ (ts : List Topic). Leaves (StandsForBroker store.stands (over (broker_of t) ts)) (disk t.shelf) (disk t.shelf))
+      (sym (set_beyond (broker_of t).topics number (amid_work event topic topic.ledger.base) (λ low. high (omega (arith, low, count_is t))))) (untouched disk t t.shelf s refl))
 
   module _ (disk : S → Disk) (laws : (s : T) → AreLaws store.stands (store.view s)) (local : (k : ℕ) (a b : Image) (ledger : Ledger) (kept : Kept) → Agree (OfTopic k) a b → store.stands k a ledger kept → store.stands k b ledger kept)
       (t : Topics T S store) (number : ℕ) (low : number < length t.held.items) (h next : Held T store) (was : slice_get t.held.items number ≡ Some h) where
@@ -298,8 +309,12 @@ module _ {T S : Type 0} {store : StoreMembers T} where
     })
 
     -- while an event of the topic goes on
-    pub work_leaves : (event : TopicEvent) (d : Disk) → Within (OfTopic (view_in h).topic) (StandsFor (store.stands (view_in h).topic) (IsLeft (amid_work event h.core))) (disk t.shelf) d → TopicsStand disk t
-        → Leaves (StandsForBroker store.stands (with_topic (broker_of t) number (amid_work event (topic_at (broker_of t) number)))) (disk t.shelf) d
+    pub work_leaves : (event : TopicEvent) (d : Disk)
+        → (limit : ℕ) × IsTrimPoint h.core limit × Within (OfTopic (view_in h).topic) (StandsFor (store.stands (view_in h).topic) (IsLeft (amid_work event h.core limit))) (disk t.shelf) d → TopicsStand disk t
+        → Leaves (StandsForSome store.stands (λ broker. Amid (broker_of t) (asked.OnTopic number event) broker)) (disk t.shelf) d
     work_leaves event d w s =
-        subst (λ x. Leaves (StandsForBroker store.stands (with_topic (broker_of t) number (amid_work event x))) (disk t.shelf) d) (sym (topic_was (broker_of t) t.held.items number h next was))
-        (leaves_then (amid_work event h.core) (amid_ledgers event h.core) d (of_number_within t number h was (IsLeft (amid_work event h.core)) (disk t.shelf) d w) s)
+        let limit = w.0 in
+        let at = sym (topic_was (broker_of t) t.held.items number h next was) in
+        amid_some store.stands (broker_of t) number event limit (disk t.shelf) d (subst (λ (x : Topic). IsTrimPoint x limit) at w.1)
+        (subst (λ (x : Topic). Leaves (StandsForBroker store.stands (with_topic (broker_of t) number (amid_work event x limit))) (disk t.shelf) d) at
+        (leaves_then (amid_work event h.core limit) (amid_ledgers event h.core limit) d (of_number_within t number h was (IsLeft (amid_work event h.core limit)) (disk t.shelf) d w.2) s))

@@ -327,7 +327,7 @@ amid_keeps b (event.Bytes who bytes) c s = subst (λ (x : Broker). Keeps b x) (s
     (record { names = λ number name is. got_before b.names s.more number name is; service_url = refl; per_ledger = refl })
 amid_keeps b (event.Pump who) c s = same b c s
 amid_keeps b (event.Close who) c s = same b c s
-amid_keeps b (event.OnTopic at e) c s = placed b c at (steps.amid_work e (topic_at b at)) s
+amid_keeps b (event.OnTopic at e) c s = placed b c at (steps.amid_work e (topic_at b at) s.0) s.2
 
 pub run_keeps : (old : State) (events : List Event) (outputs : List Output) (new : State) → Run old events outputs new → Keeps old.broker new.broker
 run_keeps old events outputs new run =

@@ -21,6 +21,7 @@ pub mod Sound
 pub mod Endings
 pub mod Covering
 pub mod Owed
+pub mod Extending
 pub mod Finding
 pub mod Delivering
 pub mod Turns

@@ -15,6 +15,7 @@ use Rattle.topic_stores.specs.Views.{AreLaws}
 use Rattle.topic_stores.specs.Writing.{StandsFor}
 use Rattle.topic_core.specs.State.{Topic}
 use Rattle.topic_core.specs.Crashes.{IsLeft}
+use Rattle.topic_core.proofs.Floors.{trimmed_at}
 use Rattle.catalog.specs.declared.catalog.Catalog.{Catalog}
 use Rattle.catalog.specs.Names.{Names}
 use Rattle.catalog.specs.Catalogs.{Own, StandsFor as NamesStand, Holds as NamesHeld, remembered, per_ledger, failed}
@@ -69,7 +70,7 @@ some_of (Some x) is = (x, refl)
 pub fresh_only : (n : ℕ) (l : Ledger) (k : Kept) → IsLeft (fresh n) l k → (l ≡ whole []) × (k ≡ map_of.empty)
 fresh_only n l k (inl is) = is
 fresh_only n l k (inr (inl is)) = is
-fresh_only n l k (inr (inr is)) = is
+fresh_only n l k (inr (inr is)) = (is.0.is ∙ trimmed_at (whole []) l.base (omega (arith, is.0.below)), is.1)
 
 -- a broker is known by its parts
 abbrev pub parts : ℕ → List ℕ → Names → Option (List ℕ) → List Topic → Broker

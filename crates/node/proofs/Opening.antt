@@ -8,6 +8,7 @@ use Rattle.disk.specs.Disk.{Disk, Image, Leaves, Failed, Kept as Counted}
 use Rattle.gated_log.specs.declared.refusal.Refusal.{Refusal}
 use Rattle.gated_log.specs.declared.refusal.Refusal.TheVariants as refusal
 use Rattle.managed_ledger.specs.Entries.{Ledger, end_of, whole}
+use Rattle.records.specs.Floors.{HaveBelow}
 use Rattle.records.specs.Maps.{Kept}
 use Rattle.topic_stores.specs.declared.store.TopicStore.{Ghosts as StoreMembers}
 use Rattle.topic_stores.specs.Views.{StoreView, Settled, AreLaws}
@@ -44,10 +45,11 @@ module _ (stands : ℕ → Image → Ledger → Kept → Type 0) (n : ℕ) (t : 
   is_kept : t.kept ≡ v.kept
   is_kept = ap (λ (x : Topic). x.kept) as_opened
 
-  pub opened_standing : (d : Disk) → AreLaws stands v → Settled v d t.ledger v.kept → Match Before t v → Standing stands (resting t.failed) t v d
-  opened_standing d laws hold matched =
+  pub opened_standing : (d : Disk) → AreLaws stands v → ((t : ℕ) (files : Image) (ledger : Ledger) (k : Kept) → stands t files ledger k → HaveBelow ledger.base k) → Settled v d t.ledger v.kept → Match Before t v
+      → Standing stands (resting t.failed) t v d
+  opened_standing d laws below hold matched =
       subst (λ b. Standing stands (resting b) t v d) (sym (ap (λ (x : Topic). x.failed) as_opened))
-      (reopened_standing stands (opened n (whole []) [] map.empty) t v d t.ledger v.kept laws as_opened matched hold)
+      (reopened_standing stands (opened n (whole []) [] map.empty) t v d t.ledger v.kept laws as_opened matched (below v.topic d.seen t.ledger v.kept (laws.stands d.seen t.ledger v.kept hold.settled.now)) hold)
 
 -- a topic of a node, at rest over its store
 pub rests_so : {T : Type 0} {store : StoreMembers T} (h : Held T store) (core : Topic) (stores : T) (d : Disk) → (h.core ≡ core) × (h.stores ≡ stores) × (h.flight ≡ None) → Standing store.stands (resting core.failed) core (store.view stores) d → HeldStands h d

@@ -24,7 +24,7 @@ use Rattle.commands.specs.declared.giving_back.CloseConsumer.{CloseConsumer}
 use Rattle.commands.specs.declared.giving_back.Redeliver.{Redeliver}
 use Rattle.topic_core.specs.declared.command.TopicCommand.{TopicCommand}
 use Rattle.topic_core.specs.declared.command.TopicCommand.TheVariants as asked
-use Rattle.topic_core.specs.State.{Topic, changes_of}
+use Rattle.topic_core.specs.State.{Topic, floor, changes_of}
 use Rattle.topic_core.specs.Soundness.{IsSound, IsSoundTopic}
 use Rattle.topic_core.specs.Crashes.{IsLeft, TopicCrash}
 use Rattle.permits.specs.Ends.{Word as PermitWord}
@@ -109,7 +109,7 @@ module _ (t : Topic) (kept : Kept) (word : Word) (sound : IsSound t) (h : HoldsI
   subscribes who subscribe permits u is are =
       let c = subscribed t who subscribe permits in
       let seat = seat_of who subscribe in
-      let start = subscriptions.start_of (start_of subscribe.initial) t.committed in
+      let start = subscriptions.start_of (start_of subscribe.initial) (floor t) t.committed in
       let are' = at_topic u c is are in
       back u c (answered t who (asked.Subscribe subscribe) Later word) is
       (owes t.committed c.subs.changes (Some (OfGone subscribe.subscription)) who (Success subscribe.request_id) (promise_of t who (asked.Subscribe subscribe)) are'.formed
@@ -269,8 +269,8 @@ module _ (word : Word) where
   flush_holds = record {
     same = λ t h. h;
     then = λ t u v first second h. second (first h);
-    take = λ t h. holds_handed_on (changes_of t.doubt) t.subs.changes t.kept t.queues word h;
-    finish = λ t h. holds_finished (changes_of t.doubt) t.subs.changes t.kept t.queues word h;
+    take = λ t p point h. holds_handed_on (changes_of t.doubt) t.subs.changes t.kept t.queues word h;
+    finish = λ t b low h. holds_finished (changes_of t.doubt) t.subs.changes t.kept t.queues word h;
     take_back = λ t h. holds_taken_back (changes_of t.doubt) t.subs.changes t.kept t.queues word h;
     fail = λ t h. holds_failed (changes_of t.doubt) t.subs.changes t.kept t.queues word h;
   }

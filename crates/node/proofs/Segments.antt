@@ -11,5 +11,5 @@ use Rattle.node.specs.Driving.{TellsSegments}
 pub tells_segments : (stands : ℕ → Image → Ledger → Kept → Type 0) (laid : ℕ → Image → List ℕ → Type 0) (phase : Phase) (core : Topic) (v : StoreView) (disk : Disk) (segments number : ℕ)
     → ((files : Image) (ledger : Ledger) (kept : Kept) → v.holds files ledger kept → laid v.topic files v.counts) → v.topic ≡ number → segments ≡ length v.counts → Standing stands phase core v disk → TellsSegments laid number phase disk.seen segments
 tells_segments stands laid Before core v disk segments number law is counted s = (v.counts, subst (λ t. laid t disk.seen v.counts) is (law disk.seen _ _ s.holds.settled.now), counted)
-tells_segments stands laid Written core v disk segments number law is counted s = (v.counts, subst (λ t. laid t disk.seen v.counts) is (law disk.seen _ _ s.holds.settled.now), counted)
+tells_segments stands laid (Written base) core v disk segments number law is counted s = (v.counts, subst (λ t. laid t disk.seen v.counts) is (law disk.seen _ _ s.holds.settled.now), counted)
 tells_segments stands laid Lost core v disk segments number law is counted s = tt

@@ -4,14 +4,15 @@ use Rattle.std.specs.Ordering.{nat_cmp}
 use Rattle.std.specs.Cmp.Lexicographic.{slice_cmp}
 use Rattle.std.specs.FinMap as map
 use Rattle.managed_ledger.specs.Entries.{whole}
+use Rattle.records.specs.Floors.{HaveBelow}
 use Rattle.topic_core.specs.State.{Topic}
 use Rattle.reply_queues.specs.Replies.{due_to}
 use Rattle.topic_core.specs.Steps.{Collects, collected}
 use Rattle.topic_core.specs.Soundness.{IsSoundTopic}
-use Rattle.topic_core.proofs.Keeps.{command-sound, grant-sound, dispatch-sound, flush-sound, take-sound, finish-sound, reopen-sound, crash-sound, collected-sound, leave-sound}
+use Rattle.topic_core.proofs.Keeps.{command-sound, grant-sound, dispatch-sound, flush-sound, take-sound, handed_on-sound, finish-sound, reopen-sound, crash-sound, collected-sound, leave-sound}
 use Rattle.topic_core.proofs.Openings.{sound-opened, receipts-opened}
-use Rattle.topic_core.proofs.Flushes.{sound-handed_on, receipts-handed_on}
-use Rattle.topic_core.specs.Flush.{handed_on, has_no_flush}
+use Rattle.topic_core.proofs.Floors.{opened_acknowledged}
+use Rattle.topic_core.specs.Flush.{IsTrimPoint, has_no_flush}
 use Rattle.session.specs.Broker.{Broker, fresh, topic_at}
 use Rattle.subscriptions.specs.Steps as subscriptions
 use Rattle.subscriptions.specs.Laws.{AreDurable}
@@ -39,14 +40,11 @@ takes_sound t u h takes s =
     let step : Collects t h.session (Some h.reply) c = (takes.first ∙ ap (λ (x : Topic). h.reply ∷ due_to h.session x.queues) takes.taken, refl) in
     subst (λ (x : Topic). IsSoundTopic x) (sym takes.taken) (collected-sound t h.session (Some h.reply) c step s)
 
-handed_on_sound : (t : Topic) → IsSoundTopic t → IsSoundTopic (handed_on t)
-handed_on_sound t s = record { state = sound-handed_on t s.state; receipts = receipts-handed_on t s.state s.receipts; counted = s.counted; kept = s.kept; slots = s.slots }
-
 -- a topic within a flush is sound
-flushing_sound : (failed nothing : Bool) (t : Topic) → IsSoundTopic t → IsSoundTopic (flushing failed nothing t)
-flushing_sound true nothing t s = s
-flushing_sound false true t s = s
-flushing_sound false false t s = handed_on_sound t s
+flushing_sound : (failed nothing : Bool) (t : Topic) (p : ℕ) → IsTrimPoint t p → IsSoundTopic t → IsSoundTopic (flushing failed nothing t p)
+flushing_sound true nothing t p point s = s
+flushing_sound false true t p point s = s
+flushing_sound false false t p point s = handed_on-sound t p point s
 
 pub move_sound : (t : Topic) (m : Move) (u : Topic) → MoveStep t m u → IsSoundTopic t → IsSoundTopic u
 move_sound t (Command who command answer) u step s = command-sound t who command answer u step s
@@ -61,7 +59,7 @@ move_sound t (Take result) u step s = take-sound t result u step s
 move_sound t (Finish written result) u step s = finish-sound t written result u step s
 move_sound t (Reopen result) u step s = reopen-sound t result u step s
 move_sound t Crash u step s = crash-sound t u step s
-move_sound t Cut u step s = subst (λ (x : Topic). IsSoundTopic x) (sym step) (flushing_sound t.failed (has_no_flush t) t s)
+move_sound t Cut u step s = subst (λ (x : Topic). IsSoundTopic x) (sym step.2) (flushing_sound t.failed (has_no_flush t) t step.0 step.1 s)
 
 keeps_sound : Respected KeepsSound
 keeps_sound = record {
@@ -83,6 +81,9 @@ durable_empty = record {
   named = λ name there. absurd (not_some _ (map.get-empty (slice_cmp nat_cmp) name) there);
 }
 
+none_have : HaveBelow 0 map.empty
+none_have name acked there i low = absurd (omega (arith, low))
+
 pub fresh_sound : (n : ℕ) → 0 < n → IsSoundTopic (fresh n)
 fresh_sound n some = record {
   state = sound-opened n (whole []) [] map.empty some (omega arith) refl durable_empty;
@@ -90,6 +91,7 @@ fresh_sound n some = record {
   counted = refl;
   kept = are_kept.slot 0 map.empty (subscriptions.opened map.empty) [] (are_kept.opened 0 map.empty durable_empty);
   slots = refl;
+  acknowledged = opened_acknowledged n (whole []) [] map.empty none_have;
 }
 
 pub fresh_broker_sound : (n : ℕ) (url : List ℕ) → 0 < n → IsSoundBroker (fresh_broker n url)

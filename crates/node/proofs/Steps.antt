@@ -1,5 +1,5 @@
 -- What a crash leaves at any moment of a flush.
-use Rattle.std.proofs.Common.{◌≡◌, ℕ, Bool, true, false, refl, sym, subst}
+use Rattle.std.proofs.Common.{◌≡◌, inl, ℕ, Bool, true, false, refl, sym, subst}
 use Rattle.disk.specs.Disk.{Disk, Image}
 use Rattle.disk.specs.Areas.{OfTopic, Within, stays_within}
 use Rattle.managed_ledger.specs.Entries.{Ledger}
@@ -14,8 +14,12 @@ module _ {S : Type 0} (disk : S → Disk) (stands : Image → Ledger → Kept �
   pub untouched : new ≡ old → Within (OfTopic area) (StandsFor stands (IsLeft t)) (disk old) (disk new)
   untouched same = subst (λ (s : S). Within (OfTopic area) (StandsFor stands (IsLeft t)) (disk old) (disk s)) (sym same) (stays_within (OfTopic area) (StandsFor stands (IsLeft t)) (disk old) left)
 
-  pub flush_within : (failed nothing : Bool) → (failed ≡ false → nothing ≡ false → Within (OfTopic area) (StandsFor stands (IsLeft (topics.handed_on t))) (disk old) (disk new)) → (failed ≡ true → new ≡ old) → (nothing ≡ true → new ≡ old)
-      → Within (OfTopic area) (StandsFor stands (IsLeft (flushing failed nothing t))) (disk old) (disk new)
-  flush_within true nothing within refused idle = untouched (refused refl)
-  flush_within false true within refused idle = untouched (idle refl)
+  -- over a flush with a limit, or one that begins nothing
+  abbrev Leaving : Topic → Type 0
+  Leaving u = Within (OfTopic area) (StandsFor stands (IsLeft u)) (disk old) (disk new)
+
+  pub flush_within : (failed nothing : Bool) → (failed ≡ false → nothing ≡ false → (limit : ℕ) × topics.IsTrimPoint t limit × Leaving (topics.handed_on t limit)) → (failed ≡ true → new ≡ old) → (nothing ≡ true → new ≡ old)
+      → (limit : ℕ) × topics.IsTrimPoint t limit × Leaving (flushing failed nothing t limit)
+  flush_within true nothing within refused idle = (t.ledger.base, inl refl, untouched (refused refl))
+  flush_within false true within refused idle = (t.ledger.base, inl refl, untouched (idle refl))
   flush_within false false within refused idle = within refl refl

@@ -3,30 +3,34 @@ use Rattle.std.proofs.Common.{◌≡◌, ℕ, ◌≤◌, Bool, true, false, ◌&
 use Rattle.std.proofs.lemmas.Bool.{true≢false, false≢true}
 use Rattle.std.proofs.lemmas.Bool.Decides.{nat_tests}
 use Rattle.std.proofs.lemmas.List.{length-take}
-use Rattle.managed_ledger.specs.Entries.{Entries}
+use Rattle.disk.specs.Disk.{Image}
+use Rattle.managed_ledger.specs.Entries.{Entries, Ledger}
+use Rattle.records.specs.Maps.{Kept}
 use Rattle.topic_stores.specs.declared.batch.Batch.{Batch}
 use Rattle.topic_stores.specs.declared.error.WriteError.{WriteError}
 use Rattle.topic_stores.specs.declared.error.WriteError.TheVariants.{Device, NoMemory}
-use Rattle.topic_core.specs.State.{Topic, entries_of, changes_of}
+use Rattle.topic_stores.specs.Views.{StoreView}
+use Rattle.topic_core.proofs.Standings.{match_goes_on, is_for_goes_on}
+use Rattle.topic_core.specs.State.{Topic, floor, entries_of, changes_of}
 use Rattle.topic_core.specs.Flush.{is_idle, has_no_flush, FlushStep, FlushIn, TakeStep}
-use Rattle.topic_core.specs.Standing.{Phase, Before, phase_then, resting, IsFor}
+use Rattle.topic_core.specs.Standing.{Phase, Before, phase_then, resting, IsFor, Match, GoesOn}
 use Rattle.node.specs.Flights.{stage_of, phase_at, batch_of, IsUnderWay}
 use Rattle.node.specs.declared.flight.Flight.{Flight}
 
 -- ---- its topic
 
-first_three : (failed in_doubt same more : Bool) → (not failed && in_doubt && same && more) ≡ true → (failed ≡ false) × (in_doubt ≡ true) × (same ≡ true)
-first_three true in_doubt same more h = absurd (false≢true h)
-first_three false false same more h = absurd (false≢true h)
-first_three false true false more h = absurd (false≢true h)
-first_three false true true more h = (refl, refl, refl)
+first_three : (failed in_doubt same more limit : Bool) → (not failed && in_doubt && same && more && limit) ≡ true → (failed ≡ false) × (in_doubt ≡ true) × (same ≡ true)
+first_three true in_doubt same more limit h = absurd (false≢true h)
+first_three false false same more limit h = absurd (false≢true h)
+first_three false true false more limit h = absurd (false≢true h)
+first_three false true true more limit h = (refl, refl, refl)
 
 equal : (n m : ℕ) → nat_eq n m ≡ true → n ≡ m
 equal n m h = grind (arith, nat_tests)
 
 module _ (t : Topic) (batch : Batch) (is_for : IsFor t batch) where
   awaited : (t.failed ≡ false) × (is_some t.doubt ≡ true) × (nat_eq (entries_of t.doubt) (length batch.entries.items) ≡ true)
-  awaited = first_three t.failed (is_some t.doubt) (nat_eq (entries_of t.doubt) (length batch.entries.items)) (nat_eq (changes_of t.doubt) (length batch.changes.items)) is_for.awaited
+  awaited = first_three t.failed (is_some t.doubt) (nat_eq (entries_of t.doubt) (length batch.entries.items)) (nat_eq (changes_of t.doubt) (length batch.changes.items)) (nat_eq (floor t) batch.trim) is_for.awaited
 
   pub works : t.failed ≡ false
   works = awaited.0
@@ -89,3 +93,13 @@ takes_before t flight u works some = ap (λ f. phase_at t.failed (stage_of f)) (
 pub untaken : (t : Topic) (why : WriteError) (new : Topic) → TakeStep t (Err why) new → new ≡ t
 untaken t Device new step = step.1
 untaken t NoMemory new step = step.2
+
+-- ---- a call that leaves what is committed and in doubt
+
+module _ (stands : ℕ → Image → Ledger → Kept → Type 0) (old new : Topic) (go : GoesOn old new) where
+  pub matched_still : (flight : Option Flight) (v : StoreView) → Match (phase_at old.failed (stage_of flight)) old v → Match (phase_at new.failed (stage_of flight)) new v
+  matched_still flight v m = subst (λ b. Match (phase_at b (stage_of flight)) new v) (sym go.failed) (match_goes_on stands (phase_at old.failed (stage_of flight)) old new v go m)
+
+  pub under_way_still : (flight : Option Flight) → IsUnderWay old flight → IsUnderWay new flight
+  under_way_still None u = tt
+  under_way_still (Some flight) u = is_for_goes_on stands old new (batch_of flight) go u

@@ -5,6 +5,7 @@ use Rattle.std.proofs.lemmas.List.Quantifiers.{position-Some}
 use Rattle.std.proofs.lemmas.Option.{get_or_from_slice_get}
 use Rattle.gated_log.specs.declared.refusal.Refusal.TheVariants as refusal
 use Rattle.topic_core.specs.State.{Topic}
+use Rattle.topic_core.specs.Flush.{IsTrimPoint}
 use Rattle.session.specs.Broker.{Broker, fresh, topic_at, with_topic}
 use Rattle.session.specs.Client.{Client, Play, play, frames_of, AreBounded}
 use Rattle.node.specs.State.{State, MayRefuse, place_in, place_of, is_full, with_session}
@@ -238,9 +239,9 @@ utters_both a b c bytes first u = record {
   at_once = at_once_then (λ number. (first number).moves) (λ number. (u.each number).moves) u.said u.at_once;
 }
 
-amid_course : (e : TopicEvent) (t : Topic) → Course t [] (steps.amid_work e t)
-amid_course on_topic.Flush t = one_move t Cut (steps.in_flush t) refl
-amid_course _ t = still_course t
+amid_course : (e : TopicEvent) (t : Topic) (limit : ℕ) → IsTrimPoint t limit → Course t [] (steps.amid_work e t limit)
+amid_course on_topic.Flush t limit point = one_move t Cut (steps.in_flush t limit) (limit, point, refl)
+amid_course _ t limit point = still_course t
 
 until_cut : (b : Broker) (e : Event) (c : Broker) → steps.Amid b e c → (number : ℕ) → Course (topic_at b number) [] (topic_at c number)
 until_cut b event.Open c is number = same_put b c number is
@@ -249,7 +250,7 @@ until_cut b (event.Bytes who bytes) c is number =
     (subst (λ (t : Topic). Course (topic_at b number) [] t) (sym (more_at b.topics is.more number (fresh b.per_ledger))) (still_course (topic_at b number)))
 until_cut b (event.Pump who) c is number = same_put b c number is
 until_cut b (event.Close who) c is number = same_put b c number is
-until_cut b (event.OnTopic at e) c is number = placed_each b c at (steps.amid_work e (topic_at b at)) (amid_course e (topic_at b at)) is number
+until_cut b (event.OnTopic at e) c is number = placed_each b c at (steps.amid_work e (topic_at b at) is.0) (amid_course e (topic_at b at) is.0 is.1) is.2 number
 
 pub turn_tells : (old : Life) (t : Turn) (output : Output) (new : Life) → TurnStep old t output new → TellsIn (hearer_in t) old output new
 turn_tells old (Whole h) output new s = happening_tells old h output new s

@@ -1,13 +1,14 @@
 -- Which messages go out.
-use Rattle.std.specs.Prelude.{◌≡◌, ℕ, true, Some, List, [], ◌∷◌, ◌++◌}
-use Rattle.managed_ledger.specs.Entries.{Ledger, entry_at}
+use Rattle.std.specs.Prelude.{◌≡◌, ℕ, true, List, [], ◌∷◌, ◌++◌}
+use Rattle.managed_ledger.specs.Entries.{Ledger}
 use Rattle.topic_core.specs.State.{Topic}
 use Rattle.topic_core.specs.Laws.{IsAdmitted}
 use Rattle.node.specs.Moves.{Handed, outgoing, Move, Deliver, Moves}
+use Rattle.node.specs.Finding.{Keeps}
 use Rattle.node.specs.Telling.{is_message}
 
 -- a message went out on moves: there its position was open and admitted to the session's consumer, and its entry, which
--- stood in the ledger, stands in it still
+-- stood in the ledger, stands in it still, where no trim took it
 pub record IsDelivered (old : Topic) (moves : List Move) (ledger : Ledger) (handed : Handed) : Type 0 where
   pub consumer : ℕ
   pub before : List Move
@@ -17,7 +18,7 @@ pub record IsDelivered (old : Topic) (moves : List Move) (ledger : Ledger) (hand
   pub steps : Moves old before there
   pub position : ℕ
   pub admitted : IsAdmitted there handed.session consumer (outgoing handed) position
-  pub stands : entry_at ledger position ≡ Some handed.entry
+  pub stands : Keeps ledger position handed.entry
 
 -- what is a message was delivered
 abbrev pub Delivers : Topic → List Move → Ledger → Handed → Type 0

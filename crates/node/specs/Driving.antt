@@ -27,10 +27,12 @@ use Rattle.node.specs.declared.status.TopicStatus.{TopicStatus}
 use Rattle.node.specs.declared.power.Machine.{Machine}
 use Rattle.node.specs.declared.power.Machine.TheVariants as machine
 
--- what is told of the topic at a place: its name, how many entries its ledger has, and the statuses of its subscriptions
+-- what is told of the topic at a place: its name, how many entries came to its ledger in all, where those that are still there begin, and
+-- the statuses of its subscriptions
 abbrev pub StatusIn : Option ℕ → State → Option TopicStatus → Type 0
 StatusIn (Some number) state (Some status) =
-    (status.number ≡ number) × (slice_get state.broker.names number ≡ Some status.name) × (status.entries ≡ end_of (topic_at state.broker number).ledger) × AreStatuses (topic_at state.broker number).subs.subs status.subscriptions.items
+    (status.number ≡ number) × (slice_get state.broker.names number ≡ Some status.name) × (status.entries ≡ end_of (topic_at state.broker number).ledger)
+    × (status.base ≡ (topic_at state.broker number).ledger.base) × AreStatuses (topic_at state.broker number).subs.subs status.subscriptions.items
 StatusIn (Some number) state None = ⊥
 StatusIn None state told = told ≡ None
 
@@ -39,14 +41,14 @@ abbrev pub StatusOf : Bool → State → ℕ → Option TopicStatus → Type 0
 StatusOf true state number told = StatusIn (place_in state.broker.topics number) state told
 StatusOf false state number told = told ≡ None
 
--- the topic of this number has so many segment files, by the files alone
+-- the topic of this number has so many segment files from where its ledger begins on, by the files alone
 abbrev pub HasSegments : (ℕ → Image → List ℕ → Type 0) → ℕ → Image → ℕ → Type 0
 HasSegments laid number files segments = (counts : List ℕ) × laid number files counts × (segments ≡ length counts)
 
 -- as many segments are told as there are, but where the store met a failure of the device
 abbrev pub TellsSegments : (ℕ → Image → List ℕ → Type 0) → ℕ → Phase → Image → ℕ → Type 0
 TellsSegments laid number Before files segments = HasSegments laid number files segments
-TellsSegments laid number Written files segments = HasSegments laid number files segments
+TellsSegments laid number (Written base) files segments = HasSegments laid number files segments
 TellsSegments laid number Lost files segments = Unit {0}
 
 -- so it is of the topic that has this number

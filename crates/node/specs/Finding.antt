@@ -1,14 +1,15 @@
 -- What receipts promise, and where it is found.
-use Rattle.std.specs.Prelude.{◌≡◌, ◌≢◌, ◌≤◌, ℕ, true, Some, List, [], ◌∷◌, ◌++◌}
+use Rattle.std.specs.Prelude.{◌≡◌, ◌≢◌, ◌⊎◌, ◌<◌, ◌≤◌, ℕ, true, Some, List, [], ◌∷◌, ◌++◌}
 use Rattle.std.specs.List.{AllByRecursion}
 use Rattle.commands.specs.declared.reply.Reply.TheVariants.{SendReceipt}
-use Rattle.managed_ledger.specs.Entries.{Ledger, end_of, entry_at, lengthened}
+use Rattle.managed_ledger.specs.Entries.{Ledger, end_of, entry_at}
+use Rattle.managed_ledger.specs.Trims.{IsGrown}
 use Rattle.topic_core.specs.declared.command.Answer.{Answer}
 use Rattle.topic_core.specs.declared.command.Answer.TheVariants.{Now, Later, Nothing, NoMemory}
 use Rattle.topic_core.specs.declared.command.Send.{Send}
 use Rattle.topic_core.specs.declared.command.TopicCommand.{TopicCommand}
 use Rattle.topic_core.specs.declared.command.TopicCommand.TheVariants as asked
-use Rattle.topic_core.specs.State.{Topic, next_position, entries_of}
+use Rattle.topic_core.specs.State.{Topic, floor, next_position, entries_of}
 use Rattle.ids.specs.Ids.{message_id_at}
 use Rattle.reply_queues.specs.Replies.{is_receipt}
 use Rattle.topic_core.specs.Steps.{bytes_of}
@@ -70,12 +71,17 @@ pub record IsLatest (sends : List Sent) (send : Sent) : Type 0 where
   pub splits : sends ≡ before ++ send ∷ after
   pub latest : AllByRecursion (λ (other : Sent). other.position ≢ send.position) after
 
--- it is the receipt of the latest SEND for its position, to the session that sent, and the ledger has that SEND's entry there
+-- the ledger has this entry at its position, or a trim took that
+abbrev pub Keeps : Ledger → ℕ → List ℕ → Type 0
+Keeps ledger i entry = (i < ledger.base) ⊎ (entry_at ledger i ≡ Some entry)
+
+-- It is the receipt of the latest SEND for its position, to the session that sent, and the ledger has that SEND's entry there, where
+-- no trim took it.
 pub record IsFound (sends : List Sent) (ledger : Ledger) (handed : Handed) : Type 0 where
   pub send : Sent
   pub sent : IsLatest sends send
   pub promised : handed ≡ send.receipt
-  pub stands : entry_at ledger send.position ≡ Some send.entry
+  pub stands : Keeps ledger send.position send.entry
 
 -- a reply that is a receipt is found
 abbrev pub Finds : List Sent → Ledger → Handed → Type 0
@@ -85,15 +91,15 @@ abbrev pub FindsEach : List Sent → Ledger → List Handed → Type 0
 FindsEach sends ledger [] = Unit {0}
 FindsEach sends ledger (handed ∷ more) = Finds sends ledger handed × FindsEach sends ledger more
 
--- The ledger only grows, and each entry behind the old ones is that of the latest SEND for its position.
+-- The ledger only grows, but for a front that a trim took, and each entry behind the old ones is that of the latest SEND for its position.
 pub record IsPublished (sends : List Sent) (old new : Ledger) : Type 0 where
-  pub more : List (List ℕ)
-  pub grown : new ≡ lengthened old more
+  pub grown : IsGrown old new
   pub each : (i : ℕ) (entry : List ℕ) → end_of old ≤ i → entry_at new i ≡ Some entry → (send : Sent) × IsLatest sends send × (send.position ≡ i) × (send.entry ≡ entry)
 
--- a topic that owes no reply, with no entry that waits and none in doubt, which counts its ledger
+-- a topic that owes no reply, with no entry that waits and none in doubt, which counts its ledger; a trim may take none but those
 pub record IsQuiet (t : Topic) : Type 0 where
   pub queues : t.queues ≡ []
   pub waiting : t.waiting ≡ []
   pub sure : entries_of t.doubt ≡ 0
   pub counted : end_of t.ledger ≡ t.committed
+  pub trims : floor t ≤ t.committed

@@ -43,7 +43,7 @@ pub record StaysSound : Type 0 where
   pub life : (old : Life) (happenings : List Happening) (outputs : List Output) (new : Life) → AllowedRun old happenings outputs new → IsSoundBroker old.state.broker → IsSoundBroker new.state.broker
   pub cut : (old : Life) (turns : List Turn) (outputs : List Output) (new : Life) → AllowedLife old turns outputs new → IsSoundBroker old.state.broker → IsSoundBroker new.state.broker
 
--- the ledger of a topic that was quiet only grows, by entries of accepted SENDs at their positions
+-- the ledger of a topic that was quiet only grows, by entries of accepted SENDs at their positions, but for a front that a trim took
 abbrev pub MovesPublish : Type 0
 MovesPublish = (old : Topic) (moves : List Move) (new : Topic) (steps : Moves old moves new) → IsQuiet old
     → IsPublished (sends_by old moves new steps) old.ledger new.ledger
@@ -53,7 +53,7 @@ abbrev pub ReceiptsAreCovered : Type 0
 ReceiptsAreCovered = (old : Topic) (moves : List Move) (new : Topic) → Moves old moves new → AllByRecursion (λ move. is_crash move ≡ false) moves → IsSoundTopic old
     → receipts_told (told_by moves) + receipts_due new.queues ≤ end_of new.ledger
 
--- each receipt that was told on moves from a quiet topic is that of an accepted SEND, whose entry stands in the ledger
+-- each receipt that was told on moves from a quiet topic is that of an accepted SEND, whose entry stands in the ledger, where no trim took it
 abbrev pub ReceiptsAreFound : Type 0
 ReceiptsAreFound = (old : Topic) (moves : List Move) (new : Topic) (steps : Moves old moves new) → IsQuiet old
     → FindsEach (sends_by old moves new steps) new.ledger (told_by moves)
@@ -72,7 +72,7 @@ abbrev pub WordsAreKept : Type 0
 WordsAreKept = (old : Topic) (moves : List Move) (new : Topic) (steps : Moves old moves new) → IsQuiet old → IsSoundTopic old → WordIsKept old moves new steps
 
 -- each message that was told on moves from a quiet topic was open and admitted where it went out, and is the entry that
--- stands in the ledger at its position
+-- stands in the ledger at its position, where no trim took it
 abbrev pub MessagesAreAdmitted : Type 0
 MessagesAreAdmitted = (old : Topic) (moves : List Move) (new : Topic) → Moves old moves new → IsQuiet old → DeliversEach old moves new.ledger (told_by moves)
 

@@ -6,6 +6,8 @@ use Rattle.std.proofs.Common.{sym, ap, ◌∙◌}
 use Rattle.cursor.specs.Positions.{positions_code}
 use Rattle.records.specs.declared.record.Record.{Record}
 use Rattle.records.specs.declared.record.Record.TheVariants.{Made, Removed, Acknowledged, AcknowledgedThrough, AcknowledgedRange}
+use Rattle.std.specs.List.{AllByRecursion-prop}
+use Rattle.records.specs.Floors.{StartsFrom}
 use Rattle.records.specs.Maps.{Kept, kept_code}
 use Rattle.records.specs.Records.{IsNew, IsPlaced, IsFormed, AreFormed, after}
 use Rattle.subscriptions.specs.State.{Subscriptions}
@@ -48,11 +50,12 @@ is_kept-prop entries kept t =
 
 remembers-prop : (phase : Phase) (t : Topic) (v : StoreView) → IsProp (Remembers phase t v)
 remembers-prop Before t v =
-    as_product (λ x. (x.core_works, (x.works, (x.counted, x.kept)))) (λ x. record { core_works = x.0; works = x.1.0; counted = x.1.1.0; kept = x.1.1.1 }) (λ _. refl)
-    (×_prop (Coded-set coded_bool _ _) (×_prop (Coded-set coded_bool _ _) (×_prop (Coded-set coded_ℕ _ _) (Coded-set kept_code _ _))))
-remembers-prop Written t v =
-    as_product (λ x. (x.core_works, (x.under_way, (x.works, (x.counted, x.kept))))) (λ x. record { core_works = x.0; under_way = x.1.0; works = x.1.1.0; counted = x.1.1.1.0; kept = x.1.1.1.1 }) (λ _. refl)
-    (×_prop (Coded-set coded_bool _ _) (×_prop (Coded-set coded_bool _ _) (×_prop (Coded-set coded_bool _ _) (×_prop (Coded-set coded_ℕ _ _) (Coded-set kept_code _ _)))))
+    as_product (λ x. (x.core_works, (x.works, (x.counted, (x.kept, x.begins))))) (λ x. record { core_works = x.0; works = x.1.0; counted = x.1.1.0; kept = x.1.1.1.0; begins = x.1.1.1.1 }) (λ _. refl)
+    (×_prop (Coded-set coded_bool _ _) (×_prop (Coded-set coded_bool _ _) (×_prop (Coded-set coded_ℕ _ _) (×_prop (Coded-set kept_code _ _) le_prop))))
+remembers-prop (Written base) t v =
+    as_product (λ x. (x.core_works, (x.under_way, (x.works, (x.counted, (x.kept, (x.begins, x.within)))))))
+    (λ x. record { core_works = x.0; under_way = x.1.0; works = x.1.1.0; counted = x.1.1.1.0; kept = x.1.1.1.1.0; begins = x.1.1.1.1.1.0; within = x.1.1.1.1.1.1 }) (λ _. refl)
+    (×_prop (Coded-set coded_bool _ _) (×_prop (Coded-set coded_bool _ _) (×_prop (Coded-set coded_bool _ _) (×_prop (Coded-set coded_ℕ _ _) (×_prop (Coded-set kept_code _ _) (×_prop (Coded-set coded_ℕ _ _) le_prop))))))
 remembers-prop Lost t v =
     as_product (λ x. (x.told, x.failed)) (λ x. record { told = x.0; failed = x.1 }) (λ _. refl) (×_prop (Coded-set coded_bool _ _) (Coded-set coded_bool _ _))
 
@@ -64,10 +67,19 @@ Match-prop phase t v =
 record_code : Coded Record
 record_code = Prim.hlevel codes
 
+starts_from-prop : (b : ℕ) (r : Record) → IsProp (StartsFrom b r)
+starts_from-prop b (Made name start) = le_prop
+starts_from-prop b (Removed name) = Unit-prop
+starts_from-prop b (Acknowledged name position) = Unit-prop
+starts_from-prop b (AcknowledgedThrough name position) = Unit-prop
+starts_from-prop b (AcknowledgedRange name first last) = Unit-prop
+
 is_for-prop : (t : Topic) (batch : Batch) → IsProp (IsFor t batch)
 is_for-prop t batch =
-    as_product (λ x. (x.awaited, (x.entries, (x.changes, x.numbered)))) (λ x. record { awaited = x.0; entries = x.1.0; changes = x.1.1.0; numbered = x.1.1.1 }) (λ _. refl)
-    (×_prop (Coded-set coded_bool _ _) (×_prop (Coded-set (coded_list (coded_list coded_ℕ)) _ _) (×_prop (Coded-set (coded_list record_code) _ _) le_prop)))
+    as_product (λ x. (x.awaited, (x.entries, (x.changes, (x.numbered, (x.starts, x.rises))))))
+    (λ x. record { awaited = x.0; entries = x.1.0; changes = x.1.1.0; numbered = x.1.1.1.0; starts = x.1.1.1.1.0; rises = x.1.1.1.1.1 }) (λ _. refl)
+    (×_prop (Coded-set coded_bool _ _) (×_prop (Coded-set (coded_list (coded_list coded_ℕ)) _ _) (×_prop (Coded-set (coded_list record_code) _ _) (×_prop le_prop
+    (×_prop (AllByRecursion-prop (StartsFrom t.ledger.base) (starts_from-prop t.ledger.base) batch.changes.items) le_prop)))))
 
 pub IsUnderWay-prop : (t : Topic) (flight : Option Flight) → IsProp (IsUnderWay t flight)
 IsUnderWay-prop t None = Unit-prop

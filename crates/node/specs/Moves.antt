@@ -12,7 +12,7 @@ use Rattle.topic_core.specs.State.{Topic}
 use Rattle.reply_queues.specs.Replies.{due_to}
 use Rattle.topic_core.specs.Steps.{TopicStep, GrantStep, collected, left}
 use Rattle.topic_core.specs.Dispatch.{DispatchStep}
-use Rattle.topic_core.specs.Flush.{TakeStep, FinishStep, FlushStep}
+use Rattle.topic_core.specs.Flush.{IsTrimPoint, TakeStep, FinishStep, FlushStep}
 use Rattle.topic_core.specs.Crashes.{ReopenStep, TopicCrash}
 use Rattle.node.specs.Steps.{in_flush}
 
@@ -35,7 +35,7 @@ pub data Move : Type 0 where
   Leave : ℕ → Move
   Flush : Result ℕ WriteError → Move
   Take : Result (Option Batch) WriteError → Move  -- a flush in parts begins
-  Finish : Result (Unit {0}) WriteError → Result ℕ WriteError → Move  -- it ends as its write did
+  Finish : Result ℕ WriteError → Result ℕ WriteError → Move  -- it ends as its write did
   Reopen : Result (Unit {0}) Refusal → Move
   Crash : Move  -- the power was cut, and the topic was opened again
   Cut : Move  -- the power is cut within a flush of it, which has handed on all that waits
@@ -63,7 +63,7 @@ MoveStep old (Take result) new = TakeStep old result new
 MoveStep old (Finish written result) new = FinishStep old written result new
 MoveStep old (Reopen result) new = ReopenStep old result new
 MoveStep old Crash new = TopicCrash old new
-MoveStep old Cut new = new ≡ in_flush old
+MoveStep old Cut new = (limit : ℕ) × IsTrimPoint old limit × (new ≡ in_flush old limit)
 
 -- moves, one after another
 abbrev pub Moves : Topic → List Move → Topic → Type 0

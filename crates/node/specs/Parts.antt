@@ -15,7 +15,7 @@ pub record TakesPart (old : Topic) (before : Stage) (result : Result (Unit {0}) 
 
 -- a flush whose batch was written ends as the write did
 pub record FinishesPart (old : Topic) (before : Stage) (result : Result ℕ WriteError) (new : Topic) (after : Stage) : Type 0 where
-  pub written : Result (Unit {0}) WriteError
+  pub written : Result ℕ WriteError
   pub was : before ≡ Written written
   pub handed_on : is_some old.doubt ≡ true
   pub step : FinishStep old written result new

@@ -8,12 +8,12 @@ use Rattle.disk.specs.Moments.{starts, joins, weaken}
 use Rattle.disk.specs.Contents.{Settled as SettledIn}
 use Rattle.gated_log.specs.declared.read_error.ReadError.{ReadError}
 use Rattle.gated_log.specs.declared.read_error.ReadError.TheVariants as read
-use Rattle.managed_ledger.specs.Entries.{Ledger, whole}
+use Rattle.managed_ledger.specs.Entries.{Ledger, whole, trimmed}
 use Rattle.records.specs.Maps.{Kept}
 use Rattle.topic_stores.specs.declared.store.TopicStore.{Ghosts as StoreMembers}
 use Rattle.topic_stores.specs.Views.{StoreView, Settled}
 use Rattle.topic_stores.specs.Writing.{StandsFor}
-use Rattle.topic_core.specs.State.{Topic, entries_in_doubt, changes_in_doubt}
+use Rattle.topic_core.specs.State.{Topic, Doubt, floor, floor_of, entries_in_doubt, changes_in_doubt}
 use Rattle.topic_core.specs.Crashes.{IsLeft, longer, changed}
 use Rattle.topic_core.specs.Standing.{Phase, Before, Written, Lost, Holds, Standing, GoesOn}
 use Rattle.topic_core.proofs.Standings.{left_like, standing_goes_on}
@@ -29,10 +29,14 @@ use Rattle.node.specs.Standing.{StandsForBroker, NamesLeft, view_in, phase_in, H
 use Rattle.node.specs.Lists.{get_set, map_set, get_map, at_map, at_each}
 use Rattle.node.specs.Brokers.{set_at}
 
+same_floor : (old new : Topic) → GoesOn old new → floor new ≡ floor old
+same_floor old new go = ap (λ (l : Ledger). floor_of l.base new.doubt) go.ledger ∙ ap (λ (o : Option Doubt). floor_of old.ledger.base o) go.doubt
+
 -- what a crash leaves of a topic it left before the topic went on
 left_before : (old new : Topic) → GoesOn old new → (l : Ledger) (k : Kept) → IsLeft new l k → IsLeft old l k
 left_before old new go =
-    left_like new.ledger old.ledger new.kept old.kept (entries_in_doubt new) (entries_in_doubt old) (changes_in_doubt new) (changes_in_doubt old) go.ledger go.durable go.entries go.changes
+    left_like new.ledger old.ledger new.kept old.kept (entries_in_doubt new) (entries_in_doubt old) (changes_in_doubt new) (changes_in_doubt old) (floor new) (floor old)
+    go.ledger go.durable go.entries go.changes (same_floor old new go)
 
 -- what a call does to a device that it only reads
 pub record OnlyReads (old new : Disk) : Type 0 where
@@ -61,7 +65,7 @@ settled_names old new catalog reads x = record {
 
 holds_read : (phase : Phase) (t : Topic) (v : StoreView) (old new : Disk) → OnlyReads old new → Holds phase t v old → Holds phase t v new
 holds_read Before t v old new reads x = settled_read v old new t.ledger t.kept reads x
-holds_read Written t v old new reads x = settled_read v old new (longer t) (changed t) reads x
+holds_read (Written base) t v old new reads x = settled_read v old new (trimmed base (longer t)) (changed t) reads x
 holds_read Lost t v old new reads x = tt
 
 -- what was refused in between was refused from the first to the last
@@ -82,6 +86,7 @@ module _ (stands : ℕ → Image → Ledger → Kept → Type 0) where
     honest = reads.kept.honest h.honest;
     counted = h.counted;
     slots = h.slots;
+    acknowledged = h.acknowledged;
     left = λ c may. h.left c ((reads.any_moment h.honest).now c may);
     holds = holds_read phase t v old new reads h.holds;
   }

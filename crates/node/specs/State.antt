@@ -22,7 +22,7 @@ use Rattle.node.specs.declared.event.Verdict.TheVariants as verdict
 pub data Stage : Type 0 where
   Resting : Stage  -- no such flush is under way
   Taken : Stage  -- its batch is taken, and not written
-  Written : Result (Unit {0}) WriteError → Stage  -- it is written, and its write ended so
+  Written : Result ℕ WriteError → Stage  -- it is written, and its write ended so
 
 pub record State : Type 0 where
   pub broker : Broker

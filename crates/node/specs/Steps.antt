@@ -111,7 +111,7 @@ pub record TakesAt (old : Spot) (told : Verdict) (new : Spot) : Type 0 where
 -- the batch that is taken is written, which changes nothing of the topic; a failure is told only where the device failed
 pub record WritesAt (old : Spot) (told : Verdict) (new : Spot) : Type 0 where
   pub was : old.stage ≡ Taken
-  pub result : Result (Unit {0}) WriteError
+  pub result : Result ℕ WriteError
   pub same : new.topic ≡ old.topic
   pub ends : told ≡ verdict_of_flush result
   pub stage : new.stage ≡ Written result
@@ -119,7 +119,7 @@ pub record WritesAt (old : Spot) (told : Verdict) (new : Spot) : Type 0 where
 
 -- a flush in parts whose batch was written ends as that write did, of a topic that has handed on the batch
 pub record FinishesAt (old : Spot) (told : Verdict) (new : Spot) : Type 0 where
-  pub written : Result (Unit {0}) WriteError
+  pub written : Result ℕ WriteError
   pub was : old.stage ≡ Written written
   pub handed_on : is_some old.topic.doubt ≡ true
   pub result : Result ℕ WriteError
@@ -147,7 +147,7 @@ abbrev pub IsIdle : TopicEvent → Stage → Type 0
 IsIdle Flush stage = ⊥
 IsIdle Take stage = ⊥
 IsIdle Write stage = stage ≢ Taken
-IsIdle Finish stage = (written : Result (Unit {0}) WriteError) → stage ≢ Written written
+IsIdle Finish stage = (written : Result ℕ WriteError) → stage ≢ Written written
 IsIdle Reopen stage = ⊥
 
 -- an event is worked, or it is unknown, and nothing changes
@@ -203,27 +203,29 @@ BrokerStep old (Pump who) output new = PumpStep (place_of old.sessions who) old 
 BrokerStep old (Close who) output new = CloseStep (place_of old.sessions who) old output new
 BrokerStep old (OnTopic topic event) output new = WorkStep event (place_in old.broker.topics topic) old output new
 
--- a topic while a flush of it goes on: all that waits is in doubt, where the flush has something to do; one that has failed isn't written
-abbrev pub flushing : Bool → Bool → Topic → Topic
-flushing true nothing t = t
-flushing false true t = t
-flushing false false t = topics.handed_on t
+-- A topic while a flush of it goes on: all that waits is in doubt, where the flush has something to do, and the ledger may be trimmed
+-- up to this position. One that has failed isn't written.
+abbrev pub flushing : Bool → Bool → Topic → ℕ → Topic
+flushing true nothing t limit = t
+flushing false true t limit = t
+flushing false false t limit = topics.handed_on t limit
 
-abbrev pub in_flush : Topic → Topic
-in_flush t = flushing t.failed (topics.has_no_flush t) t
+abbrev pub in_flush : Topic → ℕ → Topic
+in_flush t limit = flushing t.failed (topics.has_no_flush t) t limit
 
 -- a topic while an event of it goes on
-abbrev pub amid_work : TopicEvent → Topic → Topic
-amid_work Flush t = in_flush t
-amid_work Take t = t
-amid_work Write t = t
-amid_work Finish t = t
-amid_work Reopen t = t
+abbrev pub amid_work : TopicEvent → Topic → ℕ → Topic
+amid_work Flush t limit = in_flush t limit
+amid_work Take t limit = t
+amid_work Write t limit = t
+amid_work Finish t limit = t
+amid_work Reopen t limit = t
 
--- A broker while an event goes on: bytes may make topics, and in a flush all that waits is in doubt.
+-- A broker while an event goes on: bytes may make topics, and in a flush all that waits is in doubt, and what nobody needs may be
+-- trimmed.
 abbrev pub Amid : Broker → Event → Broker → Type 0
 Amid old Open new = new ≡ old
 Amid old (Bytes who bytes) new = Gains old new
 Amid old (Pump who) new = new ≡ old
 Amid old (Close who) new = new ≡ old
-Amid old (OnTopic topic event) new = new ≡ with_topic old topic (amid_work event (topic_at old topic))
+Amid old (OnTopic topic event) new = (limit : ℕ) × topics.IsTrimPoint (topic_at old topic) limit × (new ≡ with_topic old topic (amid_work event (topic_at old topic) limit))

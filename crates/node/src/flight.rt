@@ -6,5 +6,5 @@ pub(crate) enum Flight {
     /// Its batch is taken, and not written.
     Taken(Batch),
     /// Its batch is written, and its write ended so.
-    Written(Batch, Result<(), WriteError>),
+    Written(Batch, Result<u64, WriteError>),
 }

@@ -27,8 +27,8 @@ pub fn topics_fail_for_a_cause()
     ensures { FailsForACause }
 {}
 
-/// Ledgers only grow, through crashes too, and each entry that came is that of the latest SEND that was accepted for its
-/// position.
+/// Ledgers only grow, through crashes too, but for a front that trims took, and each entry that came is that of the latest SEND that
+/// was accepted for its position.
 pub fn moves_publish()
     ensures { MovesPublish }
 {}
@@ -38,8 +38,8 @@ pub fn receipts_are_covered()
     ensures { ReceiptsAreCovered }
 {}
 
-/// A receipt is told to the session that sent, and names the entry that stands at its position, ever after: also in each run
-/// that goes on behind it, through failures, openings and crashes. Since this holds of the run that ends with the receipt too, a
+/// A receipt is told to the session that sent, and names the entry that stands at its position until a trim takes it: also in each
+/// run that goes on behind it, through failures, openings and crashes. Since this holds of the run that ends with the receipt too, a
 /// receipt comes after the flush that committed its entry.
 pub fn receipts_are_found()
     ensures { ReceiptsAreFound }
@@ -55,7 +55,7 @@ pub fn words_are_kept()
 {}
 
 /// A message goes out only where its position is open on the consumer's subscription and admitted to it by mode and
-/// permits, and it is the entry that stands in the ledger there: one that was published.
+/// permits, and it is the entry that stands in the ledger there until a trim takes it: one that was published.
 pub fn messages_are_admitted()
     ensures { MessagesAreAdmitted }
 {}

@@ -1,5 +1,5 @@
 // One topic of a node.
-ghost use Rattle.std.specs.Prelude.{◌≡◌, ◌≢◌, ◌≤◌, false, Result, None, Some, Err, IfSome, IsErrOf};
+ghost use Rattle.std.specs.Prelude.{◌≡◌, ◌≢◌, ◌≤◌, ℕ, false, Result, None, Some, Err, IfSome, IsErrOf};
 ghost use Rattle.disk.specs.Disk.{Kept, Failed};
 ghost use Rattle.disk.specs.Areas.{OfTopic, Within};
 ghost use Rattle.gated_log.specs.declared.refusal.Refusal.TheVariants as refusal;
@@ -7,7 +7,7 @@ ghost use Rattle.topic_stores.specs.declared.error.WriteError.{WriteError};
 ghost use Rattle.topic_stores.specs.declared.error.WriteError.TheVariants.{Device};
 ghost use Rattle.topic_stores.specs.Writing.{StandsFor};
 ghost use Rattle.topic_core.specs.Crashes.{IsLeft, ReopenStep};
-ghost use Rattle.topic_core.specs.Flush.{FlushStep, FinishStep};
+ghost use Rattle.topic_core.specs.Flush.{IsTrimPoint, FlushStep, FinishStep};
 ghost use Rattle.node.specs.Flights.{stage_of};
 ghost use Rattle.node.specs.Numbers.{StaysNumbered};
 ghost use Rattle.node.specs.Parts.{TakesPart, FinishesPart};
@@ -49,10 +49,11 @@ impl<T: TopicStore> Held<T> {
         ensures tells { TellsOn T.stands T.faulty event (T.view self.old.stores).topic self.old.core self.new.core (S.disk shelf.old) (S.disk shelf.new) result }
         // A crash at any moment leaves what it leaves of the topic while the event goes on, and other files as they were.
         ensures within { HeldStands self.old (S.disk shelf.old) →
-            Within (OfTopic (T.view self.old.stores).topic) (StandsFor (T.stands (T.view self.old.stores).topic) (IsLeft (amid_work event self.old.core))) (S.disk shelf.old) (S.disk shelf.new) }
+            (limit : ℕ) × IsTrimPoint self.old.core limit × Within (OfTopic (T.view self.old.stores).topic) (StandsFor (T.stands (T.view self.old.stores).topic) (IsLeft (amid_work event self.old.core limit))) (S.disk shelf.old) (S.disk shelf.new) }
         ensures numbered { StaysNumbered self.old self.new }
         ensures faults { (S.disk shelf.old).faults ≤ (S.disk shelf.new).faults }
     {
+        self.core.show_sound();
         match event {
             TopicEvent::Flush => {
                 let flushed = self.flush(shelf);
@@ -81,9 +82,10 @@ impl<T: TopicStore> Held<T> {
     fn flush<S: Shelf>(&mut self, shelf: &mut S) -> Result<usize, WriteError>
         ensures step { FlushStep self.old.core result self.new.core }
         ensures stands { HeldStands self.old (S.disk shelf.old) → HeldStands self.new (S.disk shelf.new) }
-        // A crash at any moment leaves what it leaves of the topic while all that waits is in doubt, and other files as they were.
+        // A crash at any moment leaves what it leaves of the topic while all that waits is in doubt, and the ledger may be trimmed up
+        // to a position; and other files as they were.
         ensures within { HeldStands self.old (S.disk shelf.old) →
-            Within (OfTopic (T.view self.old.stores).topic) (StandsFor (T.stands (T.view self.old.stores).topic) (IsLeft (in_flush self.old.core))) (S.disk shelf.old) (S.disk shelf.new) }
+            (limit : ℕ) × IsTrimPoint self.old.core limit × Within (OfTopic (T.view self.old.stores).topic) (StandsFor (T.stands (T.view self.old.stores).topic) (IsLeft (in_flush self.old.core limit))) (S.disk shelf.old) (S.disk shelf.new) }
         ensures stage { stage_of self.new.flight ≡ stage_of self.old.flight }
         ensures numbered { StaysNumbered self.old self.new }
         ensures cause { self.old.core.failed ≡ false → IsErrOf result Device → Failed (S.disk shelf.old) (S.disk shelf.new) }
@@ -105,8 +107,8 @@ impl<T: TopicStore> Held<T> {
     }
 
     /// Writes the batch that is taken; none where none is, or it is written.
-    fn write<S: Shelf>(&mut self, shelf: &mut S) -> Option<Result<(), WriteError>>
-        ensures written { IfSome result (λ (ended : Result (Unit {0}) WriteError). (stage_of self.old.flight ≡ Taken) × (stage_of self.new.flight ≡ Written ended)) }
+    fn write<S: Shelf>(&mut self, shelf: &mut S) -> Option<Result<u64, WriteError>>
+        ensures written { IfSome result (λ (ended : Result ℕ WriteError). (stage_of self.old.flight ≡ Taken) × (stage_of self.new.flight ≡ Written ended)) }
         ensures unknown { result ≡ None → stage_of self.old.flight ≢ Taken }
         ensures same { result ≡ None → (self.new.flight ≡ self.old.flight) × (shelf.new ≡ shelf.old) }
         ensures core { self.new.core ≡ self.old.core }
@@ -134,7 +136,7 @@ impl<T: TopicStore> Held<T> {
     /// Ends a flush in parts as its write did; none where nothing is written.
     fn finish(&mut self) -> Option<Result<usize, WriteError>>
         ensures finished { IfSome result (λ ended. FinishesPart self.old.core (stage_of self.old.flight) ended self.new.core (stage_of self.new.flight)) }
-        ensures unknown { result ≡ None → (written : Result (Unit {0}) WriteError) → stage_of self.old.flight ≢ Written written }
+        ensures unknown { result ≡ None → (written : Result ℕ WriteError) → stage_of self.old.flight ≢ Written written }
         ensures same { result ≡ None → (self.new.core ≡ self.old.core) × (self.new.flight ≡ self.old.flight) }
         ensures stores { self.new.stores ≡ self.old.stores }
         ensures numbered { StaysNumbered self.old self.new }

@@ -18,9 +18,11 @@ use topic_core::TopicStore;
 pub struct TopicStatus {
     pub number: u64,
     pub name: TopicName,
-    /// How many entries are committed.
+    /// How many entries are committed, with those that were trimmed.
     pub entries: u64,
-    /// How many segment files its entries are in, as the store remembers them.
+    /// The position of the first one that is still there.
+    pub base: u64,
+    /// How many segment files the entries from there on are in, as the store remembers them.
     pub segments: u64,
     /// In the order of the names' bytes.
     pub subscriptions: Vec<SubscriptionStatus>,
@@ -32,6 +34,7 @@ impl<T: TopicStore> Held<T> {
         ensures number { IfOk result (λ status. status.number ≡ number) }
         ensures name { IfOk result (λ status. status.name ≡ name) }
         ensures entries { IfOk result (λ status. status.entries ≡ self.now.core.committed) }
+        ensures base { IfOk result (λ status. status.base ≡ self.now.core.ledger.base) }
         ensures segments { IfOk result (λ status. status.segments ≡ length (T.view self.now.stores).counts) }
         ensures subscriptions { IfOk result (λ status. AreStatuses self.now.core.subs.subs status.subscriptions.items) }
     {
@@ -39,6 +42,7 @@ impl<T: TopicStore> Held<T> {
             number,
             name,
             entries: self.core.committed(),
+            base: self.core.base(),
             segments: self.stores.segments(),
             subscriptions: self.core.statuses()?,
         })

@@ -54,7 +54,7 @@ fn entry_text(alloc: Global, entry: &[u8]) -> Result<String, Error> {
     Ok(format!(in alloc; "{text}..{}", entry.len())?)
 }
 
-/// The bytes of each entry as a read by its position gives them, which are those that were taken.
+/// The bytes of each entry that is there, as a read by its position gives them, which are those that were taken.
 fn entries(
     alloc: Global,
     stores: &FileStores,
@@ -62,7 +62,7 @@ fn entries(
     taken: &Taken,
 ) -> Result<String, Error> {
     let mut said = String::new(alloc);
-    for (position, entry) in (0u64..).zip(&taken.entries) {
+    for (position, entry) in (stores.base()..).zip(&taken.entries) {
         let read = stores.read(shelf, position)?;
         if read.as_slice() != entry.as_slice() {
             bail!("entry {position} isn't read as it was taken");
@@ -71,6 +71,14 @@ fn entries(
         said.push_str(entry_text(alloc, read.as_slice())?.as_str())?;
     }
     Ok(said)
+}
+
+/// The position of the first entry that is there, where some are gone.
+fn beginning(alloc: Global, base: u64) -> Result<String, Error> {
+    if base == 0 {
+        return Ok(String::new(alloc));
+    }
+    Ok(format!(in alloc; " from {base}")?)
 }
 
 /// What a store holds.
@@ -82,8 +90,9 @@ fn holding(
 ) -> Result<String, Error> {
     let len = stores.len();
     let entries = entries(alloc, stores, shelf, taken)?;
+    let begins = beginning(alloc, stores.base())?;
     let mut said = format!(in alloc;
-        "ok, segments {}, entries {len}:{entries}",
+        "ok, segments {}, entries {len}{begins}:{entries}",
         stores.segments()
     )?;
     for kept in &stores.kept()? {

@@ -3,7 +3,8 @@ use crate::filled::{PER_LEDGER, TOPIC, filled};
 use anyhow::{Error, bail};
 use disk::{FileId, Shelf};
 use disk_mem::MemShelf;
-use managed_ledger::{EntryStore, ManagedLedger, Start};
+use gated_log::UNTRIMMED;
+use managed_ledger::{EntryStore, ManagedLedger};
 use std::alloc::Global;
 
 pub(crate) type Device = CountedShelf<MemShelf>;
@@ -22,8 +23,7 @@ pub(crate) fn bytes_of(shelf: &mut Device, segments: u64) -> Result<u64, Error> 
 }
 
 fn again(alloc: Global, shelf: &mut Device) -> Result<ManagedLedger, Error> {
-    let start = Start { base: 0, first: 0 };
-    let (ledger, ()) = ManagedLedger::open(alloc, shelf, TOPIC, PER_LEDGER, start, ())?;
+    let (ledger, ()) = ManagedLedger::open(alloc, shelf, TOPIC, PER_LEDGER, UNTRIMMED, ())?;
     Ok(ledger)
 }
 

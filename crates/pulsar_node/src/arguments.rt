@@ -189,9 +189,10 @@ with numbers in decimal and bytes in hex:
 For each line but `status` one line is printed: its number, the bytes out in hex or `-`, and the
 result: `ok`, `F1` to `F9` for a fault that ended the session, `S1` to `S6` for a refusal of the
 stores (`S1` a failed device, `S2` a damaged file, `S5` want of memory), `full`, or `none` for a
-session, topic or batch that isn't there. A status line of a topic is `T`, its number, its entries,
-its segment files and its name; one of a subscription is `S`, its topic's number, its mark-delete
-position, how many ranges it acknowledged behind that, and its name.";
+session, topic or batch that isn't there. A status line of a topic is `T`, its number, how many
+entries came to it, the position of the first one that is still there, how many segment files these
+are in, and its name; one of a subscription is `S`, its topic's number, its mark-delete position,
+how many ranges it acknowledged behind that, and its name.";
 
 /// The file of the script, or none for the standard input.
 pub(crate) fn script_file<'a>(matches: &ArgMatches<'a>) -> Option<&'a str>

@@ -9,3 +9,5 @@ pub mod Meaning
 pub mod Present
 pub mod Snapshots
 pub mod Within
+pub mod Floors
+pub mod Staying

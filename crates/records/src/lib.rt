@@ -5,6 +5,7 @@
 
 mod kept;
 mod kept_cursor;
+mod law;
 mod name;
 mod name_set;
 mod read;
@@ -14,8 +15,9 @@ mod write;
 
 pub use kept::KeptSubscriptions;
 pub use kept_cursor::KeptCursor;
+pub use law::acknowledged_stays_so;
 pub use name::{Name, is_subscription_name};
-pub use read::read_body;
+pub use read::{first_position, first_record, read_body};
 pub use record::Record;
 pub use shared_cursor::SharedCursor;
 pub use write::{RECORDS, add_made, add_range, fits, write_records};

@@ -34,8 +34,8 @@ fn first_name(alloc: Global, bytes: &[u8]) -> Result<Option<Name>, AllocError>
     Ok(Some(Name::new(alloc, text)?))
 }
 
-// The position at the beginning of these bytes, with what stands behind it.
-fn first_position(bytes: &[u8]) -> Option<(u64, &[u8])>
+/// The position at the beginning of these bytes, with what stands behind it.
+pub fn first_position(bytes: &[u8]) -> Option<(u64, &[u8])>
     ensures { MatchOption result (first_position bytes.now ≡ None) (λ found. (first_position bytes.now ≡ Some found.0) × (found.1.now ≡ drop 8 bytes.now)) }
 {
     let (position, behind) = bytes.split_first_chunk::<8>()?;
@@ -69,8 +69,8 @@ fn record_with(kind: u8, name: Name, bytes: &[u8]) -> Option<(Record, &[u8])>
     }
 }
 
-// The record at the beginning of these bytes, with what stands behind it.
-fn first_record(alloc: Global, bytes: &[u8]) -> Result<Option<(Record, &[u8])>, AllocError>
+/// The record at the beginning of these bytes, with what stands behind it.
+pub fn first_record(alloc: Global, bytes: &[u8]) -> Result<Option<(Record, &[u8])>, AllocError>
     ensures { IfOk result (λ first. option_map (λ found. (found.0, found.1.now)) first ≡ first_record bytes.now) }
 {
     let Some((kind, bytes)) = bytes.split_first() else {

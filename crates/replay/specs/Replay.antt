@@ -10,6 +10,8 @@ use Rattle.disk.specs.Laid.{Laid, after_arm}
 use Rattle.disk_mem.specs.declared.shelf.MemShelf.{MemShelf}
 use Rattle.disk_mem.specs.Device.{disk_of, laid, LeftAs}
 use Rattle.managed_ledger.specs.Laid.{IsLaidOut}
+use Rattle.cursor_store.specs.Cursors.{StandsFor as SubscriptionsStand}
+use Rattle.topic_stores.specs.Views.{lay}
 use Rattle.topic_core.specs.Standing.{Phase}
 use Rattle.session.specs.Broker.{topic_at}
 use Rattle.node.specs.State.{State, fresh_broker, stage_at}
@@ -77,9 +79,13 @@ Cuts number old form text new =
 abbrev pub phase_of : State → ℕ → Phase
 phase_of state number = phase_at (topic_at state.broker number).failed (stage_at state number)
 
--- a topic is told with as many segment files as it has, by the files alone, but where its store met a failure of the device
+-- the segments of a topic, from where its slots say that its ledger begins on, have so many entries each, by the files alone
+abbrev pub segments_laid : ℕ → Image → List ℕ → Type 0
+segments_laid = lay IsLaidOut SubscriptionsStand
+
+-- a topic is told with as many segment files as it has from there on, but where its store met a failure of the device
 abbrev pub IsCounted : State → Image → ℕ → TopicStatus → Type 0
-IsCounted state files number status = TellsSegments (λ topic. IsLaidOut topic 0) number (phase_of state number) files status.segments
+IsCounted state files number status = TellsSegments segments_laid number (phase_of state number) files status.segments
 
 -- what is told of the topics: one status for each, in the order of their numbers
 pub record AreTold (state : State) (files : Image) (told : List TopicStatus) : Type 0 where

@@ -47,9 +47,12 @@ impl<'h, 'a, T: TopicStore, S: Shelf + Drop, K: Tallies, R: Wait> Board
             return Ok(None);
         };
         let name = topic.name.clone()?;
+        // First of all, so that no entries are told as trimmed that aren't among those that came.
+        let base = topic.base(self.rt);
         Ok(Some(TopicReport {
             number,
             name,
+            base,
             segments: topic.segments(),
             summary: topic.summary(self.rt),
             activity: topic.activity(self.rt),

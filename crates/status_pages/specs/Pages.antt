@@ -68,7 +68,7 @@ InTurn {P = P} {A = A} step (p ∷ ps) old new = (between : A) × step p old bet
 abbrev pub metric_parts : List Part
 metric_parts =
     Topics OfTopic.Sends ∷ Topics OfTopic.Receipts ∷ Topics OfTopic.Messages ∷ Topics OfTopic.Acknowledgements ∷ Topics OfTopic.Flushes
-    ∷ Topics OfTopic.Bytes ∷ Topics OfTopic.Entries ∷ Topics OfTopic.Segments ∷ Topics OfTopic.Waiting
+    ∷ Topics OfTopic.Bytes ∷ Topics OfTopic.Entries ∷ Topics OfTopic.Trimmed ∷ Topics OfTopic.Segments ∷ Topics OfTopic.Waiting
     ∷ Topics OfTopic.WaitingBytes ∷ Topics OfTopic.Producers ∷ Topics OfTopic.Subscriptions ∷ Topics OfTopic.Consumers ∷ Topics OfTopic.Backlog
     ∷ Topics OfTopic.Failed ∷ Subscriptions OfSubscription.Backlog ∷ Subscriptions OfSubscription.Consumers ∷ Subscriptions OfSubscription.Permits
     ∷ Subscriptions OfSubscription.MarkDelete ∷ Subscriptions OfSubscription.Ranges ∷ []

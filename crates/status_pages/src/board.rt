@@ -11,7 +11,9 @@ use topic_core::{Activity, TopicSummary};
 pub struct TopicReport {
     pub number: u64,
     pub name: TopicName,
-    /// How many segment files its entries are in; none where that can't be told.
+    /// The position of the first entry that is still there.
+    pub base: u64,
+    /// How many segment files the entries from there on are in; none where that can't be told.
     pub segments: Option<u64>,
     pub summary: TopicSummary,
     pub activity: Activity,

@@ -23,13 +23,21 @@ pub(crate) fn print_lines<W: Write>(picture: &Picture, writer: &mut W) -> io::Re
 
 #[tactic(auto, using(admin::proofs::Padding::right_in_is))]
 fn print_topic_line<W: Write>(topic: &TopicReport, writer: &mut W) -> io::Result<()>
-    ensures { OnOk result (Appends (W.contents writer.old) (W.contents writer.new) (told_line topic.now.number topic.now.name topic.now.summary.entries topic.now.segments)) }
+    ensures { OnOk result (Appends (W.contents writer.old) (W.contents writer.new) (told_line topic.now.number topic.now.name topic.now.summary.entries topic.now.base topic.now.segments)) }
 {
-    let name = topic.name.as_str();
-    let (number, entries) = (topic.number, topic.summary.entries);
+    let (number, name) = (topic.number, topic.name.as_str());
+    let (entries, base) = (topic.summary.entries, topic.base);
     match topic.segments {
-        Some(segments) => writeln!(writer, "T {number:>4} {entries:>10} {segments:>6} {name}"),
-        None => writeln!(writer, "T {number:>4} {entries:>10}      ? {name}"),
+        Some(segments) => {
+            writeln!(
+                writer,
+                "T {number:>4} {entries:>10} {base:>10} {segments:>6} {name}"
+            )
+        }
+        None => writeln!(
+            writer,
+            "T {number:>4} {entries:>10} {base:>10}      ? {name}"
+        ),
     }
 }
 

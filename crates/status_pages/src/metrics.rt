@@ -21,6 +21,7 @@ pub(crate) enum TopicMetric {
     Flushes,
     Bytes,
     Entries,
+    Trimmed,
     Segments,
     Waiting,
     WaitingBytes,
@@ -43,6 +44,7 @@ impl TopicMetric {
             TopicMetric::Flushes => "zephyrslate_flushes_total",
             TopicMetric::Bytes => "zephyrslate_committed_bytes_total",
             TopicMetric::Entries => "zephyrslate_entries",
+            TopicMetric::Trimmed => "zephyrslate_trimmed_entries",
             TopicMetric::Segments => "zephyrslate_segments",
             TopicMetric::Waiting => "zephyrslate_waiting_entries",
             TopicMetric::WaitingBytes => "zephyrslate_waiting_bytes",
@@ -71,9 +73,12 @@ impl TopicMetric {
             TopicMetric::Bytes => {
                 "Bytes of the entries that flushes put on the disk since the broker began."
             }
-            TopicMetric::Entries => "Entries that are on the disk.",
+            TopicMetric::Entries => "Entries that came to the disk, with those that were trimmed.",
+            TopicMetric::Trimmed => {
+                "Entries that are no longer there, as each subscription has acknowledged them."
+            }
             TopicMetric::Segments => {
-                "Files that these entries are in; left out while a flush is at them."
+                "Files that the other entries are in; left out while a flush is at them."
             }
             TopicMetric::Waiting => "Entries that wait for a flush, or are in one.",
             TopicMetric::WaitingBytes => "Bytes of the entries that wait.",
@@ -99,6 +104,7 @@ impl TopicMetric {
             | TopicMetric::Flushes
             | TopicMetric::Bytes => true,
             TopicMetric::Entries
+            | TopicMetric::Trimmed
             | TopicMetric::Segments
             | TopicMetric::Waiting
             | TopicMetric::WaitingBytes
@@ -123,6 +129,7 @@ impl TopicMetric {
             TopicMetric::Flushes => Some(topic.activity.flushes),
             TopicMetric::Bytes => Some(topic.activity.bytes),
             TopicMetric::Entries => Some(summary.entries),
+            TopicMetric::Trimmed => Some(topic.base),
             TopicMetric::Segments => topic.segments,
             TopicMetric::Waiting => Some(summary.waiting as u64),
             TopicMetric::WaitingBytes => Some(summary.waiting_bytes),

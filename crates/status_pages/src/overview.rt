@@ -35,7 +35,7 @@ There are also <a href=\"/status\">status lines</a>, <a href=\"/metrics\">metric
 
 const TOPICS: &str = "<h2>Topics</h2>
 <table>
-<tr><th>Number</th><th class=\"text\">Topic</th><th class=\"text\">State</th><th>Entries</th><th>Files</th><th>Waiting</th>
+<tr><th>Number</th><th class=\"text\">Topic</th><th class=\"text\">State</th><th>Entries</th><th>Trimmed</th><th>Files</th><th>Waiting</th>
 <th>Waiting bytes</th><th>Producers</th><th>Subscriptions</th></tr>
 ";
 
@@ -113,6 +113,7 @@ fn print_topic<W: Write>(topic: &TopicReport, writer: &mut W) -> io::Result<()> 
         writer.write_all(b"</td><td class=\"text\">works</td>")?;
     }
     print_number(summary.entries, writer)?;
+    print_number(topic.base, writer)?;
     match topic.segments {
         Some(segments) => print_number(segments, writer)?,
         None => writer.write_all(b"<td>?</td>")?,

@@ -12,7 +12,7 @@ use std::io;
 use std::io::Write;
 
 /// The metrics of topics and subscriptions. Those that Pulsar's own broker has are named as there.
-const METRICS: [Part; 20] = [
+const METRICS: [Part; 21] = [
     Part::Topics(TopicMetric::Sends),
     Part::Topics(TopicMetric::Receipts),
     Part::Topics(TopicMetric::Messages),
@@ -20,6 +20,7 @@ const METRICS: [Part; 20] = [
     Part::Topics(TopicMetric::Flushes),
     Part::Topics(TopicMetric::Bytes),
     Part::Topics(TopicMetric::Entries),
+    Part::Topics(TopicMetric::Trimmed),
     Part::Topics(TopicMetric::Segments),
     Part::Topics(TopicMetric::Waiting),
     Part::Topics(TopicMetric::WaitingBytes),

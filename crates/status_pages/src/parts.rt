@@ -50,6 +50,7 @@ fn is_of_subscriptions(metric: TopicMetric) -> bool
         | TopicMetric::Flushes
         | TopicMetric::Bytes
         | TopicMetric::Entries
+        | TopicMetric::Trimmed
         | TopicMetric::Segments
         | TopicMetric::Waiting
         | TopicMetric::WaitingBytes

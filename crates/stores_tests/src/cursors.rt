@@ -2,18 +2,19 @@
 
 use crate::device::Device;
 use crate::kept::{records, tell_cursor};
-use crate::reading::{TOPIC, standing, yes};
+use crate::reading::{TOPIC, standing, tell_start, yes};
 use anyhow::{Error, bail};
-use cursor_store::{CursorStore, SubStore};
+use cursor_store::{CursorStore, StoreHeads, SubStore};
 use disk_mem::MemShelf;
-use gated_log::Refusal;
+use gated_log::{Refusal, Start};
 use records::Record;
 use std::alloc::Global;
 
-/// The cursor store of the topic.
+/// The cursor store of the topic, and heads of its slots that were read.
 #[derive(Drop)]
 pub(crate) struct Cursors {
     alloc: Global,
+    heads: Option<StoreHeads>,
     store: Option<CursorStore>,
 }
 
@@ -34,6 +35,50 @@ fn append(
     Ok(true)
 }
 
+/// Whether the ledger may begin there, so that this was appended.
+fn trim(store: &mut CursorStore, shelf: &mut MemShelf, start: Start) -> Result<bool, Refusal> {
+    let Some(trim) = store.prepare_trim(None, start)? else {
+        return Ok(false);
+    };
+    store.trim(shelf, trim)?;
+    Ok(true)
+}
+
+/// The same behind records; without the trim these aren't appended either.
+fn trim_behind(
+    store: &mut CursorStore,
+    shelf: &mut MemShelf,
+    start: Start,
+    changes: &[Record],
+) -> Result<bool, Refusal> {
+    if changes.is_empty() {
+        return trim(store, shelf, start);
+    }
+    if !store.fits(changes, 1 << 62) {
+        return Ok(false);
+    }
+    let prepared = store.prepare(changes)?;
+    let Some(trim) = store.prepare_trim(Some(&prepared), start)? else {
+        return Ok(false);
+    };
+    store.append_prepared(shelf, prepared)?;
+    store.trim(shelf, trim)?;
+    Ok(true)
+}
+
+/// Puts whether something was appended, or why not.
+fn tell_appended(
+    device: &Device,
+    appended: Result<bool, Refusal>,
+    said: &mut String,
+) -> Result<(), Error> {
+    match appended {
+        Ok(true) => Ok(said.push_str("ok")?),
+        Ok(false) => Ok(said.push_str("no")?),
+        Err(refusal) => device.refuse(said, refusal),
+    }
+}
+
 /// Whether each record is of its form behind what is kept.
 fn are_formed(store: &CursorStore, changes: &[Record], entries: u64) -> bool {
     for change in changes {
@@ -46,7 +91,11 @@ fn are_formed(store: &CursorStore, changes: &[Record], entries: u64) -> bool {
 
 impl Cursors {
     pub(crate) fn new(alloc: Global) -> Cursors {
-        Cursors { alloc, store: None }
+        Cursors {
+            alloc,
+            heads: None,
+            store: None,
+        }
     }
 
     fn create(&mut self, device: &mut Device) -> Result<(), Refusal> {
@@ -73,7 +122,18 @@ impl Cursors {
         if entries > 1 << 62 {
             bail!("no ledger has so many entries: {entries}");
         }
-        match CursorStore::open(self.alloc, &mut device.shelf, TOPIC, entries) {
+        let opened = CursorStore::open(self.alloc, &mut device.shelf, TOPIC, entries);
+        self.tell_opened(device, opened, said)
+    }
+
+    /// Puts what is kept, or why an opening is refused.
+    fn tell_opened(
+        &mut self,
+        device: &Device,
+        opened: Result<CursorStore, Refusal>,
+        said: &mut String,
+    ) -> Result<(), Error> {
+        match opened {
             Ok(store) => {
                 self.store = Some(store);
                 said.push_str("ok ")?;
@@ -81,6 +141,35 @@ impl Cursors {
             }
             Err(refusal) => device.refuse(said, refusal),
         }
+    }
+
+    /// Begins to open the store, and puts where the ledger begins.
+    fn begin(&mut self, device: &mut Device, said: &mut String) -> Result<(), Error> {
+        match CursorStore::begin(self.alloc, &mut device.shelf, TOPIC) {
+            Ok(heads) => {
+                let start = CursorStore::begins_at(&heads);
+                self.heads = Some(heads);
+                tell_start(self.alloc, Some(start), said)
+            }
+            Err(refusal) => device.refuse(said, refusal),
+        }
+    }
+
+    /// Goes on with an opening that has begun, beside a ledger of so many entries.
+    fn open_from(
+        &mut self,
+        device: &mut Device,
+        entries: u64,
+        said: &mut String,
+    ) -> Result<(), Error> {
+        if entries > 1 << 62 {
+            bail!("no ledger has so many entries: {entries}");
+        }
+        let Some(heads) = &self.heads else {
+            return Ok(said.push_str("none")?);
+        };
+        let opened = CursorStore::open_from(self.alloc, &mut device.shelf, heads, entries);
+        self.tell_opened(device, opened, said)
     }
 
     fn append(
@@ -95,11 +184,32 @@ impl Cursors {
         let changes = records(self.alloc, words)?;
         let appended = append(store, &mut device.shelf, &changes);
         drop(changes);
-        match appended {
-            Ok(true) => Ok(said.push_str("ok")?),
-            Ok(false) => Ok(said.push_str("no")?),
-            Err(refusal) => device.refuse(said, refusal),
-        }
+        tell_appended(device, appended, said)
+    }
+
+    /// Appends these records, if any, and a trim.
+    fn trim(
+        &mut self,
+        device: &mut Device,
+        start: Start,
+        words: &[&str],
+        said: &mut String,
+    ) -> Result<(), Error> {
+        let Some(store) = &mut self.store else {
+            return Ok(said.push_str("none")?);
+        };
+        let changes = records(self.alloc, words)?;
+        let trimmed = trim_behind(store, &mut device.shelf, start, &changes);
+        drop(changes);
+        tell_appended(device, trimmed, said)
+    }
+
+    /// Puts where the ledger begins.
+    fn begins(&self, said: &mut String) -> Result<(), Error> {
+        let Some(store) = &self.store else {
+            return Ok(said.push_str("none")?);
+        };
+        tell_start(self.alloc, Some(store.start()), said)
     }
 
     /// Puts whether a record is of its form.
@@ -139,7 +249,14 @@ impl Cursors {
                 device.tell(said, made)
             }
             ["open", entries] => self.open(device, entries.parse()?, said),
+            ["begin"] => self.begin(device, said),
+            ["from", entries] => self.open_from(device, entries.parse()?, said),
             ["append", changes @ ..] => self.append(device, changes, said),
+            ["trim", base, first, changes @ ..] => {
+                let (base, first) = (base.parse()?, first.parse()?);
+                self.trim(device, Start { base, first }, changes, said)
+            }
+            ["start"] => self.begins(said),
             ["formed", entries, word] => self.formed(entries.parse()?, word, said),
             ["kept"] => self.tell_kept(said),
             ["state"] => self.state(said),

@@ -4,14 +4,14 @@ ghost use Rattle.managed_ledger.specs.Entries.{IsEntry, AreEntries};
 
 use crate::device::Device;
 use crate::journals::tell_found;
-use crate::reading::{TOPIC, bytes, standing};
+use crate::reading::{TOPIC, bytes, standing, tell_start};
 use crate::taken::Taken;
 use anyhow::{Error, bail};
 use bytes::Bytes;
 use commands::read_entry;
 use disk_mem::MemShelf;
-use gated_log::Refusal;
-use managed_ledger::{EntryStore, ManagedLedger, Start};
+use gated_log::{Refusal, Start, UNTRIMMED};
+use managed_ledger::{EntryStore, ManagedLedger};
 use std::alloc::Global;
 
 /// So many bytes are added to those that a word spells, at most.
@@ -19,9 +19,6 @@ const MOST_ADDED: usize = 1 << 21;
 
 /// The last number of a first segment.
 const LAST_FIRST: u64 = 1 << 62;
-
-/// Where a new ledger begins.
-const FROM_ZERO: Start = Start { base: 0, first: 0 };
 
 /// The ledger of the topic.
 #[derive(Drop)]
@@ -153,7 +150,7 @@ impl Ledgers {
         said: &mut String,
     ) -> Result<(), Error> {
         let taken = Taken::with_room(self.alloc, most);
-        match ManagedLedger::open_with(self.alloc, &mut device.shelf, TOPIC, 2, FROM_ZERO, taken) {
+        match ManagedLedger::open_with(self.alloc, &mut device.shelf, TOPIC, 2, UNTRIMMED, taken) {
             Ok(_) => Ok(said.push_str("ok")?),
             Err(Refusal::NoMemory) => Ok(said.push_str("no memory")?),
             Err(refusal) => device.refuse(said, refusal),
@@ -162,7 +159,7 @@ impl Ledgers {
 
     /// Puts how many entries and segments an opening finds that hands nothing over.
     fn count(&self, device: &mut Device, said: &mut String) -> Result<(), Error> {
-        match ManagedLedger::open_with(self.alloc, &mut device.shelf, TOPIC, 2, FROM_ZERO, ()) {
+        match ManagedLedger::open_with(self.alloc, &mut device.shelf, TOPIC, 2, UNTRIMMED, ()) {
             Ok((ledger, ())) => {
                 let text = format!(in self.alloc; "{} in {}", ledger.len(), ledger.segments())?;
                 Ok(said.push_str(text.as_str())?)
@@ -221,20 +218,12 @@ impl Ledgers {
         self.append(device, many.as_slice(), said)
     }
 
-    /// Puts a position and the number of a segment, or that there is none.
-    fn tell_start(&self, start: Option<Start>, said: &mut String) -> Result<(), Error> {
-        let Some(Start { base, first }) = start else {
-            return Ok(said.push_str("none")?);
-        };
-        Ok(said.push_str(format!(in self.alloc; "{base} {first}")?.as_str())?)
-    }
-
     /// Puts where it begins.
     fn begins(&self, said: &mut String) -> Result<(), Error> {
         let Some(ledger) = &self.ledger else {
             return Ok(said.push_str("none")?);
         };
-        self.tell_start(Some(ledger.start()), said)
+        tell_start(self.alloc, Some(ledger.start()), said)
     }
 
     /// Puts where it would begin without the segments below a limit, with so many entries more.
@@ -242,7 +231,7 @@ impl Ledgers {
         let Some(ledger) = &self.ledger else {
             return Ok(said.push_str("none")?);
         };
-        self.tell_start(ledger.trim_point(more, limit), said)
+        tell_start(self.alloc, ledger.trim_point(more, limit), said)
     }
 
     fn trim(&mut self, device: &mut Device, limit: u64, said: &mut String) -> Result<(), Error> {
@@ -275,7 +264,7 @@ impl Ledgers {
                 let made = self.create(device, number.parse()?);
                 device.tell(said, made)
             }
-            ["open", number] => self.open(device, number.parse()?, FROM_ZERO, said),
+            ["open", number] => self.open(device, number.parse()?, UNTRIMMED, said),
             ["from", base, first, number] => {
                 let (base, first): (u32, u32) = (base.parse()?, first.parse()?);
                 let start = Start {

@@ -2,6 +2,7 @@
 
 use anyhow::{Error, bail};
 use disk::{CrashForm, CursorSlot, FileId};
+use gated_log::Start;
 use std::alloc::{AllocError, Global};
 
 /// The topic whose files there are.
@@ -66,4 +67,16 @@ pub(crate) fn standing(is_failed: bool) -> &'static str {
 
 pub(crate) fn yes(is: bool) -> &'static str {
     if is { "yes" } else { "no" }
+}
+
+/// Puts a position and the number of a segment, or that there is none.
+pub(crate) fn tell_start(
+    alloc: Global,
+    start: Option<Start>,
+    said: &mut String,
+) -> Result<(), Error> {
+    let Some(Start { base, first }) = start else {
+        return Ok(said.push_str("none")?);
+    };
+    Ok(said.push_str(format!(in alloc; "{base} {first}")?.as_str())?)
 }

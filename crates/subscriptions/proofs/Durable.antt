@@ -349,5 +349,6 @@ are_kept = record {
   redeliver = λ e kept t key asked is. kept_spared e kept t _ (λ q. acked_spared (is_on key) (redelivered_on key asked) (record { name = λ _. refl; acked = λ _. refl }) q t.subs) (length_changed (is_on key) (redelivered_on key asked) t.subs) is;
   settle = settle_kept;
   slot = λ e kept t slots is. record { same = is.same; count = is.count; durable = is.durable; formed = is.formed };
+  forget = λ e kept t position is. record { same = is.same; count = is.count; durable = is.durable; formed = is.formed };
   longer = λ e m kept t low is. record { same = is.same; count = is.count; durable = is.durable; formed = formed_longer e m t.changes kept low is.formed };
 }

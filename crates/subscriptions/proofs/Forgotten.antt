@@ -23,7 +23,7 @@ use Rattle.subscriptions.specs.declared.consumer.Refusal.TheVariants.{ConsumerBu
 use Rattle.subscriptions.specs.Forgetting.{unacknowledged, forgetting, forgetful, AnswersTheSame, GoesOnTheSame, CountsAreForgotten}
 use Rattle.subscriptions.specs.Laws.{IsOpenFor}
 use Rattle.subscriptions.specs.State.{Subscription, Subscriptions}
-use Rattle.subscriptions.specs.Steps.{first_changed, first_removed, each_delivery, is_on, is_named, refuses_ranges, refusals_at, attached_to, attached_at, granted_on, is_past_on, learnt_on, HasLearntOn, acked_on, acknowledgements, acked_through_on, acknowledgement_through, is_shared, removal, made, is_first, AdmitsBy, AdmitsAt, IsLeastIn, sent_on, times_at, freed, left_on, detached_on, is_asked_back, redelivered_on, settled, slotted}
+use Rattle.subscriptions.specs.Steps.{first_changed, first_removed, each_delivery, is_on, is_named, refuses_ranges, refusals_at, attached_to, attached_at, granted_on, is_past_on, learnt_on, HasLearntOn, acked_on, acknowledgements, acked_through_on, acknowledgement_through, is_shared, removal, made, is_first, AdmitsBy, AdmitsAt, IsLeastIn, sent_on, times_at, freed, left_on, detached_on, is_asked_back, redelivered_on, settled, slotted, forgotten}
 use Rattle.subscriptions.proofs.Each.{get_each}
 use Rattle.subscriptions.proofs.Limits.{picked}
 use Rattle.subscriptions.proofs.Settled.{is_in, has_joined, has_through, get_forgotten, get_forgotten_below}
@@ -293,6 +293,7 @@ goes_on t =
       redeliver = λ key asked. with_subs t _ _ (on key (redelivered_on key asked) (λ s. alike_redelivered key asked s));
       settle = λ count. with_subs (settled t count) _ _ (all_twice t.subs);
       slot = λ slots. with_subs (slotted t slots) _ _ (all_twice t.subs);
+      forget = λ position. with_subs (forgotten t position) _ _ (all_twice t.subs);
     }
 
 pub counts_are_forgotten : CountsAreForgotten

@@ -17,6 +17,7 @@ pub mod Told
 pub mod Lowered
 pub mod Noted
 pub mod Forgotten
+pub mod Fronts
 pub mod Learning
 pub mod Looking
 pub mod Granted

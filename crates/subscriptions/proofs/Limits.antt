@@ -20,7 +20,7 @@ use Rattle.subscriptions.specs.declared.consumer.Refusal.{Refusal}
 use Rattle.records.specs.declared.record.Record.{Record}
 use Rattle.records.specs.declared.record.Record.TheVariants.{Acknowledged}
 use Rattle.subscriptions.specs.State.{Subscription, Subscriptions}
-use Rattle.subscriptions.specs.Steps.{first_changed, first_standing, is_named, is_on, refuses_ranges, refusals_at, making_refusals, attach_refusals, attached_to, attached_at, made, granted_on, grants_too_many, is_past_on, learnt_on, HasLearntOn, acknowledged, acknowledgements, acked_on, acknowledged_through, acknowledgement_through, acked_through_on, first_removed, is_shared, unsubscribe_refusals, unsubscribed, removal, Admits, AdmitsAt, AdmitsOn, sent_on, left, left_on, freed, detached_on, is_asked_back, redelivered_on, settled, slotted}
+use Rattle.subscriptions.specs.Steps.{first_changed, first_standing, is_named, is_on, refuses_ranges, refusals_at, making_refusals, attach_refusals, attached_to, attached_at, made, granted_on, grants_too_many, is_past_on, learnt_on, HasLearntOn, acknowledged, acknowledgements, acked_on, acknowledged_through, acknowledgement_through, acked_through_on, first_removed, is_shared, unsubscribe_refusals, unsubscribed, removal, Admits, AdmitsAt, AdmitsOn, sent_on, left, left_on, freed, detached_on, is_asked_back, redelivered_on, settled, slotted, forgotten}
 use Rattle.subscriptions.specs.Soundness.{IsSoundSubscription, HasLimits, IsSound, IsCommittedOn, IsCommitted}
 use Rattle.subscriptions.specs.Laws.{StaysSound, DeliveriesAreCommitted, PickedIsOpen, IsOpenFor}
 use Rattle.subscriptions.proofs.Looking.{zip_all, limits_looked, sound_looked}
@@ -67,6 +67,9 @@ limits_settled t count l = record { names = l.names; subscriptions = l.subscript
 
 pub limits_slotted : (t : Subscriptions) (slots : List ℕ) → HasLimits t → HasLimits (slotted t slots)
 limits_slotted t slots l = record { names = l.names; subscriptions = l.subscriptions; changes = l.changes }
+
+pub limits_forgotten : (t : Subscriptions) (position : ℕ) → HasLimits t → HasLimits (forgotten t position)
+limits_forgotten t position l = record { names = l.names; subscriptions = l.subscriptions; changes = l.changes }
 
 two_rows : (a b : Bool) (x y : Refusal) → cond a (Some x) (cond b (Some y) None) ≡ None → (a ≡ false) × (b ≡ false)
 two_rows true b x y h = absurd (cc)
@@ -233,6 +236,7 @@ each_sound = record {
   };
   settle = λ t count sound. record { limits = limits_settled t count sound.limits; each_one = sound.each_one };
   slot = λ t slots sound. record { limits = limits_slotted t slots sound.limits; each_one = sound.each_one };
+  forget = λ t position sound. record { limits = limits_forgotten t position sound.limits; each_one = sound.each_one };
 }
 
 -- ---- deliveries are of committed positions
@@ -289,6 +293,7 @@ each_committed = record {
       (λ x is c j h. none_changed (λ i d. cond (is_asked_back x.mode asked i) (given_back key d) d) x.deliveries j (c j h)) all;
   settle = λ committed t count all. all;
   slot = λ committed t slots all. all;
+  forget = λ committed t position all. all;
 }
 
 picked_at : (o : Option Subscription) (key : ConsumerKey) (slots : List ℕ) (committed i : ℕ) → AdmitsAt o key slots committed i → IsOpenFor o committed i

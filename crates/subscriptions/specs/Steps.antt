@@ -1,5 +1,5 @@
 -- What each call does to the subscriptions of a topic.
-use Rattle.std.specs.Prelude.{◌≡◌, ◌⊎◌, ℕ, ◌+◌, ◌^◌, Bool, true, false, cond, not, ◌&&◌, ◌||◌, nat_eq, nat_lt, nat_le, max, ◌≤◌, Option, Some, None, List, [], ◌∷◌, ◌++◌, length, filter, drop, slice_index, IsTrue, IsSomeAnd, map as each}
+use Rattle.std.specs.Prelude.{◌≡◌, ◌⊎◌, ℕ, ◌+◌, ◌^◌, Bool, true, false, cond, not, ◌&&◌, ◌||◌, nat_eq, nat_lt, nat_le, max, ◌≤◌, Option, Some, None, List, [], ◌∷◌, ◌++◌, length, filter, drop, slice_index, replicate, IsTrue, IsSomeAnd, map as each}
 use Rattle.std.specs.List.{AllZip, list_any, find}
 use Rattle.std.specs.Str.{bytes_eq}
 use Rattle.std.specs.FinSet as set
@@ -44,6 +44,10 @@ opened kept = opened_all (map.entries kept)
 -- further entries have these slots
 abbrev pub slotted : Subscriptions → List ℕ → Subscriptions
 slotted t slots = record t { slots = t.slots ++ slots }
+
+-- the slots of positions below this one are forgotten: they are 0
+abbrev pub forgotten : Subscriptions → ℕ → Subscriptions
+forgotten t position = record t { slots = replicate position 0 ++ drop position t.slots }
 
 -- the first that passes a test is changed
 abbrev pub first_changed : {X : Type 0} → (X → Bool) → (X → X) → List X → List X
@@ -143,10 +147,10 @@ subscribe_refusals t name mode ranges = refusals_at (find (is_named name) t.subs
 abbrev pub attached_to : Mode → Seat → Word → Subscription → Subscription
 attached_to mode seat word s = record s { mode = mode; consumers = s.consumers ++ record { key = seat.key; granted = 0; sent = 0; word = word; looks = 0 } ∷ []; seats = s.seats ++ seat ∷ [] }
 
--- the position below which all is acknowledged on a new subscription
-abbrev pub start_of : InitialPosition → ℕ → ℕ
-start_of Latest committed = committed
-start_of Earliest committed = 0
+-- the position below which all is acknowledged on a new subscription: the committed length, or the first position that is to be had
+abbrev pub start_of : InitialPosition → ℕ → ℕ → ℕ
+start_of Latest first committed = committed
+start_of Earliest first committed = first
 
 abbrev pub made : List ℕ → Mode → ℕ → Subscription
 made name mode start = record { name = name; mode = mode; consumers = []; seats = []; acked = below start; deliveries = map.empty }

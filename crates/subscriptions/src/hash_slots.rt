@@ -1,5 +1,5 @@
 // The hash slots of a topic's entries.
-ghost use Rattle.std.specs.Prelude.{◌≡◌, ◌<◌, ◌++◌, ◌∷◌, [], length, slice_index, OnOk, OnErr};
+ghost use Rattle.std.specs.Prelude.{◌≡◌, ◌+◌, ◌^◌, ◌<◌, ◌≤◌, ◌++◌, ◌∷◌, [], false, drop, length, replicate, slice_index, OnOk, OnErr};
 
 use std::alloc::{AllocError, Global};
 use std::collections::VecDeque;
@@ -49,5 +49,40 @@ impl HashSlots {
             return 0;
         }
         self.kept[(position - self.from) as usize]
+    }
+
+    /// So many further ones come before those that it has, and are 0. Takes no memory.
+    pub fn put_before(&mut self, count: u64)
+        requires { count + length self.old ≤ 2 ^ 62 }
+        ensures { self.new ≡ replicate count 0 ++ self.old }
+    {
+        self.from += count;
+    }
+
+    /// Those of positions below this one take no memory from now on, and are 0. Takes none. The answer is whether any did.
+    pub(crate) fn forget_below(&mut self, position: u64) -> bool
+        requires { position ≤ length self.old }
+        ensures forgotten { self.new ≡ replicate position 0 ++ drop position self.old }
+        ensures same { result ≡ false → self.new ≡ self.old }
+    {
+        if position <= self.from {
+            return false;
+        }
+        drop_first(&mut self.kept, position - self.from);
+        self.from = position;
+        true
+    }
+}
+
+/// Drops the first ones.
+fn drop_first(slots: &mut VecDeque<u16>, count: u64)
+    ensures { slots.new.items ≡ drop count slots.old.items }
+{
+    let mut left = count;
+    while left > 0 {
+        let Some(_) = slots.pop_front() else {
+            return;
+        };
+        left -= 1;
     }
 }

@@ -13,6 +13,7 @@ ghost use Rattle.subscriptions.specs.Hints.{IsPassed};
 ghost use Rattle.subscriptions.specs.Freeing.{freed_among};
 ghost use Rattle.subscriptions.specs.Quiet.{IsQuietOn, has_permits};
 ghost use Rattle.subscriptions.specs.Statuses.{IsStatus};
+ghost use Rattle.subscriptions.specs.Trimming.{IsPast};
 
 use crate::backlog::Backlog;
 use crate::consumer::{Consumer, Mode, Refusal};
@@ -102,6 +103,13 @@ impl<G: Gauge> Subscription<G> {
     {
         let name = Name::new(alloc, self.name())?;
         self.progress.status(name)
+    }
+
+    /// A position below which all are acknowledged. Those for which there was no memory are left aside.
+    pub(crate) fn mark_delete(&self) -> u64
+        ensures { IsPast result self.now }
+    {
+        self.progress.mark_delete()
     }
 
     /// Whether the consumer is attached.

@@ -5,11 +5,12 @@ ghost use Rattle.std.specs.List.{AllByRecursion, AllZip, IsDistinct, find};
 ghost use Rattle.std.specs.Str.{bytes_eq};
 ghost use Rattle.records.specs.declared.kept_cursor.KeptCursor.{KeptCursor};
 ghost use Rattle.records.specs.declared.record.Record.TheVariants.{Acknowledged as acknowledged_change, Made as made_of};
-ghost use Rattle.subscriptions.specs.Steps.{none_yet, opened_one, opened_all, first_changed, is_on, is_named, has_consumer, first_standing, making_refusals, subscribe_refusals, attach_refusals, refuses_ranges, attached_to, attached, attached_at, start_of, made, granted, granted_on, grants_too_many, learnt, learnt_on, IsLearnt, IsLooked, HasLearnt, HasLearntOn, HasLookedOn, has_permit_at, acknowledged, acked_on, acknowledged_through, acked_through_on, is_shared, unsubscribe_refusals, unsubscribed, Admits, AdmitsAt, AdmitsOn, sent, sent_on, sent_before, times_at, left, left_on, detached, detached_on, redelivered, redelivered_on, shares, is_among_many, settled, slotted};
+ghost use Rattle.subscriptions.specs.Steps.{none_yet, opened_one, opened_all, first_changed, is_on, is_named, has_consumer, first_standing, making_refusals, subscribe_refusals, attach_refusals, refuses_ranges, attached_to, attached, attached_at, start_of, made, granted, granted_on, grants_too_many, learnt, learnt_on, IsLearnt, IsLooked, HasLearnt, HasLearntOn, HasLookedOn, has_permit_at, acknowledged, acked_on, acknowledged_through, acked_through_on, is_shared, unsubscribe_refusals, unsubscribed, Admits, AdmitsAt, AdmitsOn, sent, sent_on, sent_before, times_at, left, left_on, detached, detached_on, redelivered, redelivered_on, shares, is_among_many, settled, slotted, forgotten};
 ghost use Rattle.std.specs.Option.{option_copied};
 ghost use Rattle.subscriptions.specs.Hints.{AreHintsOf, AreHintsOn};
 ghost use Rattle.subscriptions.specs.Quiet.{IsQuiet};
 ghost use Rattle.subscriptions.specs.Statuses.{AreStatuses};
+ghost use Rattle.subscriptions.specs.Trimming.{IsPast};
 ghost use Rattle.holds.specs.declared.consumer.ConsumerKey.{ConsumerKey as Key};
 
 use crate::consumer::{Mode, Refusal};
@@ -167,8 +168,8 @@ impl<G: Gauge> Subscriptions<G> {
         None
     }
 
-    /// SUBSCRIBE: a name that is there gains a consumer, and another name is made with it. A
-    /// refusal changes nothing, and the gauge goes.
+    /// SUBSCRIBE: a name that is there gains a consumer, and another name is made with it, which begins at the first position that
+    /// is to be had, or behind the committed ones. A refusal changes nothing, and the gauge goes.
     pub fn attach(
         &mut self,
         name: &str,
@@ -176,18 +177,20 @@ impl<G: Gauge> Subscriptions<G> {
         seat: Consumer,
         gauge: G,
         initial: InitialPosition,
+        first: u64,
         committed: u64,
     ) -> Result<(), AllocError>
+        requires low { first ≤ committed }
         requires fits { committed ≤ 2 ^ 62 }
         requires allowed { first_standing (subscribe_refusals self.old name.now mode seat.ranges) ≡ None }
         requires none_known { G.known gauge ≡ 0 }
         requires none_taken { G.taken gauge ≡ 0 }
         requires none_looked { G.looks gauge ≡ 0 }
-        ensures ok { OnOk result (self.new ≡ attached self.old name.now mode seat (G.word gauge) (start_of initial committed)) }
+        ensures ok { OnOk result (self.new ≡ attached self.old name.now mode seat (G.word gauge) (start_of initial first committed)) }
         ensures err { OnErr result (self.new ≡ self.old) }
     {
         let Some(place) = place_named(self.subs.as_slice(), name) else {
-            return self.make(name, mode, seat, gauge, start_of(initial, committed));
+            return self.make(name, mode, seat, gauge, start_of(initial, first, committed));
         };
         let key = seat.key;
         let former = self.directory.of(key);
@@ -499,6 +502,29 @@ impl<G: Gauge> Subscriptions<G> {
         Ok(())
     }
 
+    /// A position, not above this one, below which each subscription has acknowledged all; acknowledgements for whose places memory
+    /// was refused are left aside. None where there is no subscription.
+    pub fn all_past(&self, most: u64) -> Option<u64>
+        ensures some { IfSome result (λ _. 0 < length self.now.subs) }
+        ensures within { IfSome result (λ position. position ≤ most) }
+        ensures past { IfSome result (λ position. AllByRecursion (IsPast position) self.now.subs) }
+    {
+        if self.subs.is_empty() {
+            return None;
+        }
+        Some(least_mark(self.subs.as_slice(), most))
+    }
+
+    /// The slots of positions below this one take no memory from now on. Takes none.
+    pub fn forget_below(&mut self, position: u64)
+        requires { position ≤ length self.old.slots }
+        ensures { self.new ≡ forgotten self.old position }
+    {
+        if self.slots.forget_below(position) {
+            clear_all(&mut self.hints);
+        }
+    }
+
     /// The first changes are durable, and go.
     pub fn settle(&mut self, count: usize)
         requires { count ≤ length self.old.changes }
@@ -526,14 +552,15 @@ impl<G: Grant> Subscriptions<G> {
 }
 
 /// The position below which all is acknowledged on a new subscription.
-fn start_of(initial: InitialPosition, committed: u64) -> u64
-    requires { committed ≤ 2 ^ 62 }
-    ensures start { result ≡ start_of initial committed }
+fn start_of(initial: InitialPosition, first: u64, committed: u64) -> u64
+    requires low { first ≤ committed }
+    requires fits { committed ≤ 2 ^ 62 }
+    ensures start { result ≡ start_of initial first committed }
     ensures fits { result ≤ 2 ^ 62 }
 {
     match initial {
         InitialPosition::Latest => committed,
-        InitialPosition::Earliest => 0,
+        InitialPosition::Earliest => first,
     }
 }
 
@@ -721,6 +748,29 @@ fn leave_all<G: Gauge>(subs: &mut Vec<Subscription<G>>, hints: &mut Vec<Hints>, 
         let sub = &mut subs[i];
         let noted = &mut hints[i];
         leave_one(sub, noted, who);
+    }
+}
+
+/// The least of a position and of those below which a subscription has acknowledged all.
+fn least_mark<G: Gauge>(subs: &[Subscription<G>], most: u64) -> u64
+    ensures within { result ≤ most }
+    ensures past { AllByRecursion (IsPast result) subs.now }
+{
+    let mut least = most;
+    for sub in subs {
+        least = least.min(sub.mark_delete());
+    }
+    least
+}
+
+/// Drops all hints.
+fn clear_all(hints: &mut Vec<Hints>)
+    ensures same { length hints.new.items ≡ length hints.old.items }
+    ensures empty { AllByRecursion (λ h. h ≡ []) hints.new.items }
+{
+    for i in 0..hints.len() {
+        let noted = &mut hints[i];
+        noted.clear();
     }
 }
 

@@ -55,7 +55,7 @@ fn attach(
     let committed = u64::from(topic.committed);
     topic
         .subs
-        .attach(name, mode, seat, gauge, initial, committed)?;
+        .attach(name, mode, seat, gauge, initial, 0, committed)?;
     Ok(None)
 }
 

@@ -1,6 +1,6 @@
 -- Each step keeps a topic sound; what a flush commits.
-use Rattle.std.proofs.lemmas.List.{length-take, length-take-le, take-append-le, take-append-drop}
-use Rattle.std.proofs.Common.{◌≡◌, ⊎_elim, ℕ, ◌+◌, ◌≤◌, ◌^◌, Bool, true, false, cond, not, ◌&&◌, nat_eq, Option, Some, None, Result, Ok, Err, List, [], ◌∷◌, ◌++◌, length, map, take, refl, subst, sym, ap, ◌∙◌, arith}
+use Rattle.std.proofs.lemmas.List.{length-take, take-append-le}
+use Rattle.std.proofs.Common.{◌≡◌, inl, ⊎_elim, ℕ, ◌+◌, ◌≤◌, ◌^◌, max, min, Bool, true, false, cond, not, ◌&&◌, nat_eq, Option, Some, None, Result, Ok, Err, List, [], ◌∷◌, ◌++◌, length, map, take, refl, subst, sym, ap, ◌∙◌, arith}
 use Rattle.commands.specs.declared.reply.Reply.{Reply}
 use Rattle.topic_core.specs.declared.producer.Producer.{Producer}
 use Rattle.gated_log.specs.declared.refusal.Refusal.{Refusal}
@@ -36,20 +36,22 @@ use Rattle.subscriptions.proofs.Durable.{are_kept}
 use Rattle.topic_core.specs.declared.dispatch.Outgoing.{Outgoing}
 use Rattle.reply_queues.specs.Replies.{SessionReplies, is_for, due_to, pending_to, make_all_due}
 use Rattle.managed_ledger.specs.Entries.{Ledger, end_of, lengthened}
-use Rattle.managed_ledger.specs.Trims.{end_lengthened, lengthened_both}
+use Rattle.managed_ledger.specs.Trims.{end_lengthened, entry_within, lengthened_both}
+use Rattle.records.specs.Floors.{HaveBelow}
 use Rattle.topic_core.specs.Slots.{slot_of_entry, slots_of}
 use Rattle.topic_core.proofs.Slotted.{length_slots, slots_lengthened, slots_none}
-use Rattle.topic_core.specs.State.{Topic, opened, entries_of, changes_of, entries_in_doubt, changes_in_doubt}
+use Rattle.topic_core.specs.State.{Topic, opened, floor, entries_of, changes_of, entries_in_doubt, changes_in_doubt}
 use Rattle.topic_core.specs.Soundness.{IsSound, AreReceipts, IsSoundTopic}
 use Rattle.topic_core.specs.Steps.{TopicStep, Outcome, Collects, GrantStep, outcome_of, refused_or, first_standing, producer_refusals, send_refusals, bytes_of, subscribe_refusal, close_refusals, unsubscribe_refusal, ack_refusals, ack_accepted, detach_refusals, asked_back, has_consumer, key_of, seat_of, start_of, granted, grants_too_many, learnt, HasLearnt, left}
 use Rattle.topic_core.specs.Dispatch.{Admits, DispatchStep, sent}
-use Rattle.topic_core.specs.Flush.{has_no_flush, is_idle, handed_on, finished, taken_back, failed, TakeStep, FinishStep, FlushStep, FlushIn, FlushEnds}
+use Rattle.topic_core.specs.Flush.{IsTrimPoint, has_no_flush, is_idle, handed_on, finished, taken_back, failed, TakeStep, FinishStep, FlushStep, FlushIn, FlushEnds}
 use Rattle.topic_core.specs.Crashes.{IsLeft, TopicCrash, ReopenStep, ReopenEnds, ReopenIn, reopened, longer, changed}
 use Rattle.topic_core.proofs.Openings.{sound-opened, receipts-opened, sound-reopened, receipts-reopened}
 use Rattle.topic_core.specs.Laws.{IsFlushed, IsAdmitted}
 use Rattle.topic_core.proofs.Sends.{takes_entry, sound-accepted, receipts-accepted}
 use Rattle.topic_core.proofs.Collects.{sound-collected, receipts-collected, sound-left, receipts-left}
 use Rattle.topic_core.proofs.Subscribing.{sound-subs, receipts-subs, sound-subscribed, receipts-subscribed, kept-subscribed, accepts, sound-acked, receipts-acked, kept-acked, first-acked, slots-attached, slots-acked}
+use Rattle.topic_core.proofs.Floors.{adds_none, same_acknowledged, handed_on_acknowledged, taken_back_acknowledged, failed_acknowledged, trimmed_end, finished_acknowledged, finished_slots, opened_acknowledged, reopened_acknowledged, left_below, left_end, trimmed_at_base}
 use Rattle.topic_core.proofs.States.{AreKeptBack, all_opened}
 use Rattle.topic_core.proofs.Meeting.{met}
 use Rattle.topic_core.proofs.Closings.{sound-producers, receipts-producers, close-works, sound-closing, receipts-closing, sound-unsubscribed, receipts-unsubscribed, kept-unsubscribed, changes-unsubscribed}
@@ -145,7 +147,7 @@ with-subs : (t : Topic) (subs : Subscriptions) → (AreSound t.subs → AreSound
     → ((kept : Kept) → IsKept t.committed kept t.subs → IsKept t.committed kept subs)
     → subs.changes ≡ t.subs.changes → subs.slots ≡ t.subs.slots → Keeps t (record t { subs = subs })
 with-subs t subs sound-to sent-to kept changes slots sound are = stays t _ refl
-    (sound-subs t subs sound (sound-to sound.subs) (sent-to sound.sent) (omega (arith, ap (λ (cs : List Record). length cs) changes)) slots) (receipts-subs t subs are)
+    (sound-subs t subs sound (sound-to sound.subs) (sent-to sound.sent) (adds_none (floor t) t.subs subs changes) slots) (receipts-subs t subs are)
     kept refl (ap (λ (cs : List Record). take (changes_of t.doubt) cs) changes) (λ ledger is. slots ∙ is)
 
 pub detached-keeps : (t : Topic) (key : ConsumerKey) → Keeps t (record t { subs = subscriptions.detached t.subs key })
@@ -170,7 +172,7 @@ outcome-keeps t who (command.Send send) word = either-keeps t (first_standing (s
     (take-append-le (entries_of t.doubt) t.waiting (bytes_of send.entry ∷ []) (omega (arith, sound.promises))) refl
     (λ ledger is. slots-accepted t ledger (bytes_of send.entry) is))
 outcome-keeps t who (command.Subscribe s) word = either-keeps t (subscribe_refusal t s) _ _ (λ none sound are.
-    let start = subscriptions.start_of (start_of s.initial) t.committed in
+    let start = subscriptions.start_of (start_of s.initial) (floor t) t.committed in
     stays t _ refl (sound-subscribed t who s word sound none) (receipts-subscribed t who s word sound none are) (λ kept is. kept-subscribed t who s word sound none kept is)
     refl (doubt-attached t s.subscription s.mode (seat_of who s) word start sound.changes) (λ ledger is. slots-attached t.subs s.subscription s.mode (seat_of who s) word start ∙ is))
 outcome-keeps t who (command.Ack ack) word =
@@ -206,6 +208,7 @@ stays-sound old new stays sound = record {
   counted = ap (λ (l : Ledger). end_of l) stays.ledger ∙ sound.counted ∙ sym stays.committed;
   kept = let P : Kept → Type 0 = λ k. IsKept new.committed k new.subs in subst P (sym stays.durable) (subst (λ c. IsKept c old.kept new.subs) (sym stays.committed) (stays.kept old.kept sound.kept));
   slots = stays.slots old.ledger sound.slots ∙ ap (λ (l : Ledger). slots_of (lengthened l new.waiting)) (sym stays.ledger);
+  acknowledged = same_acknowledged old new stays.ledger stays.durable stays.doubt stays.changes sound.acknowledged;
 }
 
 pub command-sound : (old : Topic) (who : ℕ) (c : TopicCommand) (answer : Answer) (new : Topic) → TopicStep old who c answer new → IsSoundTopic old → IsSoundTopic new
@@ -270,6 +273,7 @@ pub dispatch-admits : (old : Topic) (who id : ℕ) (outgoing : Outgoing) (new : 
 dispatch-admits old who id outgoing new step = (
   step.0,
   record {
+    there = (entry_within old.ledger step.0 outgoing.entry step.1.entry).0;
     named = step.1.reply;
     published = step.1.entry;
     admitted = step.1.admitted;
@@ -277,53 +281,76 @@ dispatch-admits old who id outgoing new step = (
   },
 )
 
--- what was handed on goes from the waiting entries to the ledger
-pub moved : (t : Topic) → lengthened t.ledger t.waiting ≡ lengthened (lengthened t.ledger (entries_in_doubt t)) (finished t).waiting
-moved t = ap (λ (z : List (List ℕ)). lengthened t.ledger z) (sym (take-append-drop (entries_of t.doubt) t.waiting)) ∙ sym (lengthened_both t.ledger (entries_in_doubt t) (finished t).waiting)
+pub kept-finished : (t : Topic) (trim : ℕ) → IsKept t.committed t.kept t.subs → IsKept (finished t trim).committed (finished t trim).kept (finished t trim).subs
+kept-finished t trim is = are_kept.longer t.committed (finished t trim).committed (finished t trim).kept (finished t trim).subs (omega arith)
+    (are_kept.forget t.committed (changed t) (subscriptions.settled t.subs (changes_of t.doubt)) (max t.ledger.base trim) (are_kept.settle t.committed t.kept t.subs (changes_of t.doubt) is))
 
-pub kept-finished : (t : Topic) → IsKept t.committed t.kept t.subs → IsKept (finished t).committed (finished t).kept (finished t).subs
-kept-finished t is = are_kept.longer t.committed (finished t).committed (finished t).kept (finished t).subs (omega arith) (are_kept.settle t.committed t.kept t.subs (changes_of t.doubt) is)
+handed_on-few : (t : Topic) → IsSound t → entries_of t.doubt ≤ length t.waiting
+handed_on-few t sound = omega (arith, sound.promises)
 
 -- the ends of a flush
-finished-sound : (old : Topic) → IsSoundTopic old → IsSoundTopic (finished old)
-finished-sound old sound = record {
-  state = sound-finished old sound.state;
-  receipts = receipts-finished old sound.state sound.receipts;
-  counted = omega (arith, end_lengthened old.ledger (entries_in_doubt old), length-take-le (entries_of old.doubt) old.waiting (omega (arith, sound.state.promises)), sound.counted);
-  kept = kept-finished old sound.kept;
-  slots = sound.slots ∙ ap (λ (l : Ledger). slots_of l) (moved old);
-}
+pub finished-sound : (old : Topic) (trim : ℕ) → trim ≤ floor old → IsSoundTopic old → IsSoundTopic (finished old trim)
+finished-sound old trim low sound =
+    let few = handed_on-few old sound.state in
+    record {
+      state = sound-finished old sound.state trim low;
+      receipts = receipts-finished old sound.state trim sound.receipts;
+      counted = trimmed_end old trim few sound.state.trims low;
+      kept = kept-finished old trim sound.kept;
+      slots = finished_slots old trim few sound.state.trims low sound.slots;
+      acknowledged = finished_acknowledged old trim few sound.state.trims low sound.acknowledged;
+    }
 
 taken_back-sound : (old : Topic) → IsSoundTopic old → IsSoundTopic (taken_back old)
-taken_back-sound old sound =
-    record { state = sound-taken_back old sound.state; receipts = receipts-taken_back old sound.state sound.receipts; counted = sound.counted; kept = sound.kept; slots = sound.slots }
+taken_back-sound old sound = record {
+  state = sound-taken_back old sound.state;
+  receipts = receipts-taken_back old sound.state sound.receipts;
+  counted = sound.counted;
+  kept = sound.kept;
+  slots = sound.slots;
+  acknowledged = taken_back_acknowledged old sound.acknowledged;
+}
 
 failed-sound : (old : Topic) → IsSoundTopic old → IsSoundTopic (failed old)
-failed-sound old sound = record { state = sound-failed old sound.state; receipts = receipts-failed old sound.state sound.receipts; counted = sound.counted; kept = sound.kept; slots = sound.slots }
+failed-sound old sound = record {
+  state = sound-failed old sound.state;
+  receipts = receipts-failed old sound.state sound.receipts;
+  counted = sound.counted;
+  kept = sound.kept;
+  slots = sound.slots;
+  acknowledged = failed_acknowledged old sound.acknowledged;
+}
 
 -- its beginning
-handed_on-sound : (old : Topic) → IsSoundTopic old → IsSoundTopic (handed_on old)
-handed_on-sound old sound =
-    record { state = sound-handed_on old sound.state; receipts = receipts-handed_on old sound.state sound.receipts; counted = sound.counted; kept = sound.kept; slots = sound.slots }
+pub handed_on-sound : (old : Topic) (trim : ℕ) → IsTrimPoint old trim → IsSoundTopic old → IsSoundTopic (handed_on old trim)
+handed_on-sound old trim point sound = record {
+  state = sound-handed_on old sound.state trim point;
+  receipts = receipts-handed_on old sound.state trim sound.receipts;
+  counted = sound.counted;
+  kept = sound.kept;
+  slots = sound.slots;
+  acknowledged = handed_on_acknowledged old sound.kept sound.state.trims sound.acknowledged trim point;
+}
 
 along : (a b : Topic) → a ≡ b → IsSoundTopic b → IsSoundTopic a
 along a b e h = let P : Topic → Type 0 = λ x. IsSoundTopic x in subst P (sym e) h
 
 pub take-sound : (old : Topic) (result : Result (Option Batch) WriteError) (new : Topic) → TakeStep old result new → IsSoundTopic old → IsSoundTopic new
 take-sound old (Ok None) new h sound = along new old h.2 sound
-take-sound old (Ok (Some batch)) new h sound = along new (handed_on old) h.2 (handed_on-sound old sound)
+take-sound old (Ok (Some batch)) new h sound = along new (handed_on old batch.trim) h.2 (handed_on-sound old batch.trim h.5 sound)
 take-sound old (Err write.Device) new h sound = along new old h.1 sound
 take-sound old (Err write.NoMemory) new h sound = along new old h.2 sound
 
-pub finish-sound : (old : Topic) (written : Result (Unit {0}) WriteError) (result : Result ℕ WriteError) (new : Topic) → FinishStep old written result new → IsSoundTopic old → IsSoundTopic new
-finish-sound old (Ok done) result new h sound = along new (finished old) h.1 (finished-sound old sound)
+pub finish-sound : (old : Topic) (written : Result ℕ WriteError) (result : Result ℕ WriteError) (new : Topic) → FinishStep old written result new → IsSoundTopic old → IsSoundTopic new
+finish-sound old (Ok base) result new h sound = along new (finished old (min base (floor old))) h.1 (finished-sound old (min base (floor old)) (omega arith) sound)
 finish-sound old (Err write.NoMemory) result new h sound = along new (taken_back old) h.1 (taken_back-sound old sound)
 finish-sound old (Err write.Device) result new h sound = along new (failed old) h.1 (failed-sound old sound)
 
 ends-sound : (old : Topic) (result : Result ℕ WriteError) (new : Topic) → FlushEnds old result new → IsSoundTopic old → IsSoundTopic new
-ends-sound old (Ok n) new h sound = along new (finished (handed_on old)) (h.1 ∙ sym (finished-handed_on old)) (finished-sound (handed_on old) (handed_on-sound old sound))
+ends-sound old (Ok n) new h sound =
+    along new (finished (handed_on old h.1.limit) h.1.trim) (h.1.is ∙ sym (finished-handed_on old h.1.limit h.1.trim)) (finished-sound (handed_on old h.1.limit) h.1.trim h.1.within (handed_on-sound old h.1.limit h.1.allowed sound))
 ends-sound old (Err write.NoMemory) new h sound = along new old h sound
-ends-sound old (Err write.Device) new h sound = along new (failed (handed_on old)) h (failed-sound (handed_on old) (handed_on-sound old sound))
+ends-sound old (Err write.Device) new h sound = along new (failed (handed_on old h.limit)) h.is (failed-sound (handed_on old h.limit) (handed_on-sound old h.limit h.allowed sound))
 
 in-sound : (failed under_way : Bool) (old : Topic) (result : Result ℕ WriteError) (new : Topic) → FlushIn failed under_way old result new → IsSoundTopic old → IsSoundTopic new
 in-sound true under_way old result new h sound = along new old h.1 sound
@@ -338,45 +365,53 @@ flush-sound old result new h sound = in-sound old.failed (has_no_flush old) old 
 length-take-most : {X : Type 0} (n : ℕ) (xs : List X) → length (take n xs) ≤ length xs
 length-take-most n xs = omega (arith, length-take n xs)
 
--- no crash leaves more than fits, nor fewer entries, and what it leaves is durable
-pub left-fits : (old : Topic) (ledger : Ledger) (kept : Kept) → IsSoundTopic old → IsLeft old ledger kept → (old.committed ≤ end_of ledger) × (end_of ledger ≤ 2 ^ 62) × AreDurable kept
+-- no crash leaves more than fits, nor fewer entries, and what it leaves is durable, and acknowledged below its first entry
+pub record Leaves (old : Topic) (ledger : Ledger) (kept : Kept) : Type 0 where
+  pub more : old.committed ≤ end_of ledger
+  pub few : end_of ledger ≤ 2 ^ 62
+  pub durable : AreDurable kept
+  pub below : HaveBelow ledger.base kept
+
+left_durable : (old : Topic) (ledger : Ledger) (kept : Kept) → IsSoundTopic old → IsLeft old ledger kept → AreDurable kept
+left_durable old ledger kept sound is =
+    let old_kept : kept ≡ old.kept → AreDurable kept = λ e. subst AreDurable (sym e) sound.kept.durable in
+    let new_kept : kept ≡ changed old → AreDurable kept = λ e. subst AreDurable (sym e) (are_kept.settle old.committed old.kept old.subs (changes_of old.doubt) sound.kept).durable in
+    ⊎_elim (λ e. old_kept e.1) (λ es. ⊎_elim (λ e. old_kept e.1) (λ e. new_kept e.1) es) is
+
+pub left-fits : (old : Topic) (ledger : Ledger) (kept : Kept) → IsSoundTopic old → IsLeft old ledger kept → Leaves old ledger kept
 left-fits old ledger kept sound is =
-    let d : ℕ = entries_of old.doubt in
-    let same : (l : Ledger) → l ≡ old.ledger → (old.committed ≤ end_of l) × (end_of l ≤ 2 ^ 62) = λ l e. (omega (arith, ap (λ (x : Ledger). end_of x) e, sound.counted), omega (arith, ap (λ (x : Ledger). end_of x) e, sound.counted, sound.state.entries)) in
-    let more : (l : Ledger) → l ≡ longer old → (old.committed ≤ end_of l) × (end_of l ≤ 2 ^ 62) = λ l e.
-    let size : end_of l ≡ end_of old.ledger + length (take d old.waiting) = ap (λ (x : Ledger). end_of x) e ∙ end_lengthened old.ledger (take d old.waiting) in
-    let part : length (take d old.waiting) ≤ length old.waiting = length-take-most d old.waiting in
-    (omega (arith, size, sound.counted), omega (arith, size, part, sound.counted, sound.state.entries)) in
-    let kept_old : (k : Kept) → k ≡ old.kept → AreDurable k = λ k e. subst AreDurable (sym e) sound.kept.durable in
-    let kept_new : (k : Kept) → k ≡ changed old → AreDurable k = λ k e. subst AreDurable (sym e) (are_kept.settle old.committed old.kept old.subs (changes_of old.doubt) sound.kept).durable in
-    ⊎_elim
-    (λ e. ((same ledger e.0).0, (same ledger e.0).1, kept_old kept e.1))
-    (λ es. ⊎_elim
-    (λ e. ((more ledger e.0).0, (more ledger e.0).1, kept_old kept e.1))
-    (λ e. ((more ledger e.0).0, (more ledger e.0).1, kept_new kept e.1))
-    es)
-    is
+    let part : length (take (entries_of old.doubt) old.waiting) ≤ length old.waiting = length-take-most (entries_of old.doubt) old.waiting in
+    let long : end_of (longer old) ≡ end_of old.ledger + length (take (entries_of old.doubt) old.waiting) = end_lengthened old.ledger (take (entries_of old.doubt) old.waiting) in
+    let end = left_end old ledger kept sound.state.trims is in
+    record {
+      more = ⊎_elim (λ e. omega (arith, e)) (λ e. omega (arith, e, long, sound.counted)) end;
+      few = ⊎_elim (λ e. omega (arith, e, sound.state.entries)) (λ e. omega (arith, e, long, part, sound.counted, sound.state.entries)) end;
+      durable = left_durable old ledger kept sound is;
+      below = left_below old ledger kept sound.acknowledged is;
+    }
 
 pub crash-sound : (old new : Topic) → TopicCrash old new → IsSoundTopic old → IsSoundTopic new
 crash-sound old new crash sound =
     let fits = left-fits old new.ledger new.kept sound crash.left in
     along new (opened old.per_ledger new.ledger (slots_of new.ledger) new.kept) crash.again (record {
-      state = sound-opened old.per_ledger new.ledger (slots_of new.ledger) new.kept sound.state.numbered fits.1 (length_slots new.ledger) fits.2;
+      state = sound-opened old.per_ledger new.ledger (slots_of new.ledger) new.kept sound.state.numbered fits.few (length_slots new.ledger) fits.durable;
       receipts = receipts-opened old.per_ledger new.ledger (slots_of new.ledger) new.kept;
       counted = refl;
-      kept = are_kept.slot (end_of new.ledger) new.kept (subscriptions.opened new.kept) (slots_of new.ledger) (are_kept.opened (end_of new.ledger) new.kept fits.2);
+      kept = are_kept.slot (end_of new.ledger) new.kept (subscriptions.opened new.kept) (slots_of new.ledger) (are_kept.opened (end_of new.ledger) new.kept fits.durable);
       slots = slots_none new.ledger;
+      acknowledged = opened_acknowledged old.per_ledger new.ledger (slots_of new.ledger) new.kept fits.below;
     })
 
 reopen-ends-sound : (old : Topic) (result : Result (Unit {0}) Refusal) (new : Topic) → old.failed ≡ true → ReopenEnds old result new → IsSoundTopic old → IsSoundTopic new
 reopen-ends-sound old (Ok done) new was h sound =
     let fits = left-fits old new.ledger new.kept sound h.0 in
     along new (reopened old new.ledger (slots_of new.ledger) new.kept) h.1 (record {
-      state = sound-reopened old new.ledger (slots_of new.ledger) new.kept sound.state was fits.0 fits.1 (length_slots new.ledger) fits.2;
-      receipts = receipts-reopened old new.ledger (slots_of new.ledger) new.kept sound.state sound.receipts was fits.0;
+      state = sound-reopened old new.ledger (slots_of new.ledger) new.kept sound.state was fits.more fits.few (length_slots new.ledger) fits.durable;
+      receipts = receipts-reopened old new.ledger (slots_of new.ledger) new.kept sound.state sound.receipts was fits.more;
       counted = refl;
-      kept = are_kept.slot (end_of new.ledger) new.kept (subscriptions.opened new.kept) (slots_of new.ledger) (are_kept.opened (end_of new.ledger) new.kept fits.2);
+      kept = are_kept.slot (end_of new.ledger) new.kept (subscriptions.opened new.kept) (slots_of new.ledger) (are_kept.opened (end_of new.ledger) new.kept fits.durable);
       slots = slots_none new.ledger;
+      acknowledged = reopened_acknowledged old new.ledger (slots_of new.ledger) new.kept fits.below;
     })
 reopen-ends-sound old (Err refusal.NoMemory) new was h sound = along new old h sound
 reopen-ends-sound old (Err refusal.Device) new was h sound = along new old h sound
@@ -434,7 +469,11 @@ idle-commits old idle =
     let changes = empty old.subs.changes (idle-changes old idle) in
     let none : (who : ℕ) → pending_to who old.queues ≡ [] = λ who. pending_to-idle who old.queues (idle-queues-of old idle) in
     record {
-      ledger = sym (idle-lengthened old.ledger old.waiting waiting);
+      limit = old.ledger.base;
+      allowed = inl refl;
+      trim = old.ledger.base;
+      within = omega arith;
+      ledger = sym (trimmed_at_base (lengthened old.ledger old.waiting) ∙ idle-lengthened old.ledger old.waiting waiting);
       count = sym (idle-waiting old idle);
       kept = ap (λ (cs : List Record). after_all cs old.kept) changes;
       changes = sym changes;
@@ -447,13 +486,17 @@ commits : (failed nothing : Bool) (old : Topic) (n : ℕ) (new : Topic) → Flus
 commits true nothing old n new h idle = cc
 commits false true old n new h idle = subst (λ (x : Topic). IsFlushed old n x) (sym h.1) (subst (λ m. IsFlushed old m old) (sym (ok_same n 0 h.0)) (idle-commits old (idle refl)))
 commits false false old n new h idle = record {
-  ledger = ap (λ (t : Topic). t.ledger) h.1;
+  limit = h.1.limit;
+  allowed = h.1.allowed;
+  trim = h.1.trim;
+  within = h.1.within;
+  ledger = ap (λ (t : Topic). t.ledger) h.1.is;
   count = h.0;
-  kept = ap (λ (t : Topic). t.kept) h.1;
-  changes = ap (λ (t : Topic). t.subs.changes) h.1;
-  producers = ap (λ (t : Topic). t.producers) h.1;
-  due = λ who. ap (λ (t : Topic). due_to who t.queues) h.1 ∙ due_to-all who old.queues;
-  pending = λ who. ap (λ (t : Topic). pending_to who t.queues) h.1 ∙ pending_to-all who old.queues;
+  kept = ap (λ (t : Topic). t.kept) h.1.is;
+  changes = ap (λ (t : Topic). t.subs.changes) h.1.is;
+  producers = ap (λ (t : Topic). t.producers) h.1.is;
+  due = λ who. ap (λ (t : Topic). due_to who t.queues) h.1.is ∙ due_to-all who old.queues;
+  pending = λ who. ap (λ (t : Topic). pending_to who t.queues) h.1.is ∙ pending_to-all who old.queues;
 }
 
 pub flush-commits : (old : Topic) (n : ℕ) (new : Topic) → FlushStep old (Ok n) new → old.doubt ≡ None → IsFlushed old n new

@@ -4,7 +4,8 @@ use Rattle.std.specs.Prelude.{slice_get}
 use Rattle.std.specs.List.{All}
 use Rattle.std.proofs.Math.Seq.{drop-append_seam}
 use Rattle.std.proofs.lemmas.List.Elements.{All-append, All-drop, All-nil}
-use Rattle.managed_ledger.specs.Entries.{Ledger, end_of, entry_at, lengthened}
+use Rattle.std.proofs.lemmas.List.{drop-append-le, length-drop}
+use Rattle.managed_ledger.specs.Entries.{Ledger, end_of, entry_at, lengthened, trimmed}
 use Rattle.managed_ledger.specs.Trims.{there_is}
 use Rattle.topic_core.specs.Recent.{AreLast, IsRest}
 
@@ -20,6 +21,15 @@ get_behind (x ∷ xs) ys n =
 -- none stands in memory
 pub none_last : (ledger : Ledger) → AreLast ledger []
 none_last ledger = record { older = ledger.entries; ends = sym (append-nil ledger.entries); each_small = All-nil IsSmall }
+
+-- a trim that left as many at least
+pub trimmed_last : (ledger : Ledger) (trim : ℕ) (recent : List (List ℕ)) → AreLast ledger recent → length recent ≤ length (trimmed trim ledger).entries → AreLast (trimmed trim ledger) recent
+trimmed_last ledger trim [] are few = none_last (trimmed trim ledger)
+trimmed_last ledger trim (x ∷ xs) are few =
+    let k = trim - ledger.base in
+    let size : length ledger.entries ≡ length are.older + length (x ∷ xs) = ap (λ (es : List (List ℕ)). length es) are.ends ∙ length-append are.older (x ∷ xs) in
+    let low : k ≤ length are.older = omega (arith, size, few, length-drop k ledger.entries) in
+    record { older = drop k are.older; ends = ap (λ (es : List (List ℕ)). drop k es) are.ends ∙ drop-append-le k are.older (x ∷ xs) low; each_small = are.each_small }
 
 -- nothing is gone, or one more
 pub all_rest : (entries : List (List ℕ)) → IsRest entries entries

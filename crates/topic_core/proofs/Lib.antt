@@ -2,6 +2,7 @@ pub mod Ids
 pub mod Meeting
 pub mod LastEntries
 pub mod Slotted
+pub mod Floors
 pub mod Queues
 pub mod Receipts
 pub mod States

@@ -17,6 +17,7 @@ use Rattle.subscriptions.proofs.Limits.{each_sound, each_committed}
 use Rattle.topic_core.specs.State.{Topic, opened, entries_of}
 use Rattle.topic_core.specs.Crashes.{reopened}
 use Rattle.topic_core.specs.Soundness.{IsSound, AreReceipts, HasReceipts, IsReceiptWithin}
+use Rattle.topic_core.proofs.Floors.{opened_floor}
 use Rattle.topic_core.proofs.Queues.{all-each, all-both, sum_by-none}
 use Rattle.topic_core.proofs.Receipts.{within-wider, all-replies}
 
@@ -45,6 +46,7 @@ sound-opened n ledger slots kept some few each_one durable = record {
   subs = each_sound.slot (subscriptions.opened kept) slots (each_sound.opened kept durable);
   slotted = omega (arith, each_one);
   sent = each_committed.slot (end_of ledger) (subscriptions.opened kept) slots (each_committed.opened (end_of ledger) kept);
+  trims = opened_floor n ledger slots kept;
 }
 
 pub receipts-opened : (n : ℕ) (ledger : Ledger) (slots : List ℕ) (kept : Kept) → AreReceipts (opened n ledger slots kept)
@@ -94,6 +96,7 @@ module _ (t : Topic) (ledger : Ledger) (slots : List ℕ) (kept : Kept) (sound :
         subs = each_sound.slot (subscriptions.opened kept) slots (each_sound.opened kept durable);
         slotted = omega (arith, each_one);
         sent = each_committed.slot (end_of ledger) (subscriptions.opened kept) slots (each_committed.opened (end_of ledger) kept);
+        trims = record { counted = refl; rises = omega arith; committed = omega arith; made = tt; beside = tt };
       }
 
   pub receipts-reopened : AreReceipts t → t.failed ≡ true → t.committed ≤ end_of ledger → AreReceipts (reopened t ledger slots kept)

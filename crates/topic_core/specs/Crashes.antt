@@ -9,7 +9,7 @@ use Rattle.records.specs.Maps.{Kept}
 use Rattle.records.specs.Records.{after_all}
 use Rattle.topic_stores.specs.Writing as stores
 use Rattle.topic_core.specs.Slots.{slots_of}
-use Rattle.topic_core.specs.State.{Topic, opened, entries_in_doubt, changes_in_doubt}
+use Rattle.topic_core.specs.State.{Topic, opened, floor, entries_in_doubt, changes_in_doubt}
 
 -- the ledger with all entries in doubt, and the durable subscriptions with all changes in doubt
 abbrev pub longer : Topic → Ledger
@@ -19,9 +19,9 @@ abbrev pub changed : Topic → Kept
 changed t = after_all (changes_in_doubt t) t.kept
 
 -- A crash leaves this ledger and these durable subscriptions: the old ones, or the ledger has the entries in doubt too, or
--- both have what is in doubt. Changes come only where the entries came.
+-- both have what is in doubt, and the ledger may be trimmed. Changes come only where the entries came, and a trim only where both did.
 abbrev pub IsLeft : Topic → Ledger → Kept → Type 0
-IsLeft old ledger kept = stores.IsLeft old.ledger old.kept (entries_in_doubt old) (changes_in_doubt old) ledger kept
+IsLeft old ledger kept = stores.IsLeft old.ledger old.kept (entries_in_doubt old) (changes_in_doubt old) (floor old) ledger kept
 
 -- what a crash leaves of a topic: its ledger and its durable subscriptions, just opened
 pub record TopicCrash (old new : Topic) : Type 0 where

@@ -6,7 +6,7 @@ use Rattle.topic_core.specs.State.{Topic, Doubt}
 
 abbrev pub doubt_of : Option Counts → Option Doubt
 doubt_of None = None
-doubt_of (Some doubt) = Some (record { entries = doubt.entries; changes = doubt.changes })
+doubt_of (Some doubt) = Some (record { entries = doubt.entries; changes = doubt.changes; trim = doubt.trim })
 
 abbrev pub core_of : {G Told : Type 0} → Inside G Told → Topic
 core_of t = record {

@@ -13,7 +13,7 @@ use Rattle.permits.specs.declared.plain.TooManyPermits.{TooManyPermits}
 use Rattle.commands.specs.declared.reply.Reply.{Reply}
 use Rattle.commands.specs.declared.reply.Reply.TheVariants.{Message}
 use Rattle.gated_log.specs.declared.refusal.Refusal.{Refusal}
-use Rattle.managed_ledger.specs.Entries.{Ledger, end_of, entry_at, lengthened}
+use Rattle.managed_ledger.specs.Entries.{Ledger, end_of, entry_at, lengthened, trimmed}
 use Rattle.topic_stores.specs.declared.batch.Batch.{Batch}
 use Rattle.topic_stores.specs.declared.error.WriteError.{WriteError}
 use Rattle.gated_log.specs.declared.read_error.ReadError.{ReadError}
@@ -29,7 +29,7 @@ use Rattle.records.specs.Maps.{Kept}
 use Rattle.topic_core.specs.Soundness.{IsSound, AreReceipts, IsSoundTopic}
 use Rattle.topic_core.specs.Steps.{TopicStep, Collects, GrantStep, Fits, bytes_of, has_consumer, key_of, learnt, HasLearnt, is_open, is_committed, position_at, left}
 use Rattle.topic_core.specs.Dispatch.{DispatchStep, Admits}
-use Rattle.topic_core.specs.Flush.{FlushStep, TakeStep, FinishStep, handed_on}
+use Rattle.topic_core.specs.Flush.{FlushStep, TakeStep, FinishStep, IsTrimPoint, handed_on}
 use Rattle.topic_core.specs.Crashes.{IsLeft, TopicCrash, ReopenStep}
 use Rattle.permits.specs.Ends.{Seen}
 use Rattle.topic_core.specs.Standing.{GoesOn}
@@ -73,7 +73,7 @@ pub record StaysSound : Type 0 where
   pub command : (old : Topic) (who : ℕ) (c : TopicCommand) (answer : Answer) (new : Topic) → TopicStep old who c answer new → IsSoundTopic old → IsSoundTopic new
   pub flush : (old : Topic) (result : Result ℕ WriteError) (new : Topic) → FlushStep old result new → IsSoundTopic old → IsSoundTopic new
   pub take : (old : Topic) (result : Result (Option Batch) WriteError) (new : Topic) → TakeStep old result new → IsSoundTopic old → IsSoundTopic new
-  pub finish : (old : Topic) (written : Result (Unit {0}) WriteError) (result : Result ℕ WriteError) (new : Topic) → FinishStep old written result new → IsSoundTopic old → IsSoundTopic new
+  pub finish : (old : Topic) (written : Result ℕ WriteError) (result : Result ℕ WriteError) (new : Topic) → FinishStep old written result new → IsSoundTopic old → IsSoundTopic new
   pub reopen : (old : Topic) (result : Result (Unit {0}) Refusal) (new : Topic) → ReopenStep old result new → IsSoundTopic old → IsSoundTopic new
   pub crash : (old new : Topic) → TopicCrash old new → IsSoundTopic old → IsSoundTopic new
   pub grant : (old : Topic) (who id permits : ℕ) (result : Result (Unit {0}) TooManyPermits) (new : Topic) → GrantStep old who id permits result new → IsSoundTopic old → IsSoundTopic new
@@ -83,8 +83,9 @@ pub record StaysSound : Type 0 where
   pub collect : (old : Topic) (who : ℕ) (reply : Option Reply) (new : Topic) → Collects old who reply new → IsSoundTopic old → IsSoundTopic new
   pub leave : (old : Topic) (who : ℕ) → IsSoundTopic old → IsSoundTopic (left old who)
 
--- a message that is sent is the published entry of a position that its consumer was admitted to; nobody acknowledged it on the subscription, and nobody holds it
+-- a message that is sent is the published entry of a position from the ledger's first on that its consumer was admitted to; nobody acknowledged it on the subscription, and nobody holds it
 pub record IsAdmitted (old : Topic) (who id : ℕ) (outgoing : Outgoing) (i : ℕ) : Type 0 where
+  pub there : old.ledger.base ≤ i
   pub named : outgoing.reply ≡ Message id (message_id_at old.per_ledger i) (sent_before old.subs (key_of who id) i)
   pub published : entry_at old.ledger i ≡ Some outgoing.entry
   pub admitted : Admits old (key_of who id) i
@@ -108,10 +109,14 @@ IdsArePositions = (n committed i : ℕ) (id : MessageIdData) → 0 < n → commi
 abbrev pub ReceiptsAreCovered : Type 0
 ReceiptsAreCovered = (t : Topic) → IsSoundTopic t → t.handed + receipts_due t.queues ≤ end_of t.ledger
 
--- A good flush makes just a session's pending replies due, behind those that were; the ledger grows by what waited, the
--- changes are durable, and just the closing producers are gone.
+-- A good flush makes just a session's pending replies due, behind those that were; the ledger grows by what waited and is trimmed
+-- no further than it may be, the changes are durable, and just the closing producers are gone.
 pub record IsFlushed (old : Topic) (n : ℕ) (new : Topic) : Type 0 where
-  pub ledger : new.ledger ≡ lengthened old.ledger old.waiting
+  pub limit : ℕ
+  pub allowed : IsTrimPoint old limit
+  pub trim : ℕ
+  pub within : trim ≤ limit
+  pub ledger : new.ledger ≡ trimmed trim (lengthened old.ledger old.waiting)
   pub count : n ≡ length old.waiting
   pub kept : new.kept ≡ after_all old.subs.changes old.kept
   pub changes : new.subs.changes ≡ []
@@ -124,8 +129,8 @@ FlushesCommit = (old : Topic) (count : ℕ) (new : Topic) → FlushStep old (Ok 
 
 -- what a crash leaves of a topic after a flush is what it may leave while the flush is under way
 abbrev pub FlushesKeep : Type 0
-FlushesKeep = (old : Topic) (result : Result ℕ WriteError) (new : Topic) → FlushStep old result new → old.failed ≡ false → old.doubt ≡ None
-    → (ledger : Ledger) (kept : Kept) → IsLeft new ledger kept → IsLeft (handed_on old) ledger kept
+FlushesKeep = (old : Topic) (result : Result ℕ WriteError) (new : Topic) → IsSoundTopic old → FlushStep old result new → old.failed ≡ false → old.doubt ≡ None
+    → (limit : ℕ) × IsTrimPoint old limit × ((ledger : Ledger) (kept : Kept) → IsLeft new ledger kept → IsLeft (handed_on old limit) ledger kept)
 
 -- commands, permits, messages, collected replies and leaving sessions leave a topic standing on its device
 pub record TopicsGoOn : Type 0 where

@@ -1,7 +1,8 @@
 -- A topic on its device: the core, its store and the files.
 use Rattle.std.specs.Prelude.{◌≡◌, ℕ, ◌+◌, ◌≤◌, ◌^◌, Bool, true, false, ◌||◌, is_some, Result, Ok, Err, length}
 use Rattle.disk.specs.Disk.{Disk, Image}
-use Rattle.managed_ledger.specs.Entries.{Ledger, end_of, lengthened}
+use Rattle.managed_ledger.specs.Entries.{Ledger, end_of, lengthened, trimmed}
+use Rattle.records.specs.Floors.{StartFrom}
 use Rattle.records.specs.Maps.{Kept}
 use Rattle.subscriptions.specs.Laws.{IsKept}
 use Rattle.topic_stores.specs.declared.batch.Batch.{Batch}
@@ -10,22 +11,23 @@ use Rattle.topic_stores.specs.declared.error.WriteError.TheVariants.{Device, NoM
 use Rattle.topic_stores.specs.Views.{StoreView, Settled}
 use Rattle.topic_stores.specs.Writing.{StandsFor}
 use Rattle.topic_core.specs.Slots.{slots_of}
-use Rattle.topic_core.specs.State.{Topic, entries_of, entries_in_doubt, changes_in_doubt}
+use Rattle.topic_core.specs.State.{Topic, floor, entries_of, entries_in_doubt, changes_in_doubt}
 use Rattle.topic_core.specs.Flush.{awaits}
 use Rattle.topic_core.specs.Crashes.{IsLeft, longer, changed}
+use Rattle.topic_core.specs.Soundness.{IsAcknowledged}
 
 -- how far the store is, beside the core
 pub data Phase : Type 0 where
   -- it has what the core counts as committed: no flush is under way, or its batch isn't written
   Before : Phase
-  -- it has what is in doubt too: the batch is written, and the core doesn't know yet
-  Written : Phase
+  -- it has what is in doubt too, in a ledger that begins there: the batch is written, and the core doesn't know yet
+  Written : ℕ → Phase
   -- it met a failure of the device, of which the core may not know yet
   Lost : Phase
 
 -- where the write of a batch ended so
-abbrev pub phase_after : Result (Unit {0}) WriteError → Phase
-phase_after (Ok done) = Written
+abbrev pub phase_after : Result ℕ WriteError → Phase
+phase_after (Ok base) = Written base
 phase_after (Err NoMemory) = Before
 phase_after (Err Device) = Lost
 
@@ -41,27 +43,33 @@ phase_then true false phase = Before
 phase_then false true phase = Lost
 phase_then false false phase = phase
 
--- the batch is a copy of what the core has handed on, and there are numbers for its entries
+-- the batch is a copy of what the core has handed on, there are numbers for its entries, and no subscription that it makes begins
+-- before the ledger
 pub record IsFor (core : Topic) (batch : Batch) : Type 0 where
   pub awaited : awaits core batch ≡ true
   pub entries : batch.entries.items ≡ entries_in_doubt core
   pub changes : batch.changes.items ≡ changes_in_doubt core
   pub numbered : core.committed + length batch.entries.items ≤ 2 ^ 62
+  pub starts : StartFrom core.ledger.base batch.changes.items
+  pub rises : core.ledger.base ≤ floor core
 
--- the store remembers what the core counts as committed
+-- the store remembers what the core counts as committed, in a ledger that begins no later
 pub record IsBefore (core : Topic) (v : StoreView) : Type 0 where
   pub core_works : core.failed ≡ false
   pub works : v.failed ≡ false
   pub counted : v.count ≡ core.committed
   pub kept : v.kept ≡ core.kept
+  pub begins : v.base ≤ core.ledger.base
 
--- it remembers what is in doubt too
-pub record IsWritten (core : Topic) (v : StoreView) : Type 0 where
+-- it remembers what is in doubt too, in a ledger that begins there, and no later than it may
+pub record IsWritten (base : ℕ) (core : Topic) (v : StoreView) : Type 0 where
   pub core_works : core.failed ≡ false
   pub under_way : is_some core.doubt ≡ true
   pub works : v.failed ≡ false
   pub counted : v.count ≡ core.committed + entries_of core.doubt
   pub kept : v.kept ≡ changed core
+  pub begins : v.base ≡ base
+  pub within : base ≤ floor core
 
 -- it refuses
 pub record IsLost (core : Topic) (v : StoreView) : Type 0 where
@@ -70,7 +78,7 @@ pub record IsLost (core : Topic) (v : StoreView) : Type 0 where
 
 abbrev pub Remembers : Phase → Topic → StoreView → Type 0
 Remembers Before core v = IsBefore core v
-Remembers Written core v = IsWritten core v
+Remembers (Written base) core v = IsWritten base core v
 Remembers Lost core v = IsLost core v
 
 -- Topic and store remember the same, whatever the device does. The subscriptions are what the changes make of the durable ones.
@@ -83,16 +91,17 @@ pub record Match (phase : Phase) (core : Topic) (v : StoreView) : Type 0 where
 -- what the device holds
 abbrev pub Holds : Phase → Topic → StoreView → Disk → Type 0
 Holds Before core v disk = Settled v disk core.ledger core.kept
-Holds Written core v disk = Settled v disk (longer core) (changed core)
+Holds (Written base) core v disk = Settled v disk (trimmed base (longer core)) (changed core)
 Holds Lost core v disk = Unit {0}
 
 -- Topic, store and device hold a topic together, in this phase. Whatever a crash now leaves stands for what a crash leaves of the
--- topic. Each entry has its slot.
+-- topic. Each entry has its slot, and what a trim took or may take is acknowledged.
 pub record Standing (files_stand : ℕ → Image → Ledger → Kept → Type 0) (phase : Phase) (core : Topic) (v : StoreView) (disk : Disk) : Type 0 where
   pub matched : Match phase core v
   pub honest : disk.honest
   pub counted : end_of core.ledger ≡ core.committed
   pub slots : core.subs.slots ≡ slots_of (lengthened core.ledger core.waiting)
+  pub acknowledged : IsAcknowledged core
   pub left : (files : Image) → disk.may_leave files → StandsFor (files_stand v.topic) (IsLeft core) files
   pub holds : Holds phase core v disk
 

@@ -13,11 +13,12 @@ use Rattle.reply_queues.specs.Replies.{SessionReplies, receipts_in}
 pub record Doubt : Type 0 where
   pub entries : ℕ  -- of the first waiting ones
   pub changes : ℕ  -- of the first changes of the subscriptions
+  pub trim : ℕ  -- the position up to which the ledger may be trimmed with it
 
 pub record Topic : Type 0 where
   pub per_ledger : ℕ  -- how many entry ids a ledger id has
   pub committed : ℕ  -- how many entries are committed
-  pub ledger : Ledger  -- these entries
+  pub ledger : Ledger  -- these entries, but for those that a trim took
   pub kept : Kept  -- the durable subscriptions: each name's acknowledged positions
   pub waiting : List (List ℕ)  -- the accepted entries that aren't
   pub accepted : ℕ  -- how many SENDs were accepted since the node opened
@@ -62,6 +63,14 @@ entries_of (Some doubt) = doubt.entries
 abbrev pub changes_of : Option Doubt → ℕ
 changes_of None = 0
 changes_of (Some doubt) = doubt.changes
+
+-- the position below which a trim may take entries: where the ledger begins, but for a flush that is under way
+abbrev pub floor_of : ℕ → Option Doubt → ℕ
+floor_of base None = base
+floor_of base (Some doubt) = doubt.trim
+
+abbrev pub floor : Topic → ℕ
+floor t = floor_of t.ledger.base t.doubt
 
 -- those entries and changes
 abbrev pub entries_in_doubt : Topic → List (List ℕ)

@@ -103,6 +103,8 @@ impl<G: Gauge> TopicCore<G> {
         let Some(position) = self.pick(who, consumer_id) else {
             return Ok(None);
         };
+        // The proof reads here what holds of a topic at any time.
+        let _ = &self.alloc;
         let entry = read_committed(stores, shelf, position)?;
         let outgoing = self.give(key_of(who, consumer_id), position, entry)?;
         Ok(Some(outgoing))

@@ -1,12 +1,12 @@
-ghost use Rattle.std.specs.Prelude.{◌≡◌, ◌+◌, ◌≤◌, ◌++◌, true, false, length, take, drop, sum_by, Ok, IfOk, IfSome, IsErrOf};
+ghost use Rattle.std.specs.Prelude.{◌≡◌, ℕ, ◌≤◌, ◌++◌, true, false, length, take, drop, sum_by, Ok, IfOk, IfSome, IsErrOf};
 ghost use Rattle.disk.specs.Disk.{Kept, Failed};
 ghost use Rattle.disk.specs.Areas.{OfTopic, Within};
 ghost use Rattle.records.specs.Records.{after_all};
 ghost use Rattle.topic_stores.specs.declared.error.WriteError.TheVariants.{Device, NoMemory};
 ghost use Rattle.topic_stores.specs.Writing.{StandsFor};
-ghost use Rattle.topic_core.specs.State.{CountsStay, entries_of, changes_of, entries_in_doubt, changes_in_doubt};
+ghost use Rattle.topic_core.specs.State.{CountsStay, floor, entries_of, changes_of, entries_in_doubt, changes_in_doubt};
 ghost use Rattle.topic_core.specs.Crashes.{IsLeft};
-ghost use Rattle.topic_core.specs.Flush.{handed_on, TakeStep, FinishStep, FlushStep, awaits, has_no_flush, is_idle, finished, taken_back, failed};
+ghost use Rattle.topic_core.specs.Flush.{IsTrimPoint, handed_on, TakeStep, FinishStep, FlushStep, awaits, has_no_flush, is_idle, finished, taken_back, failed};
 ghost use Rattle.topic_core.specs.Standing.{Phase, IsFor, Match, Standing, phase_then};
 
 use crate::durable::Durable;
@@ -18,9 +18,9 @@ use std::alloc::AllocError;
 use topic_stores::{Batch, TopicStore, WriteError};
 
 impl<G: Gauge> TopicCore<G> {
-    /// Commits what waits, the entries before the changes of the subscriptions, and answers how many entries these were; 0
-    /// where nothing waits or a flush is under way. Want of memory changes nothing and reaches no device. A failure of the
-    /// device fails the topic.
+    /// Commits what waits, the entries before the changes of the subscriptions, trims the ledger as far as nobody needs it, and
+    /// answers how many entries were committed; 0 where nothing waits or a flush is under way. Want of memory changes nothing and
+    /// reaches no device. A failure of the device fails the topic.
     pub fn flush<T: TopicStore, S: Shelf>(
         &mut self,
         stores: &mut T,
@@ -32,10 +32,10 @@ impl<G: Gauge> TopicCore<G> {
         ensures standing { (phase : Phase) → Standing T.stands phase self.old (T.view stores.old) (S.disk shelf.old) →
             Standing T.stands (phase_then self.old.failed self.new.failed phase) self.new (T.view stores.new) (S.disk shelf.new) }
 
-        // A crash at any moment leaves the old ledger and subscriptions, the ledger with all that waits, or both with it;
-        // files of other topics are as they were.
+        // A crash at any moment leaves the old ledger and subscriptions, the ledger with all that waits, or both with it, where the
+        // ledger may be trimmed; files of other topics are as they were.
         ensures within { (phase : Phase) → Standing T.stands phase self.old (T.view stores.old) (S.disk shelf.old) → self.old.failed ≡ false → has_no_flush self.old ≡ false →
-            Within (OfTopic (T.view stores.old).topic) (StandsFor (T.stands (T.view stores.old).topic) (IsLeft (handed_on self.old))) (S.disk shelf.old) (S.disk shelf.new) }
+            (limit : ℕ) × IsTrimPoint self.old limit × Within (OfTopic (T.view stores.old).topic) (StandsFor (T.stands (T.view stores.old).topic) (IsLeft (handed_on self.old limit))) (S.disk shelf.old) (S.disk shelf.new) }
 
         ensures topic { (T.view stores.new).topic ≡ (T.view stores.old).topic }
         ensures per_ledger { self.new.per_ledger ≡ self.old.per_ledger }
@@ -55,8 +55,8 @@ impl<G: Gauge> TopicCore<G> {
         self.finish(batch, written)
     }
 
-    /// Hands on all that waits, and copies it, sharing the bytes of the entries. None where nothing waits or a flush is under
-    /// way; want of memory changes nothing.
+    /// Hands on all that waits, and copies it, sharing the bytes of the entries, with the position up to which the ledger may be
+    /// trimmed. None where nothing waits or a flush is under way; want of memory changes nothing.
     pub fn take_batch(&mut self) -> Result<Option<Batch>, WriteError>
         ensures step { TakeStep self.old result self.new }
         ensures batch { IfOk result (λ taken. IfSome taken (λ batch. IsFor self.new batch)) }
@@ -67,30 +67,53 @@ impl<G: Gauge> TopicCore<G> {
         if self.doubt.is_some() || self.is_idle() {
             return Ok(None);
         }
-        let batch = self.copy_of_waiting()?;
-        self.hand_on();
+        let trim = self.trim_point();
+        let batch = self.copy_of_waiting(trim)?;
+        self.hand_on(trim);
         Ok(Some(batch))
     }
 
+    /// Up to where the ledger may be trimmed: the last position that begins a ledger id and before which each one is acknowledged on
+    /// all subscriptions. Without one nothing is trimmed.
+    fn trim_point(&self) -> u64
+        ensures { IsTrimPoint self.now result }
+    {
+        let Some(position) = self.subs.all_past(self.committed) else {
+            return self.base;
+        };
+        let start = position - position % u64::from(self.per_ledger);
+        if start < self.base {
+            return self.base;
+        }
+        start
+    }
+
     /// A copy of all that waits, which shares the bytes of the entries.
-    fn copy_of_waiting(&self) -> Result<Batch, AllocError>
+    fn copy_of_waiting(&self, trim: u64) -> Result<Batch, AllocError>
+        ensures trim { IfOk result (λ batch. batch.trim ≡ trim) }
         ensures entries { IfOk result (λ batch. batch.entries.items ≡ self.now.waiting) }
         ensures changes { IfOk result (λ batch. batch.changes.items ≡ self.now.subs.changes) }
     {
         let entries = Vec::from_clones(self.alloc, self.waiting.as_slice())?;
         let changes = Vec::from_clones(self.alloc, self.subs.changes())?;
-        Ok(Batch { entries, changes })
+        Ok(Batch {
+            entries,
+            changes,
+            trim,
+        })
     }
 
     /// All that waits is handed on.
-    fn hand_on(&mut self)
-        ensures { self.new ≡ handed_on self.old }
+    fn hand_on(&mut self, trim: u64)
+        requires { IsTrimPoint self.old trim }
+        ensures { self.new ≡ handed_on self.old trim }
     {
         self.queues.hand_on();
         self.producers.hand_on_closings();
         self.doubt = Some(Doubt {
             entries: self.waiting.len(),
             changes: self.subs.changes().len(),
+            trim,
         });
     }
 
@@ -112,14 +135,16 @@ impl<G: Gauge> TopicCore<G> {
             && self.doubt.is_some()
             && self.entries_handed_on() == batch.entries.len()
             && self.changes_handed_on() == batch.changes.len()
+            && self.floor() == batch.trim
     }
 
-    /// Ends a flush as the write of its batch did, and answers how many entries it committed. A batch that the topic doesn't
+    /// Ends a flush as the write of its batch did, which answers where the store's ledger begins then, and answers how many entries
+    /// it committed. A batch that the topic doesn't
     /// await changes nothing, and the answer is 0. Takes no memory.
     pub fn finish(
         &mut self,
         batch: Batch,
-        written: Result<(), WriteError>,
+        written: Result<u64, WriteError>,
     ) -> Result<usize, WriteError>
         ensures step { awaits self.old batch ≡ true → FinishStep self.old written result self.new }
         ensures other { awaits self.old batch ≡ false → (result ≡ Ok 0) × (self.new ≡ self.old) }
@@ -129,7 +154,7 @@ impl<G: Gauge> TopicCore<G> {
             return Ok(0);
         }
         match written {
-            Ok(()) => Ok(self.commit(batch)),
+            Ok(base) => Ok(self.commit(batch, base.min(self.floor()))),
             Err(WriteError::Device) => {
                 drop(batch);
                 self.fail();
@@ -166,27 +191,32 @@ impl<G: Gauge> TopicCore<G> {
     }
 
     /// What was handed on is committed, its replies are due, and the producers whose closing it was are gone. The entries stand
-    /// in memory from then on, in the batch's list.
-    fn commit(&mut self, batch: Batch) -> usize
+    /// in memory from then on, in the batch's list. What the ledger is trimmed of takes no memory any more.
+    fn commit(&mut self, batch: Batch, trim: u64) -> usize
         requires as_many { length batch.entries.items ≡ entries_of self.old.doubt }
+        requires within { trim ≤ floor self.old }
         ensures count { result ≡ entries_of self.old.doubt }
-        ensures committed { self.new ≡ finished self.old }
+        ensures committed { self.new ≡ finished self.old trim }
     {
         let Batch {
             mut entries,
             changes,
+            ..
         } = batch;
         drop(changes);
         let count = self.entries_handed_on();
         let changes = self.changes_handed_on();
         let bytes = bytes_in(&self.waiting[..count]);
         let made = &self.subs.changes()[..changes];
-        let durable = self.durable.after(&self.waiting[..count], made);
+        let durable = self.durable.after(&self.waiting[..count], made, trim);
         move_first(&mut self.waiting, &mut entries);
-        self.durable.commit(durable, entries, bytes);
         self.waiting_bytes -= bytes;
+        self.base = self.base.max(trim);
         self.committed += count as u64;
+        self.durable
+            .commit(durable, entries, bytes, self.committed - self.base);
         self.subs.settle(changes);
+        self.subs.forget_below(self.base);
         self.queues.make_due();
         self.producers.drop_closed();
         self.doubt = None;

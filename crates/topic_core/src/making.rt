@@ -41,6 +41,7 @@ impl<G: Gauge> TopicCore<G> {
         let core = TopicCore {
             alloc,
             per_ledger,
+            base: 0,
             committed: 0,
             durable: Recent::over(alloc, Durable::none()),
             waiting: Vec::new(alloc),

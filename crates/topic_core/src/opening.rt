@@ -55,10 +55,12 @@ impl<G: Gauge> TopicCore<G> {
             subs,
             durable,
         } = opened;
+        let base = stores.base();
         let committed = stores.len();
         let core = TopicCore {
             alloc,
             per_ledger,
+            base,
             committed,
             durable: Recent::over(alloc, durable),
             waiting: Vec::new(alloc),
@@ -131,7 +133,7 @@ impl<G: Gauge> TopicCore<G> {
         requires few { (T.view again.stores).count ≤ 2 ^ 62 }
         requires works { (T.view again.stores).failed ≡ false }
         requires numbered { (T.view again.stores).per_ledger ≡ self.old.per_ledger }
-        requires added { (end_of again.durable.ledger ≡ (T.view again.stores).count) × (again.subs ≡ slotted (opened_subscriptions (T.view again.stores).kept) (slots_of again.durable.ledger)) × (again.durable.kept ≡ (T.view again.stores).kept) }
+        requires added { (end_of again.durable.ledger ≡ (T.view again.stores).count) × (again.subs ≡ slotted (opened_subscriptions (T.view again.stores).kept) (slots_of again.durable.ledger)) × (again.durable.kept ≡ (T.view again.stores).kept) × (again.durable.ledger.base ≡ (T.view again.stores).base) }
         requires durable { AreDurable (T.view again.stores).kept }
         ensures again { self.new ≡ reopened self.old again.durable.ledger (slots_of again.durable.ledger) (T.view again.stores).kept }
         ensures matched { Match (resting false) self.new (T.view again.stores) }
@@ -142,6 +144,7 @@ impl<G: Gauge> TopicCore<G> {
             subs,
             durable,
         } = again;
+        self.base = stores.base();
         self.committed = stores.len();
         self.durable = Recent::over(self.alloc, durable);
         self.waiting = Vec::new(self.alloc);
@@ -169,7 +172,7 @@ fn open_stores<G: Gauge, T: TopicStore, S: Shelf>(
     topic: u16,
     per_ledger: u32,
 ) -> Result<Opened<G, T>, Refusal>
-    ensures added { IfOk result (λ t. (end_of t.durable.ledger ≡ (T.view t.stores).count) × (t.subs ≡ slotted (opened_subscriptions (T.view t.stores).kept) (slots_of t.durable.ledger)) × (t.durable.kept ≡ (T.view t.stores).kept)) }
+    ensures added { IfOk result (λ t. (end_of t.durable.ledger ≡ (T.view t.stores).count) × (t.subs ≡ slotted (opened_subscriptions (T.view t.stores).kept) (slots_of t.durable.ledger)) × (t.durable.kept ≡ (T.view t.stores).kept) × (t.durable.ledger.base ≡ (T.view t.stores).base)) }
     ensures durable { IfOk result (λ t. AreDurable (T.view t.stores).kept) }
     ensures settled { (S.disk shelf.old).honest → IfOk result (λ t. Settled (T.view t.stores) (S.disk shelf.new) t.durable.ledger (T.view t.stores).kept) }
     ensures refused { (S.disk shelf.old).honest → IfErr result (λ e. (e ≡ NoMemory) ⊎ ((e ≡ Device) ⊎ T.faulty topic (S.disk shelf.old).seen e)) }
@@ -187,9 +190,17 @@ fn open_stores<G: Gauge, T: TopicStore, S: Shelf>(
         durable: Durable::none(),
     };
     let (stores, entries) = T::open(alloc, shelf, topic, per_ledger, entries)?;
-    let FoundEntries { slots, durable } = entries;
+    let FoundEntries { mut slots, durable } = entries;
+    let base = stores.base();
+    // The proof reads here that there are numbers for them.
+    let _ = stores.len();
+    slots.put_before(base);
     let cursors = stores.kept()?;
-    let found = Found { durable, cursors };
+    let found = Found {
+        durable,
+        base,
+        cursors,
+    };
     let durable = Durable::of(&found);
     let subs = Subscriptions::opened(alloc, found.cursors, slots)?;
     Ok(Opened {

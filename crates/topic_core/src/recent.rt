@@ -1,6 +1,6 @@
 // What is durable of a topic, with the entries that were committed last.
-ghost use Rattle.std.specs.Prelude.{◌≡◌, ◌≤◌, Some, length, All, IfOk, IfSome};
-ghost use Rattle.managed_ledger.specs.Entries.{end_of, entry_at, lengthened};
+ghost use Rattle.std.specs.Prelude.{◌≡◌, ◌≤◌, ℕ, Some, length, All, IfOk, IfSome};
+ghost use Rattle.managed_ledger.specs.Entries.{end_of, entry_at, lengthened, trimmed};
 ghost use Rattle.records.specs.Records.{after_all};
 ghost use Rattle.topic_core.specs.Recent.{IsRest};
 
@@ -54,17 +54,18 @@ impl Recent {
         }
     }
 
-    /// What is durable with these entries more, and behind these changes.
-    pub(crate) fn after(&self, entries: &[Bytes], changes: &[Record]) -> Durable
-        ensures { (result.ledger ≡ lengthened self.now.ledger entries.now) × (result.kept ≡ after_all changes.now self.now.kept) }
+    /// What is durable with these entries more and trimmed up to a position, and behind these changes.
+    pub(crate) fn after(&self, entries: &[Bytes], changes: &[Record], trim: u64) -> Durable
+        ensures { (result.ledger ≡ trimmed trim (lengthened self.now.ledger entries.now)) × (result.kept ≡ after_all changes.now self.now.kept) }
     {
-        self.durable.after(entries, changes)
+        self.durable.after(entries, changes, &trim)
     }
 
-    /// What is durable now, by these entries more, which have so many bytes. Where memory is refused for their places, none
-    /// stands in memory from then on.
-    pub(crate) fn commit(&mut self, durable: Durable, entries: Vec<Bytes>, bytes: u64)
-        requires more { durable.ledger ≡ lengthened self.old.ledger entries.items }
+    /// What is durable now, by these entries more, which have so many bytes, and a trim that left so many in all. Where memory is
+    /// refused for their places, none stands in memory from then on.
+    pub(crate) fn commit(&mut self, durable: Durable, entries: Vec<Bytes>, bytes: u64, left: u64)
+        requires more { (trim : ℕ) × (durable.ledger ≡ trimmed trim (lengthened self.old.ledger entries.items)) }
+        requires left { length durable.ledger.entries ≡ left }
         requires each_small { All (λ entry. length entry ≤ 1048576) entries.items }
         ensures { self.new ≡ durable }
     {
@@ -79,7 +80,8 @@ impl Recent {
             return;
         }
         let all = self.bytes.saturating_add(bytes).saturating_add(beside);
-        self.bytes = forget_first(&mut self.entries, all);
+        let fewer = forget_trimmed(&mut self.entries, all, left);
+        self.bytes = forget_first(&mut self.entries, fewer);
     }
 
     /// The entry at a position, where it stands in memory and so many are committed.
@@ -101,6 +103,21 @@ impl Recent {
         let entry = found.clone()?;
         Ok(Some(entry))
     }
+}
+
+// Forgets the first entries, which have so many bytes with all others, until no more of them are left, and gives how many bytes are.
+fn forget_trimmed(entries: &mut VecDeque<Bytes>, bytes: u64, most: u64) -> u64
+    ensures rest { IsRest entries.old.items entries.new.items }
+    ensures few { length entries.new.items ≤ most }
+{
+    let mut left = bytes;
+    while entries.len() as u64 > most {
+        let Some(first) = entries.pop_front() else {
+            return 0;
+        };
+        left = left.saturating_sub(first.len() as u64 + BYTES_BESIDE);
+    }
+    left
 }
 
 // Forgets the first entries, which have so many bytes with all others, until no more bytes are left than may stay, and gives how many

@@ -4,7 +4,7 @@ ghost use Rattle.std.specs.Result.{is_ok};
 ghost use Rattle.commands.specs.Metadata.{entry_of};
 ghost use Rattle.subscriptions.specs.Statuses.{AreStatuses};
 ghost use Rattle.topic_core.specs.Slots.{slot_of_entry};
-ghost use Rattle.topic_core.specs.State.{Topic, next_position};
+ghost use Rattle.topic_core.specs.State.{Topic, floor, next_position};
 ghost use Rattle.reply_queues.specs.Replies.{is_receipt};
 ghost use Rattle.topic_core.specs.Steps.{Meets, TopicStep, LentBy, Collects, Fits, first_standing, producer_refusals, send_refusals, limit_refusals, has_room, producer_outcome, send_outcome, has_producer, has_open_producer, has_name, is_single_message, accepted, receipt, key_of, left};
 ghost use Rattle.topic_core.specs.Soundness.{IsSound};
@@ -41,6 +41,8 @@ pub(crate) const LONGEST_ENTRY: usize = 1_048_576;
 pub(crate) struct Doubt {
     pub(crate) entries: usize,
     pub(crate) changes: usize,
+    /// Up to where the ledger may be trimmed.
+    pub(crate) trim: u64,
 }
 
 /// One topic, without the bytes of its committed entries.
@@ -48,6 +50,7 @@ pub(crate) struct Doubt {
 pub struct TopicCore<G: Gauge> {
     pub(crate) alloc: Global,
     pub(crate) per_ledger: u32,
+    pub(crate) base: u64,
     pub(crate) committed: u64,
     pub(crate) durable: Recent,
     pub(crate) waiting: Vec<Bytes>,
@@ -79,7 +82,7 @@ impl<G: Gauge> Model for TopicCore<G> {
 
     ghost view = { core_of };
 
-    ghost invariant = { λ t. (t.waiting_bytes ≡ sum_by length t.waiting.items) × IsSound (core_of t) × AreReceipts (core_of t) };
+    ghost invariant = { λ t. (t.waiting_bytes ≡ sum_by length t.waiting.items) × IsSound (core_of t) × AreReceipts (core_of t) × (t.base ≡ t.durable.ledger.base) };
 }
 
 impl<G: Gauge> TopicCore<G> {
@@ -103,6 +106,23 @@ impl<G: Gauge> TopicCore<G> {
         ensures { result ≡ self.now.committed }
     {
         self.committed
+    }
+
+    /// The position of the first entry that is still there.
+    pub fn base(&self) -> u64
+        ensures { result ≡ self.now.ledger.base }
+    {
+        self.base
+    }
+
+    /// The position below which a trim may take entries.
+    pub(crate) fn floor(&self) -> u64
+        ensures { result ≡ floor self.now }
+    {
+        match self.doubt {
+            Some(doubt) => doubt.trim,
+            None => self.base,
+        }
     }
 
     /// Whether beside what waits there is room for an entry of this length, in bytes. Where there is none, a flush makes it.

@@ -10,7 +10,7 @@ use Rattle.topic_core.specs.Standing.{Match, resting}
 abbrev pub view_of : FileStores → StoreView
 view_of files =
     both (entry_view ledgers.ledger_topic ledgers.start_of ledgers.counts_of (λ ledger. ledger.entries_per_ledger) ledgers.failed ledgers.Holds files.stores.entries)
-    (sub_view cursors.topic_of cursors.content cursors.failed cursors.Holds cursors.written files.stores.subscriptions)
+    (sub_view cursors.topic_of cursors.start_of cursors.content cursors.failed cursors.Holds cursors.written files.stores.subscriptions)
 
 -- Topic and store remember the same, as a flush asks; none is under way.
 pub record AreMatched (topic : Topic) (stores : FileStores) : Type 0 where

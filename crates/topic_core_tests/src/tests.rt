@@ -7,6 +7,7 @@ mod gauges;
 mod granters;
 mod recent;
 mod summaries;
+mod trims;
 
 ghost use Rattle.std.specs.Prelude.{IfOk};
 ghost use Rattle.topic_core_tests.specs.Matching.{AreMatched};

@@ -11,6 +11,7 @@ use Rattle.disk.specs.Contents.{Settled}
 use Rattle.disk.specs.Moments.{starts, joins}
 use Rattle.gated_log.specs.declared.refusal.Refusal.{Refusal}
 use Rattle.managed_ledger.specs.Entries.{Ledger, whole}
+use Rattle.records.specs.Floors.{HaveBelow}
 use Rattle.records.specs.Maps.{Kept}
 use Rattle.topic_stores.specs.declared.store.TopicStore.{Ghosts as StoreMembers}
 use Rattle.topic_stores.specs.Views.{StoreView, Settled as Holding, AreLaws}
@@ -32,8 +33,9 @@ module _ (stands : ℕ → Image → Ledger → Kept → Type 0) (n : ℕ) (t : 
   is_kept = ap (λ (x : Topic). x.kept) as_opened
 
   -- it stands on its store
-  pub opened_standing : (d : Disk) → AreLaws stands v → Holding v d t.ledger v.kept → Match Before t v → Standing stands Before t v d
-  opened_standing d laws hold matched = reopened_standing stands (opened n (whole []) [] finite.empty) t v d t.ledger v.kept laws as_opened matched hold
+  pub opened_standing : (d : Disk) → AreLaws stands v → ((files : Image) (ledger : Ledger) (kept : Kept) → stands v.topic files ledger kept → HaveBelow ledger.base kept) → Holding v d t.ledger v.kept → Match Before t v → Standing stands Before t v d
+  opened_standing d laws below hold matched =
+      reopened_standing stands (opened n (whole []) [] finite.empty) t v d t.ledger v.kept laws as_opened matched (below d.seen t.ledger v.kept (laws.stands d.seen t.ledger v.kept hold.settled.now)) hold
 
   -- the files stood for what it has
   pub opened_found : (number : ℕ) (before d : Disk) → AreLaws stands v → v.topic ≡ number → Same before.seen d.seen → Holding v d t.ledger v.kept → IsOpened stands n number before.seen t

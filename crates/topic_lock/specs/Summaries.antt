@@ -11,6 +11,10 @@ use Rattle.topic_core.specs.declared.summary.TopicSummary.{TopicSummary}
 abbrev pub IsTold : TopicSummary → Type 0
 IsTold summary = (t : Topic) × IsSound t × (summary ≡ summary_of t)
 
+-- a sound topic's entries that are still there begin at this position
+abbrev pub MayBegin : ℕ → Type 0
+MayBegin base = (t : Topic) × IsSound t × (base ≡ t.ledger.base)
+
 -- a sound topic tells it of the subscription at this place, or that none stands there
 abbrev pub IsToldAt : ℕ → Option SubscriptionSummary → Type 0
 IsToldAt place told = (t : Topic) × IsSound t × IsSummaryOf (slice_get t.subs.subs place) told

@@ -1,6 +1,6 @@
 // What is told of a topic that is shared, to whoever looks at a node that serves. Its number and its name stand beside its lock.
 ghost use Rattle.std.specs.Prelude.{IfOk};
-ghost use Rattle.topic_lock.specs.Summaries.{IsTold, IsToldAt};
+ghost use Rattle.topic_lock.specs.Summaries.{IsTold, IsToldAt, MayBegin};
 
 use crate::places::SharedTopic;
 use crate::tally::Tallies;
@@ -18,6 +18,15 @@ impl<T: TopicStore, S: Shelf + Drop, K: Tallies> SharedTopic<T, S, K> {
         let topic = self.lock(rt);
         topic.show_sound();
         topic.summary()
+    }
+
+    /// What `CountedTopic::base` tells at a moment of the call, under the topic's lock alone. It takes no memory.
+    pub fn base<R: Wait>(&self, rt: &R) -> u64
+        ensures { MayBegin result }
+    {
+        let topic = self.lock(rt);
+        topic.show_sound();
+        topic.base()
     }
 
     /// What `CountedTopic::activity` tells at a moment of the call, under the topic's lock alone.
@@ -39,8 +48,8 @@ impl<T: TopicStore, S: Shelf + Drop, K: Tallies> SharedTopic<T, S, K> {
         topic.subscription(place)
     }
 
-    /// In how many segment files its entries are, by the lock of its stores alone, for which nobody waits here: none is told while
-    /// somebody reads or writes there, or waits to.
+    /// In how many segment files the entries are that are still there, by the lock of its stores alone, for which nobody waits here:
+    /// none is told while somebody reads or writes there, or waits to.
     pub fn segments(&self) -> Option<u64> {
         let stores = self.stores.try_lock()?;
         Some(stores.segments())

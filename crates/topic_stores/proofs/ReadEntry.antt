@@ -7,10 +7,10 @@ use Rattle.managed_ledger.specs.Trims.{there_is, there_within, entry_within}
 none_some : {X : Type 0} (x : X) → (let o : Option X = None in o ≡ Some x) → ⊥
 none_some x same = cc
 
--- from the base on there is one at each position
+-- there is one at each position from the first one on
 pub not_missing : (ledger : Ledger) (position : ℕ) → ledger.base ≤ position → position < end_of ledger → (let none : Option (List ℕ) = None in none ≡ entry_at ledger position) → ⊥
-not_missing ledger position high within is =
-    let there = there_within ledger position high within in
+not_missing ledger position there_still within is =
+    let there = there_within ledger position there_still within in
     none_some there.0 (is ∙ there.1)
 
 no_longer : (entries : Entries) (i : ℕ) (entry : List ℕ) → AreEntries entries → slice_get entries i ≡ Some entry → length entry ≤ 1048576

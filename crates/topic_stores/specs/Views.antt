@@ -1,19 +1,20 @@
 -- The durable half of a topic, in one view.
-use Rattle.std.specs.Prelude.{◌≡◌, ◌⊎◌, ℕ, ◌+◌, Bool, false, ◌||◌, List}
+use Rattle.std.specs.Prelude.{◌≡◌, ◌⊎◌, ℕ, ◌+◌, ◌≤◌, ◌^◌, Bool, false, ◌||◌, List}
 use Rattle.disk.specs.Disk.{Disk, Image}
 use Rattle.disk.specs.Areas.{Agree, OfTopic}
 use Rattle.disk.specs.Contents.{Steady}
 use Rattle.gated_log.specs.declared.refusal.Refusal.{Refusal}
 use Rattle.gated_log.specs.Batches.{Bodies}
-use Rattle.managed_ledger.specs.declared.start.Start.{Start}
-use Rattle.managed_ledger.specs.Entries.{Ledger, end_of, from_zero}
+use Rattle.gated_log.specs.declared.start.Start.{Start}
+use Rattle.managed_ledger.specs.Entries.{Ledger, end_of}
 use Rattle.managed_ledger.specs.Shape.{total}
 use Rattle.records.specs.Maps.{Kept}
 
 pub record StoreView : Type 1 where
   pub topic : ℕ  -- the number of the topic
-  pub count : ℕ  -- how many entries it remembers
-  pub counts : List ℕ  -- how many of them each segment has, the oldest first
+  pub base : ℕ  -- the position of the first entry that is there, as it remembers it
+  pub count : ℕ  -- how many entries came in all, as it remembers it
+  pub counts : List ℕ  -- how many entries each segment has that is there, the oldest first
   pub per_ledger : ℕ  -- how many make a segment full
   pub kept : Kept  -- the subscriptions that it remembers; also after a failure the old ones
   pub failed : Bool  -- a write failed: it refuses until it is opened again
@@ -27,6 +28,7 @@ Settled v disk ledger kept = Steady (λ files (content : Ledger × Kept). v.hold
 -- What holds of a store at any time, where these are what files of a topic stand for.
 pub record AreLaws (files_stand : ℕ → Image → Ledger → Kept → Type 0) (v : StoreView) : Type 0 where
   pub works : (c : Image) (ledger : Ledger) (kept : Kept) → v.holds c ledger kept → v.failed ≡ false
+  pub begins : (c : Image) (ledger : Ledger) (kept : Kept) → v.holds c ledger kept → v.base ≡ ledger.base
   pub counts : (c : Image) (ledger : Ledger) (kept : Kept) → v.holds c ledger kept → v.count ≡ end_of ledger
   pub remembers : (c : Image) (ledger : Ledger) (kept : Kept) → v.holds c ledger kept → v.kept ≡ kept
   pub stands : (c : Image) (ledger : Ledger) (kept : Kept) → v.holds c ledger kept → files_stand v.topic c ledger kept
@@ -39,7 +41,6 @@ pub record AreLaws (files_stand : ℕ → Image → Ledger → Kept → Type 0) 
 pub record EntryView : Type 1 where
   pub topic : ℕ
   pub start : Start
-  pub total : ℕ
   pub counts : List ℕ
   pub per_ledger : ℕ
   pub failed : Bool
@@ -47,22 +48,24 @@ pub record EntryView : Type 1 where
 
 pub record SubView : Type 1 where
   pub topic : ℕ
+  pub start : Start
   pub kept : Kept
   pub failed : Bool
-  pub holds : ℕ → Image → Kept → Type 0
+  pub holds : ℕ → Start → Image → Kept → Type 0
   pub written : Image → Bodies
 
--- they are of one topic, no entry is gone, and each holds its half
+-- They are of one topic, the ledger begins where the slots say, and each holds its half.
 pub record BothHold (e : EntryView) (s : SubView) (files : Image) (ledger : Ledger) (kept : Kept) : Type 0 where
   pub one_topic : s.topic ≡ e.topic
-  pub untrimmed : e.start ≡ from_zero
+  pub one_start : e.start ≡ s.start
   pub entries : e.holds files ledger
-  pub subscriptions : s.holds (end_of ledger) files kept
+  pub subscriptions : s.holds (end_of ledger) s.start files kept
 
 abbrev pub both : EntryView → SubView → StoreView
 both e s = record {
   topic = e.topic;
-  count = e.total;
+  base = s.start.base;
+  count = e.start.base + total e.counts;
   counts = e.counts;
   per_ledger = e.per_ledger;
   kept = s.kept;
@@ -72,15 +75,32 @@ both e s = record {
 }
 
 abbrev pub entry_view : {E : Type 0} → (E → ℕ) → (E → Start) → (E → List ℕ) → (E → ℕ) → (E → Bool) → (E → Image → Ledger → Type 0) → E → EntryView
-entry_view topic_of start_of counts per_ledger failed holds store = record { topic = topic_of store; start = start_of store; total = (start_of store).base + total (counts store); counts = counts store; per_ledger = per_ledger store; failed = failed store; holds = holds store }
+entry_view topic_of start_of counts per_ledger failed holds store = record { topic = topic_of store; start = start_of store; counts = counts store; per_ledger = per_ledger store; failed = failed store; holds = holds store }
 
-abbrev pub sub_view : {C : Type 0} → (C → ℕ) → (C → Kept) → (C → Bool) → (C → ℕ → Image → Kept → Type 0) → (C → Image → Bodies) → C → SubView
-sub_view topic_of content failed holds written store = record { topic = topic_of store; kept = content store; failed = failed store; holds = holds store; written = written store }
+abbrev pub sub_view : {C : Type 0} → (C → ℕ) → (C → Start) → (C → Kept) → (C → Bool) → (C → ℕ → Start → Image → Kept → Type 0) → (C → Image → Bodies) → C → SubView
+sub_view topic_of start_of content failed holds written store = record { topic = topic_of store; start = start_of store; kept = content store; failed = failed store; holds = holds store; written = written store }
 
--- the files of a topic stand for these entries and subscriptions
-abbrev pub stand : (ℕ → Image → Ledger → Type 0) → (ℕ → ℕ → Image → Kept → Type 0) → ℕ → Image → Ledger → Kept → Type 0
-stand entries_stand subscriptions_stand topic files ledger kept = entries_stand topic files ledger × subscriptions_stand topic (end_of ledger) files kept
+-- The files of a topic stand for these entries and subscriptions: its segments for the ledger that begins where its slots say.
+abbrev pub stand : (ℕ → Start → Image → Ledger → Type 0) → (ℕ → ℕ → Start → Image → Kept → Type 0) → ℕ → Image → Ledger → Kept → Type 0
+stand entries_stand subscriptions_stand topic files ledger kept = (said : Start) × entries_stand topic said files ledger × subscriptions_stand topic (end_of ledger) said files kept
 
--- the first fault of the segments, or of the slots beside segments that stand for entries
-abbrev pub fault : (ℕ → Image → Ledger → Type 0) → (ℕ → Image → Refusal → Type 0) → (ℕ → ℕ → Image → Refusal → Type 0) → ℕ → Image → Refusal → Type 0
-fault entries_stand segments_faulty slots_faulty topic files refusal = segments_faulty topic files refusal ⊎ ((ledger : Ledger) × entries_stand topic files ledger × slots_faulty topic (end_of ledger) files refusal)
+-- where the ledger begins there, the first fault of the segments, or of the slots beside segments that stand for entries
+abbrev pub FaultFrom : (ℕ → Start → Image → Ledger → Type 0) → (ℕ → Start → Image → Refusal → Type 0) → (ℕ → ℕ → Image → Refusal → Type 0) → ℕ → Start → Image → Refusal → Type 0
+FaultFrom entries_stand segments_faulty slots_faulty topic start files refusal =
+    segments_faulty topic start files refusal ⊎ ((ledger : Ledger) × entries_stand topic start files ledger × slots_faulty topic (end_of ledger) files refusal)
+
+-- the first fault, where the ledger begins as the slots say
+abbrev pub fault : (ℕ → Image → Start → Type 0) → (ℕ → Start → Image → Ledger → Type 0) → (ℕ → Start → Image → Refusal → Type 0) → (ℕ → ℕ → Image → Refusal → Type 0) → ℕ → Image → Refusal → Type 0
+fault begins entries_stand segments_faulty slots_faulty topic files refusal =
+    (said : Start) × begins topic files said × FaultFrom entries_stand segments_faulty slots_faulty topic said files refusal
+
+-- the slots stand for this start and some subscriptions, beside a ledger of some length
+pub record SlotsTell (subscriptions_stand : ℕ → ℕ → Start → Image → Kept → Type 0) (topic : ℕ) (files : Image) (said : Start) : Type 0 where
+  pub entries : ℕ
+  pub few : entries ≤ 2 ^ 62
+  pub kept : Kept
+  pub stand : subscriptions_stand topic entries said files kept
+
+-- the segments of the topic, from where its slots tell on, have so many entries each
+abbrev pub lay : (ℕ → ℕ → Image → List ℕ → Type 0) → (ℕ → ℕ → Start → Image → Kept → Type 0) → ℕ → Image → List ℕ → Type 0
+lay entries_laid subscriptions_stand topic files counts = (said : Start) × SlotsTell subscriptions_stand topic files said × entries_laid topic said.first files counts

@@ -2,13 +2,15 @@
 ghost use Rattle.std.specs.Prelude.{◌≡◌, ◌+◌, ◌<◌, ◌≤◌, ◌^◌, List, ℕ, true, false, length, sum_by, All, IfOk, IfSome, OnOk, IsErr};
 ghost use Rattle.disk.specs.Disk.{Image, Kept as Counted, Failed};
 ghost use Rattle.managed_ledger.specs.Entries.{Entries, Ledger, AreEntries, lengthened};
+ghost use Rattle.managed_ledger.specs.Points.{counts_with};
 ghost use Rattle.managed_ledger.specs.Shape.{total};
+ghost use Rattle.gated_log.specs.declared.start.Start.{Start};
+ghost use Rattle.records.specs.Floors.{StartFrom};
 ghost use Rattle.disk.specs.Contents.{Settled, Steady, Appends, StaysSo};
 ghost use Rattle.records.specs.declared.record.Record.{Record};
 ghost use Rattle.records.specs.Maps.{Kept};
 ghost use Rattle.records.specs.Records.{AreFormed, after_all};
 ghost use Rattle.topic_stores.specs.Appends.{PreparedFor};
-ghost use Rattle.topic_stores.specs.Writing.{counts_with};
 
 use bytes::Bytes;
 use cursor_store::SubStore;
@@ -56,10 +58,11 @@ pub(crate) fn prepare_changes<C: SubStore>(
     requires formed { AreFormed (2 ^ 62) (C.content store.old) changes.now }
     requires few { length changes.now ≤ 65536 }
     ensures prepared { IfOk result (λ prepared. PreparedFor (C.is_for store.new) prepared changes.now) }
-    ensures holds_still { (entries : ℕ) (c : Image) (kept : Kept) → C.holds store.old entries c kept → C.holds store.new entries c kept }
+    ensures holds_still { (entries : ℕ) (said : Start) (c : Image) (kept : Kept) → C.holds store.old entries said c kept → C.holds store.new entries said c kept }
     ensures written { (c : Image) → C.written store.new c ≡ C.written store.old c }
     ensures content { C.content store.new ≡ C.content store.old }
     ensures topic { C.topic_of store.new ≡ C.topic_of store.old }
+    ensures start { C.start_of store.new ≡ C.start_of store.old }
     ensures failed { C.failed store.new ≡ C.failed store.old }
 {
     if changes.is_empty() {
@@ -85,7 +88,7 @@ pub(crate) fn append_entries<E: EntryStore, S: Shelf>(
         Appends result (Settled (E.holds store.new)) (E.content store.new) (E.area (E.topic_of store.old)) (E.stands (E.topic_of store.old) (E.start_of store.old)) (S.disk shelf.old) (S.disk shelf.new) ledger (lengthened ledger batch) }
 
     ensures counts { (batch : Entries) → PreparedFor E.is_for prepared batch → OnOk result (total (E.counts store.new) ≡ total (E.counts store.old) + length batch) }
-    ensures segments { (batch : Entries) → PreparedFor E.is_for prepared batch → IfSome prepared (λ p. 0 < length batch) → OnOk result (E.counts store.new ≡ counts_with (E.per_ledger store.old) batch (E.counts store.old)) }
+    ensures segments { (batch : Entries) → PreparedFor E.is_for prepared batch → IfSome prepared (λ p. 0 < length batch) → OnOk result (E.counts store.new ≡ counts_with (E.per_ledger store.old) (length batch) (E.counts store.old)) }
     ensures per_ledger { E.per_ledger store.new ≡ E.per_ledger store.old }
     ensures total_stays { IsErr result → total (E.counts store.new) ≡ total (E.counts store.old) }
     ensures topic { E.topic_of store.new ≡ E.topic_of store.old }
@@ -109,13 +112,14 @@ pub(crate) fn append_changes<C: SubStore, S: Shelf>(
     prepared: Option<C::Prepared>,
 ) -> Result<(), DeviceError>
     // A crash at any moment of the call leaves all the changes or none, and other files as they were.
-    ensures appends { (entries : ℕ) (kept : Kept) (changes : List Record) → PreparedFor (C.is_for store.old) prepared changes → AreFormed entries kept changes →
-        Steady (C.holds store.old entries) (C.written store.old) (S.disk shelf.old) kept →
-        Appends result (Steady (C.holds store.new entries) (C.written store.new)) (λ c. C.content store.new) (C.area (C.topic_of store.old)) (C.stands (C.topic_of store.old) entries) (S.disk shelf.old) (S.disk shelf.new) kept (after_all changes kept) }
+    ensures appends { (entries : ℕ) (said : Start) (kept : Kept) (changes : List Record) → PreparedFor (C.is_for store.old) prepared changes → AreFormed entries kept changes → StartFrom said.base changes →
+        Steady (C.holds store.old entries said) (C.written store.old) (S.disk shelf.old) kept →
+        Appends result (Steady (C.holds store.new entries said) (C.written store.new)) (λ c. C.content store.new) (C.area (C.topic_of store.old)) (C.stands (C.topic_of store.old) entries said) (S.disk shelf.old) (S.disk shelf.new) kept (after_all changes kept) }
 
     ensures content { (changes : List Record) → PreparedFor (C.is_for store.old) prepared changes → OnOk result (C.content store.new ≡ after_all changes (C.content store.old)) }
     ensures remembered { IsErr result → C.content store.new ≡ C.content store.old }
     ensures topic { C.topic_of store.new ≡ C.topic_of store.old }
+    ensures start { C.start_of store.new ≡ C.start_of store.old }
     ensures works { C.failed store.old ≡ false → OnOk result (C.failed store.new ≡ false) }
     ensures fails { IsErr result → C.failed store.new ≡ true }
     ensures cause { C.failed store.old ≡ false → IsErr result → Failed (S.disk shelf.old) (S.disk shelf.new) }

@@ -15,20 +15,21 @@ pub struct FileStores {
 }
 
 impl TopicStore for FileStores {
-    ghost use Rattle.std.proofs.Common.{subst, sym};
     ghost use Rattle.journal.specs.Chains.{SegmentsOf};
     ghost use Rattle.two_slot.specs.Slots.{SlotsOf};
-    ghost use Rattle.managed_ledger.specs.declared.start.Start.{Start};
-    ghost use Rattle.managed_ledger.specs.Entries.{Ledger, Stands, end_of, from_zero};
+    ghost use Rattle.managed_ledger.specs.Behind as beginnings;
+    ghost use Rattle.managed_ledger.specs.Entries.{Stands};
     ghost use Rattle.managed_ledger.specs.Folded as ledger_faults;
     ghost use Rattle.managed_ledger.specs.Laid as layout;
     ghost use Rattle.managed_ledger.specs.Ledgers as ledgers;
     ghost use Rattle.managed_ledger.specs.Settled as ledger_laws;
     ghost use Rattle.cursor_store.specs.Cursors as cursors;
     ghost use Rattle.cursor_store.specs.Folded as cursor_faults;
+    ghost use Rattle.cursor_store.specs.Fronts as fronts;
+    ghost use Rattle.cursor_store.specs.FrontLaws as front_laws;
     ghost use Rattle.cursor_store.specs.Laws as cursor_laws;
     ghost use Rattle.topic_stores.specs.Views.{entry_view, sub_view};
-    ghost use Rattle.topic_stores.specs.Laws.{both_laws, entry_laws, sub_laws, segment_own, slot_own, fault_one, stand_sound};
+    ghost use Rattle.topic_stores.specs.Laws.{both_laws, entry_laws, sub_laws, fault_one, stand_sound, stand_one, stand_below, stand_local, lay_one, lay_local, hold_lay};
 
     ghost view = { λ s. ⟦<TopicStores<ManagedLedger, CursorStore> as TopicStore>⟧.view s.stores };
 
@@ -36,33 +37,34 @@ impl TopicStore for FileStores {
 
     ghost faulty = { ⟦<TopicStores<ManagedLedger, CursorStore> as TopicStore>⟧.faulty };
 
-    ghost laid = { λ t. layout.IsLaidOut t 0 };
-
-    ghost faulty_one = { fault_one (λ t. Stands t from_zero) (λ t. ledger_faults.IsFault t from_zero) cursor_faults.IsFault (λ t. ledger_faults.fault_one t from_zero) cursor_faults.fault_one (λ t. ledger_laws.stand_one t from_zero) (λ t. ledger_faults.ledger_no_fault t from_zero) };
-
-    ghost stands_sound = { stand_sound (λ t. Stands t from_zero) (λ t. ledger_faults.IsFault t from_zero) cursor_faults.IsFault cursors.StandsFor (λ t. ledger_laws.stand_one t from_zero) (λ t. ledger_faults.ledger_no_fault t from_zero) cursor_faults.stands_sound };
+    ghost laid = { ⟦<TopicStores<ManagedLedger, CursorStore> as TopicStore>⟧.laid };
 
     ghost laws = { λ s. both_laws Stands cursors.StandsFor SegmentsOf SlotsOf
-        (entry_view ledgers.ledger_topic ledgers.start_of ledgers.counts_of (λ ledger. ledger.entries_per_ledger) ledgers.failed ledgers.Holds s.stores.entries) (sub_view cursors.topic_of cursors.content cursors.failed cursors.Holds cursors.written s.stores.subscriptions)
-        (entry_laws ledgers.ledger_topic ledgers.start_of ledgers.counts_of (λ ledger. ledger.entries_per_ledger) ledgers.failed ledgers.Holds Stands SegmentsOf (λ store image entries holds. holds.journal.works) ledger_laws.held_counts ledger_laws.held_stands (λ t f own. own) ledger_laws.held_local s.stores.entries)
-        (sub_laws cursors.topic_of cursors.content cursors.failed cursors.Holds cursors.written cursors.StandsFor SlotsOf (λ store entries image kept holds. holds.slots.works) (λ store entries image kept holds. holds.same) cursor_laws.holds_stand cursor_laws.holds_longer (λ t f own. own) cursor_laws.holds_local cursor_laws.written_local s.stores.subscriptions) };
+        (entry_view ledgers.ledger_topic ledgers.start_of ledgers.counts_of (λ ledger. ledger.entries_per_ledger) ledgers.failed ledgers.Holds s.stores.entries) (sub_view cursors.topic_of cursors.start_of cursors.content cursors.failed cursors.Holds cursors.written s.stores.subscriptions)
+        (entry_laws ledgers.ledger_topic ledgers.start_of ledgers.counts_of (λ ledger. ledger.entries_per_ledger) ledgers.failed ledgers.Holds Stands SegmentsOf (λ store image entries holds. holds.journal.works) ledger_laws.held_counts ledger_laws.held_stands beginnings.held_behind ledger_laws.stand_base (λ t start image ledger stands. stands.ledger.few) (λ t f own. own) ledger_laws.held_local s.stores.entries)
+        (sub_laws cursors.topic_of cursors.start_of cursors.content cursors.failed cursors.Holds cursors.written cursors.StandsFor SlotsOf (λ store entries start image kept holds. holds.slots.works) cursor_laws.holds_content cursor_laws.holds_stand cursor_laws.holds_longer cursor_laws.stands_longer cursor_laws.stands_fits (λ t f own. own) cursor_laws.holds_local cursor_laws.written_local s.stores.subscriptions) };
 
-    ghost holds_laid = { λ s files ledger kept x. subst (λ (start : Start). layout.IsLaidOut (ledgers.ledger_topic s.stores.entries) start.first files (ledgers.counts_of s.stores.entries)) x.untrimmed (layout.held_laid s.stores.entries files ledger x.entries) };
+    ghost holds_laid = { λ s files ledger kept x. hold_lay Stands cursors.StandsFor SegmentsOf SlotsOf
+        (entry_view ledgers.ledger_topic ledgers.start_of ledgers.counts_of (λ ledger. ledger.entries_per_ledger) ledgers.failed ledgers.Holds s.stores.entries) (sub_view cursors.topic_of cursors.start_of cursors.content cursors.failed cursors.Holds cursors.written s.stores.subscriptions)
+        (entry_laws ledgers.ledger_topic ledgers.start_of ledgers.counts_of (λ ledger. ledger.entries_per_ledger) ledgers.failed ledgers.Holds Stands SegmentsOf (λ store image entries holds. holds.journal.works) ledger_laws.held_counts ledger_laws.held_stands beginnings.held_behind ledger_laws.stand_base (λ t start image ledger stands. stands.ledger.few) (λ t f own. own) ledger_laws.held_local s.stores.entries)
+        (sub_laws cursors.topic_of cursors.start_of cursors.content cursors.failed cursors.Holds cursors.written cursors.StandsFor SlotsOf (λ store entries start image kept holds. holds.slots.works) cursor_laws.holds_content cursor_laws.holds_stand cursor_laws.holds_longer cursor_laws.stands_longer cursor_laws.stands_fits (λ t f own. own) cursor_laws.holds_local cursor_laws.written_local s.stores.subscriptions)
+        layout.IsLaidOut (λ c l held. layout.held_laid s.stores.entries c l held) files ledger kept x };
 
-    ghost laid_one = { λ t. layout.laid_one t 0 };
+    ghost laid_one = { lay_one Stands cursors.StandsFor ledger_laws.stand_one ledger_laws.stand_base (λ t start image ledger stands. stands.ledger.few) cursor_laws.stands_one cursor_laws.stands_longer cursor_laws.stands_fits layout.IsLaidOut layout.laid_one };
 
-    ghost laid_local = { λ t a b counts same x. layout.laid_local t 0 a b counts (λ f own. same f (segment_own t f own)) x };
+    ghost laid_local = { lay_local SegmentsOf SlotsOf (λ t f own. own) (λ t f own. own) cursors.StandsFor cursor_laws.stands_local layout.IsLaidOut layout.laid_local };
 
-    ghost stands_one = { λ t files one other k j few a b.
-        let same = ledger_laws.stand_one t from_zero files one other a.0 b.0 in
-        (same, cursor_laws.stands_one t (end_of one) files k j few a.1 (subst (λ (l : Ledger). cursors.StandsFor t (end_of l) files j) (sym same) b.1)) };
+    ghost stands_one = { λ t files one other k j few a b. stand_one Stands cursors.StandsFor ledger_laws.stand_one ledger_laws.stand_base (λ t start image ledger stands. stands.ledger.few) cursor_laws.stands_one cursor_laws.stands_longer cursor_laws.stands_fits t files one other k j a b };
 
-    ghost stands_entries = { λ t files ledger k x. ledger_laws.stand_entries t from_zero files ledger x.0 };
+    ghost stands_below = { stand_below Stands cursors.StandsFor ledger_laws.stand_one ledger_laws.stand_base (λ t start image ledger stands. stands.ledger.few) cursor_laws.stands_one cursor_laws.stands_longer cursor_laws.stands_fits };
 
-    ghost stands_local = { λ t a b ledger k same x. (
-      ledger_laws.stand_local t from_zero a b ledger (λ f own. same f (segment_own t f own)) x.0,
-      cursor_laws.stands_local t (end_of ledger) a b k (λ f own. same f (slot_own t f own)) x.1,
-    ) };
+    ghost faulty_one = { fault_one fronts.Begins Stands ledger_faults.IsFault cursor_faults.IsFault ledger_laws.stand_one ledger_faults.ledger_no_fault ledger_faults.fault_one cursor_faults.fault_one front_laws.begins_one };
+
+    ghost stands_sound = { stand_sound fronts.Begins Stands ledger_faults.IsFault cursor_faults.IsFault ledger_laws.stand_one ledger_faults.ledger_no_fault cursors.StandsFor cursor_faults.stands_sound (λ t start image ledger stands. stands.ledger.few) front_laws.begins_stands };
+
+    ghost stands_entries = { λ t files ledger k x. ledger_laws.stand_entries t x.0 files ledger x.1 };
+
+    ghost stands_local = { stand_local SegmentsOf SlotsOf (λ t f own. own) (λ t f own. own) cursors.StandsFor cursor_laws.stands_local Stands ledger_laws.stand_local };
 
     fn create<S: Shelf>(
         alloc: Global,
@@ -91,6 +93,10 @@ impl TopicStore for FileStores {
         self.stores.topic()
     }
 
+    fn base(&self) -> u64 {
+        self.stores.base()
+    }
+
     fn len(&self) -> u64 {
         self.stores.len()
     }
@@ -111,7 +117,7 @@ impl TopicStore for FileStores {
         self.stores.fits(batch)
     }
 
-    fn write<S: Shelf>(&mut self, shelf: &mut S, batch: &Batch) -> Result<(), WriteError> {
+    fn write<S: Shelf>(&mut self, shelf: &mut S, batch: &Batch) -> Result<u64, WriteError> {
         self.stores.write(shelf, batch)
     }
 }

@@ -12,7 +12,7 @@ use managed_ledger::EntryStore;
 const LONGEST_ENTRY: usize = 1_048_576;
 
 /// Reads the entry of a position, with one read of the device. One that isn't there, or is longer than any that is accepted,
-/// is damage of the first segment.
+/// is damage of the first segment that is there.
 pub(crate) fn read_entry<E: EntryStore, S: Shelf>(
     store: &E,
     shelf: &mut S,
@@ -32,7 +32,7 @@ pub(crate) fn read_entry<E: EntryStore, S: Shelf>(
     let damaged = ReadError::Damaged {
         file: FileId::Segment {
             topic: store.topic(),
-            number: 0,
+            number: store.start().first,
         },
         offset: 0,
     };

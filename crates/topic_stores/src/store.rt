@@ -1,20 +1,21 @@
 // The durable half of a topic.
-ghost use Rattle.std.specs.Prelude.{◌≡◌, ◌⊎◌, ◌<◌, ◌≤◌, ◌^◌, ◌↔◌, [], ◌∷◌, List, ℕ, Some, true, false, length, IfOk, IfErr, OnOk, IsErr, IsErrOf, IsTrue, map as each};
+ghost use Rattle.std.specs.Prelude.{◌≡◌, ◌⊎◌, ◌<◌, ◌≤◌, ◌+◌, ◌^◌, ◌↔◌, [], ◌∷◌, List, ℕ, Some, true, false, length, IfOk, IfErr, OnOk, IsErr, IsErrOf, IsTrue, map as each};
 ghost use Rattle.std.specs.List.{AllByRecursion};
 ghost use Rattle.std.specs.FinMap as map;
 ghost use Rattle.disk.specs.Disk.{Image, Same, Leaves, Kept as Counted, Failed};
 ghost use Rattle.disk.specs.Areas.{Agree, OfTopic, Within};
 ghost use Rattle.gated_log.specs.declared.refusal.Refusal.{Refusal};
 ghost use Rattle.gated_log.specs.declared.refusal.Refusal.TheVariants as refusal;
-ghost use Rattle.managed_ledger.specs.Entries.{Entries, Ledger, AreEntries, end_of, entry_at, lengthened, whole};
+ghost use Rattle.managed_ledger.specs.Entries.{Entries, Ledger, AreEntries, begun_at, end_of, entry_at, lengthened, trimmed, whole};
 ghost use Rattle.records.specs.declared.kept_cursor.KeptCursor.{KeptCursor as Cursor};
 ghost use Rattle.records.specs.Names.{is_subscription_name};
+ghost use Rattle.records.specs.Floors.{HaveBelow};
 ghost use Rattle.records.specs.Maps.{Kept};
 ghost use Rattle.records.specs.Records.{after_all};
 ghost use Rattle.topic_stores.specs.declared.error.WriteError.TheVariants as write;
 ghost use Rattle.gated_log.specs.declared.read_error.ReadError.TheVariants as read;
 ghost use Rattle.topic_stores.specs.Views.{StoreView, Settled, AreLaws};
-ghost use Rattle.topic_stores.specs.Writing.{Fits, IsLeft, StandsFor, Remembers};
+ghost use Rattle.topic_stores.specs.Writing.{Fits, IsLeft, IsTrim, StandsFor, Remembers};
 
 use crate::{Batch, ReadError, WriteError};
 use disk::{DeviceError, Shelf};
@@ -47,6 +48,7 @@ pub trait TopicStore: Drop {
     ) -> Result<Self, DeviceError>
         ensures created { (S.disk shelf.old).honest → IfOk result (λ store. Settled (view store) (S.disk shelf.new) (whole []) map.empty) }
         ensures works { IfOk result (λ store. (view store).failed ≡ false) }
+        ensures base { IfOk result (λ store. (view store).base ≡ 0) }
         ensures empty { IfOk result (λ store. ((view store).count ≡ 0) × ((view store).kept ≡ map.empty)) }
         ensures topic { IfOk result (λ store. (view store).topic ≡ topic) }
         ensures counts { IfOk result (λ store. ((view store).counts ≡ 0 ∷ []) × ((view store).per_ledger ≡ entries_per_ledger)) }
@@ -63,9 +65,10 @@ pub trait TopicStore: Drop {
         entries_per_ledger: u32,
         fold: F,
     ) -> Result<(Self, F), Refusal>
-        // The store has the entries that the fold has taken; where the device isn't honest it has taken as many.
+        // The store has the entries that the fold has taken, from the first one that is there on; where the device isn't honest it
+        // has taken as many.
         ensures opened { F.holds fold [] →
-            IfOk result (λ opened. (entries : Entries) × ((S.disk shelf.old).honest → Settled (view opened.0) (S.disk shelf.new) (whole entries) (view opened.0).kept) × (length entries ≡ (view opened.0).count) × F.holds opened.1 entries) }
+            IfOk result (λ opened. (entries : Entries) × ((S.disk shelf.old).honest → Settled (view opened.0) (S.disk shelf.new) (begun_at (view opened.0).base entries) (view opened.0).kept) × ((view opened.0).base + length entries ≡ (view opened.0).count) × F.holds opened.1 entries) }
         // Or the first fault that stands in the files is told.
         ensures refused { (S.disk shelf.old).honest → F.holds fold [] →
             IfErr result (λ e. (e ≡ refusal.NoMemory) ⊎ ((e ≡ refusal.Device) ⊎ faulty topic (S.disk shelf.old).seen e)) }
@@ -85,7 +88,11 @@ pub trait TopicStore: Drop {
     fn topic(&self) -> u16
         ensures { result ≡ (view self.now).topic };
 
-    /// How many entries it remembers.
+    /// The position of the first entry that is there.
+    fn base(&self) -> u64
+        ensures { result ≡ (view self.now).base };
+
+    /// How many entries came in all, as it remembers it.
     fn len(&self) -> u64
         ensures len { result ≡ (view self.now).count }
         ensures few { result ≤ 2 ^ 62 };
@@ -105,7 +112,7 @@ pub trait TopicStore: Drop {
     fn read<S: Shelf>(&self, shelf: &mut S, position: u64) -> Result<Vec<u8>, ReadError>
         ensures entry { (ledger : Ledger) (kept : Kept) → (S.disk shelf.old).honest → (view self.now).holds (S.disk shelf.old).seen ledger kept →
             IfOk result (λ entry. entry_at ledger position ≡ Some entry.items) }
-        ensures refused { (ledger : Ledger) (kept : Kept) → (S.disk shelf.old).honest → (view self.now).holds (S.disk shelf.old).seen ledger kept → position < end_of ledger →
+        ensures refused { (ledger : Ledger) (kept : Kept) → (S.disk shelf.old).honest → (view self.now).holds (S.disk shelf.old).seen ledger kept → ledger.base ≤ position → position < end_of ledger →
             IfErr result (λ e. (e ≡ read.NoMemory) ⊎ (e ≡ read.Device)) }
         ensures short { IfOk result (λ entry. length entry.items ≤ 1048576) }
         ensures stays_failed { (view self.now).failed ≡ true → IsErrOf result read.Device × (shelf.new ≡ shelf.old) }
@@ -119,25 +126,29 @@ pub trait TopicStore: Drop {
     fn fits(&self, batch: &Batch) -> bool
         ensures { IsTrue result ↔ Fits (view self.now) batch.now };
 
-    /// Adds a batch, the entries before the changes. All memory is taken before the first device call; an empty batch asks
-    /// nothing of the device.
-    fn write<S: Shelf>(&mut self, shelf: &mut S, batch: &Batch) -> Result<(), WriteError>
+    /// Adds a batch, the entries before the changes, then trims the ledger up to the batch's limit, by whole segments, and answers
+    /// where it begins then. All memory is taken before the first device call; an empty batch that trims nothing asks nothing of
+    /// the device. A failed store answers `Device` and asks nothing of the device, whatever the batch is.
+    fn write<S: Shelf>(&mut self, shelf: &mut S, batch: &Batch) -> Result<u64, WriteError>
         requires fits { Fits (view self.old) batch.now }
         ensures remembers { Remembers (view self.old) batch.now result (view self.new) }
         ensures written { (ledger : Ledger) (kept : Kept) → Settled (view self.old) (S.disk shelf.old) ledger kept →
-            OnOk result (Settled (view self.new) (S.disk shelf.new) (lengthened ledger batch.now.entries.items) (after_all batch.now.changes.items kept)) }
+            IfOk result (λ base. Settled (view self.new) (S.disk shelf.new) (trimmed base (lengthened ledger batch.now.entries.items)) (after_all batch.now.changes.items kept)) }
+        ensures trimmed { (ledger : Ledger) (kept : Kept) → Settled (view self.old) (S.disk shelf.old) ledger kept →
+            IfOk result (λ base. IsTrim (lengthened ledger batch.now.entries.items) batch.now.trim (after_all batch.now.changes.items kept) (trimmed base (lengthened ledger batch.now.entries.items))) }
         ensures unwritten { (ledger : Ledger) (kept : Kept) → Settled (view self.old) (S.disk shelf.old) ledger kept →
             IsErrOf result write.NoMemory → Settled (view self.new) (S.disk shelf.new) ledger kept }
         ensures no_memory { IsErrOf result write.NoMemory → shelf.new ≡ shelf.old }
 
         // A crash at any moment of the call leaves the old entries and subscriptions, the ledger with the entries of the batch,
-        // or both with all of it; files of other topics are as they were.
+        // or both with all of it, where the ledger may be trimmed; files of other topics are as they were.
         ensures within { (ledger : Ledger) (kept : Kept) → Settled (view self.old) (S.disk shelf.old) ledger kept →
             Within (OfTopic (view self.old).topic)
-            (StandsFor (stands (view self.old).topic) (IsLeft ledger kept batch.now.entries.items batch.now.changes.items))
+            (StandsFor (stands (view self.old).topic) (IsLeft ledger kept batch.now.entries.items batch.now.changes.items batch.now.trim))
             (S.disk shelf.old) (S.disk shelf.new) }
 
         ensures topic { (view self.new).topic ≡ (view self.old).topic }
+        ensures stays_failed { (view self.old).failed ≡ true → IsErrOf result write.Device × (shelf.new ≡ shelf.old) }
         ensures cause { (view self.old).failed ≡ false → IsErrOf result write.Device → Failed (S.disk shelf.old) (S.disk shelf.new) }
         ensures kept { Counted (S.disk shelf.old) (S.disk shelf.new) };
 
@@ -157,6 +168,9 @@ pub trait TopicStore: Drop {
     ghost faulty_one: { (t : ℕ) (files : Image) (one other : Refusal) → faulty t files one → faulty t files other → one ≡ other };
 
     ghost stands_sound: { (t : ℕ) (files : Image) (ledger : Ledger) (k : Kept) (refusal : Refusal) → stands t files ledger k → ¬ faulty t files refusal };
+
+    // And each of these subscriptions has all positions below the first one that is there.
+    ghost stands_below: { (t : ℕ) (files : Image) (ledger : Ledger) (k : Kept) → stands t files ledger k → HaveBelow ledger.base k };
 
     ghost stands_entries: { (t : ℕ) (files : Image) (ledger : Ledger) (k : Kept) → stands t files ledger k → AreEntries ledger.entries };
 

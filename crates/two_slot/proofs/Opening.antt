@@ -1,5 +1,5 @@
 -- Two slots are opened as their headers say.
-use Rattle.std.proofs.Common.{◌≡◌, ◌⊎◌, inl, inr, ℕ, ◌+◌, ◌<◌, ◌^◌, Bool, true, false, List, sym, ◌∙◌, ap, subst, arith}
+use Rattle.std.proofs.Common.{◌≡◌, ◌⊎◌, inl, inr, ℕ, ◌+◌, ◌<◌, ◌^◌, Bool, true, false, List, Option, sym, ◌∙◌, ap, subst, arith}
 use Rattle.std.specs.Prelude.{nat_lt, if◌then◌else◌}
 use Rattle.std.proofs.lemmas.Bool.{cases_lt}
 use Rattle.std.proofs.lemmas.Bool.Decides.{nat_tests}
@@ -28,6 +28,7 @@ use Rattle.two_slot.specs.declared.two_slot.TwoSlot.{TwoSlot}
 use Rattle.two_slot.specs.Slots.{other_of}
 use Rattle.two_slot.specs.SlotHeaders.{IsSlotHeader}
 use Rattle.two_slot.specs.Choices.{choice, if_open}
+use Rattle.two_slot.specs.Counting.{read_by, IsCounting}
 use Rattle.two_slot.specs.TwoSlots.{Holds, IsSpare, generation_of}
 use Rattle.two_slot.specs.Heads.{HaveHeads, head_in}
 use Rattle.two_slot.specs.Faults.{IsFaultBy, IsSlotsFault}
@@ -160,3 +161,14 @@ read_settled slots topic slot spare are d0 d1 zero one says bodies works same le
 pub head_there : (heads : SlotHeads) (disk : Disk) (slot : CursorSlot) → HaveHeads heads disk → HasHead (head_in heads slot) disk
 head_there heads disk Zero are = are.zero
 head_there heads disk One are = are.one
+
+-- the slot that is read
+pub counting_by : (heads : SlotHeads) (image : Image) (zero one : SlotHeader) (slot : Option CursorSlot) (by : Choice) → IsHead heads.zero image → IsHead heads.one image
+    → ((i : Image) → IsHead heads.zero i → IsSlotHeader (i (head_file heads.zero)) zero) → ((i : Image) → IsHead heads.one i → IsSlotHeader (i (head_file heads.one)) one) → by ≡ choice zero one → slot ≡ read_by by → IsCounting heads.topic image slot
+counting_by heads image zero one slot by is is' zero_of one_of choice_is slot_is = record {
+  zero = zero;
+  one = one;
+  zero_is = subst (λ (f : FileId). IsSlotHeader (image f) zero) heads.zero_is (zero_of image is);
+  one_is = subst (λ (f : FileId). IsSlotHeader (image f) one) heads.one_is (one_of image is');
+  slot_is = slot_is ∙ ap (λ (c : Choice). read_by c) choice_is;
+}

@@ -9,3 +9,4 @@ pub mod One
 pub mod Fresh
 pub mod Standing
 pub mod Closing
+pub mod Counting

@@ -67,7 +67,8 @@ pub record AreReadAt (topic : ℕ) (image : Image) (slot : CursorSlot) : Type 0 
   pub spare : Spare
   pub choice_is : choice zero one ≡ Read slot spare
 
-counting : (topic : ℕ) (image : Image) (bodies : Bodies) (slot : CursorSlot) (g : ℕ) → Counts g bodies (image (Slot topic slot)) (image (Slot topic (other_of slot))) → AreReadAt topic image slot
+-- slots that stand for bodies
+pub counting : (topic : ℕ) (image : Image) (bodies : Bodies) (slot : CursorSlot) (g : ℕ) → Counts g bodies (image (Slot topic slot)) (image (Slot topic (other_of slot))) → AreReadAt topic image slot
 counting topic image bodies Zero g is =
     let file = image (Slot topic Zero) in
     let one = yielding g (image (Slot topic One)) is.in_range is.yields in

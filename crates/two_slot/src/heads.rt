@@ -8,7 +8,7 @@ use gated_log::LogHead;
 
 /// The heads of both slots of a topic.
 #[derive(Drop)]
-pub(crate) struct SlotHeads {
+pub struct SlotHeads {
     pub(crate) topic: u16,
     pub(crate) zero: LogHead,
     pub(crate) one: LogHead,

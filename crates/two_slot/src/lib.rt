@@ -15,6 +15,7 @@ mod slot_header;
 mod spare;
 mod two_slot;
 
+pub use heads::SlotHeads;
 pub use law::{
     slots_are_their_own_files, slots_have_no_fault, slots_have_one_fault, slots_stand_for_one_list,
 };

@@ -1,15 +1,17 @@
 // Two slots are opened, whatever a crash left of them, and the bodies of the one that counts are handed over.
 ghost use Rattle.std.specs.Prelude.{◌≡◌, ◌⊎◌, [], ◌∷◌, false, IfOk, IfErr, OnOk, IsErr, IsErrOf};
 ghost use Rattle.disk.specs.declared.file_id.FileId.{FileId};
-ghost use Rattle.disk.specs.Disk.{Same, Leaves, Kept, Failed};
+ghost use Rattle.disk.specs.declared.file_id.CursorSlot.{CursorSlot};
+ghost use Rattle.disk.specs.Disk.{Image, Same, Leaves, Kept, Failed};
 ghost use Rattle.disk.specs.Areas.{Agree};
 ghost use Rattle.gated_log.specs.Batches.{Bodies};
 ghost use Rattle.gated_log.specs.Folds.{behind};
-ghost use Rattle.gated_log.specs.Head.{head_file};
+ghost use Rattle.gated_log.specs.Head.{IsHead, head_file};
 ghost use Rattle.disk.specs.Contents.{Settled};
 ghost use Rattle.two_slot.specs.Slots.{SlotsOf};
 ghost use Rattle.two_slot.specs.TwoSlots.{Holds, generation_of, topic_of, failed};
 ghost use Rattle.two_slot.specs.Heads.{HaveHeads, heads_topic, head_in};
+ghost use Rattle.two_slot.specs.Counting.{IsCounting};
 ghost use Rattle.two_slot.specs.Faults.{IsSlotsFault, header_refusal};
 
 use crate::TwoSlot;
@@ -20,31 +22,51 @@ use disk::{CursorSlot, DeviceError, FileId, Shelf};
 use gated_log::{BatchList, Fold, GatedLog, LogHead, Refusal};
 use std::alloc::Global;
 
-// The heads of both slots, which are synced first.
-fn read_heads<S: Shelf>(shelf: &mut S, topic: u16) -> Result<SlotHeads, DeviceError>
-    ensures heads { (S.disk shelf.old).honest → IfOk result (λ heads. HaveHeads heads (S.disk shelf.new)) }
-    ensures topic { IfOk result (λ heads. heads_topic heads ≡ topic) }
-    ensures seen { (S.disk shelf.old).honest → OnOk result (Same (S.disk shelf.old).seen (S.disk shelf.new).seen) }
-    ensures others { (S.disk shelf.old).honest → Agree (λ f. ¬ SlotsOf topic f) (S.disk shelf.old).seen (S.disk shelf.new).seen }
-    ensures any_moment { (S.disk shelf.old).honest → Leaves (S.disk shelf.old).may_leave (S.disk shelf.old) (S.disk shelf.new) }
-    ensures cause { IsErr result → Failed (S.disk shelf.old) (S.disk shelf.new) }
-    ensures kept { Kept (S.disk shelf.old) (S.disk shelf.new) }
-{
-    let slot = CursorSlot::Zero;
-    let zero = LogHead::read(shelf, FileId::Slot { topic, slot })?;
-    let slot = CursorSlot::One;
-    let one = LogHead::read(shelf, FileId::Slot { topic, slot })?;
-    Ok(SlotHeads { topic, zero, one })
-}
+impl SlotHeads {
+    /// Syncs both slots of a topic, so what is read stays, and reads their heads.
+    pub fn read<S: Shelf>(shelf: &mut S, topic: u16) -> Result<SlotHeads, DeviceError>
+        ensures heads { (S.disk shelf.old).honest → IfOk result (λ heads. HaveHeads heads (S.disk shelf.new)) }
+        ensures topic { IfOk result (λ heads. heads_topic heads ≡ topic) }
+        ensures seen { (S.disk shelf.old).honest → OnOk result (Same (S.disk shelf.old).seen (S.disk shelf.new).seen) }
+        ensures others { (S.disk shelf.old).honest → Agree (λ f. ¬ SlotsOf topic f) (S.disk shelf.old).seen (S.disk shelf.new).seen }
+        ensures any_moment { (S.disk shelf.old).honest → Leaves (S.disk shelf.old).may_leave (S.disk shelf.old) (S.disk shelf.new) }
+        ensures cause { IsErr result → Failed (S.disk shelf.old) (S.disk shelf.new) }
+        ensures kept { Kept (S.disk shelf.old) (S.disk shelf.new) }
+    {
+        let slot = CursorSlot::Zero;
+        let zero = LogHead::read(shelf, FileId::Slot { topic, slot })?;
+        let slot = CursorSlot::One;
+        let one = LogHead::read(shelf, FileId::Slot { topic, slot })?;
+        Ok(SlotHeads { topic, zero, one })
+    }
 
-// The head of a slot.
-fn head_in(heads: &SlotHeads, slot: CursorSlot) -> &LogHead
-    ensures head { result.now ≡ head_in heads.now slot }
-    ensures file { head_file result.now ≡ FileId.Slot (heads_topic heads.now) slot }
-{
-    match slot {
-        CursorSlot::Zero => &heads.zero,
-        CursorSlot::One => &heads.one,
+    /// The topic whose slots they are of.
+    pub fn topic(&self) -> u16
+        ensures { result ≡ heads_topic self.now }
+    {
+        self.topic
+    }
+
+    /// The head of a slot.
+    pub fn head(&self, slot: CursorSlot) -> &LogHead
+        ensures head { result.now ≡ head_in self.now slot }
+        ensures file { head_file result.now ≡ FileId.Slot (heads_topic self.now) slot }
+    {
+        match slot {
+            CursorSlot::Zero => &self.zero,
+            CursorSlot::One => &self.one,
+        }
+    }
+
+    /// The slot that is read, as the headers of both say; none where they are refused.
+    pub fn counting(&self) -> Option<CursorSlot>
+        ensures { (image : Image) → IsHead (head_in self.now CursorSlot.Zero) image → IsHead (head_in self.now CursorSlot.One) image → IsCounting (heads_topic self.now) image result }
+    {
+        match choose(header_of(&self.zero), header_of(&self.one)) {
+            Choice::Refuse(_, _) => None,
+            Choice::Read(slot, _) => Some(slot),
+            Choice::ReadZero(_) => Some(CursorSlot::Zero),
+        }
     }
 }
 
@@ -84,7 +106,7 @@ fn open_from<S: Shelf, F: Fold>(
     match choose(header_of(&heads.zero), header_of(&heads.one)) {
         Choice::Refuse(slot, fault) => Err(refusal_of(topic, slot, fault)),
         Choice::Read(slot, spare) => {
-            let log = GatedLog::open_from(alloc, shelf, head_in(heads, slot), fold)?;
+            let log = GatedLog::open_from(alloc, shelf, heads.head(slot), fold)?;
             let failed = log.is_failed();
             Ok(TwoSlot {
                 topic,
@@ -129,7 +151,29 @@ impl TwoSlot {
         ensures any_moment { (S.disk shelf.old).honest → Leaves (S.disk shelf.old).may_leave (S.disk shelf.old) (S.disk shelf.new) }
         ensures kept { Kept (S.disk shelf.old) (S.disk shelf.new) }
     {
-        let heads = read_heads(shelf, topic)?;
+        let heads = SlotHeads::read(shelf, topic)?;
         open_from(alloc, shelf, &heads, fold)
+    }
+
+    /// Goes on with an opening whose heads were read, as `open_with`.
+    pub fn open_from<S: Shelf, F: Fold>(
+        alloc: Global,
+        shelf: &mut S,
+        heads: &SlotHeads,
+        fold: &mut F,
+    ) -> Result<TwoSlot, Refusal>
+        ensures opened { (S.disk shelf.old).honest → HaveHeads heads.now (S.disk shelf.old) → F.holds fold.old [] →
+            IfOk result (λ slots. (bodies : Bodies) × Settled (Holds slots) (S.disk shelf.new) bodies × F.holds fold.new (record { number = generation_of slots; bodies = bodies } ∷ [])) }
+        ensures refused { (S.disk shelf.old).honest → HaveHeads heads.now (S.disk shelf.old) → F.holds fold.old [] →
+            IfErr result (λ e. (e ≡ Refusal.NoMemory) ⊎ ((e ≡ Refusal.Device) ⊎ IsSlotsFault (behind (F.form (F.rule fold.old)) []) (heads_topic heads.now) (S.disk shelf.old).seen e)) }
+        ensures rule { F.rule fold.new ≡ F.rule fold.old }
+        ensures topic { IfOk result (λ slots. topic_of slots ≡ heads_topic heads.now) }
+        ensures works { IfOk result (λ slots. failed slots ≡ false) }
+        ensures cause { IsErrOf result Refusal.Device → Failed (S.disk shelf.old) (S.disk shelf.new) }
+        ensures seen { (S.disk shelf.old).honest → Same (S.disk shelf.old).seen (S.disk shelf.new).seen }
+        ensures any_moment { (S.disk shelf.old).honest → Leaves (S.disk shelf.old).may_leave (S.disk shelf.old) (S.disk shelf.new) }
+        ensures kept { Kept (S.disk shelf.old) (S.disk shelf.new) }
+    {
+        open_from(alloc, shelf, heads, fold)
     }
 }

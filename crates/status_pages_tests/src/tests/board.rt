@@ -49,6 +49,7 @@ impl Board for Plain {
         Ok(Some(TopicReport {
             number,
             name: self.name.clone()?,
+            base: 4,
             segments: if number == 0 { Some(2) } else { None },
             summary: TopicSummary {
                 entries: 20,

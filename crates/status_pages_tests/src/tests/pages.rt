@@ -8,10 +8,10 @@ fn lines_are_those_of_inspect(rt: HostRuntime) -> Result<(), Fail> {
     let mut page = Vec::new(rt.alloc());
     print_status(rt.alloc(), &board, &mut page)?;
     let wanted = concat!(
-        "T    0         20      2 persistent://a/b/c\n",
+        "T    0         20          4      2 persistent://a/b/c\n",
         "S    0         25      3 a\"\\\n<b>&'\n",
         "S    0          7      3 z\n",
-        "T    1         20      ? persistent://a/b/c\n",
+        "T    1         20          4      ? persistent://a/b/c\n",
         "S    1         25      3 a\"\\\n<b>&'\n",
         "S    1          7      3 z\n",
     );
@@ -44,6 +44,7 @@ fn metrics_are_in_the_format_of_prometheus(rt: HostRuntime) -> Result<(), Fail> 
         " counter\nzephyrslate_flushes_total{topic=\"persistent://a/b/c\"} 6\n",
         " counter\nzephyrslate_committed_bytes_total{topic=\"persistent://a/b/c\"} 700\n",
         "\nzephyrslate_entries{topic=\"persistent://a/b/c\"} 20\n",
+        " gauge\nzephyrslate_trimmed_entries{topic=\"persistent://a/b/c\"} 4\n",
         " gauge\nzephyrslate_segments{topic=\"persistent://a/b/c\"} 2\n# HELP",
         "\nzephyrslate_waiting_entries{topic=\"persistent://a/b/c\"} 4\n",
         "\nzephyrslate_waiting_bytes{topic=\"persistent://a/b/c\"} 4096\n",
@@ -78,7 +79,7 @@ fn markup_of_names_is_text(rt: HostRuntime) -> Result<(), Fail> {
     for text in [
         "a&quot;\\\n&lt;b&gt;&amp;&#39;",
         "Serving since 2023-11-14T22:13:20Z. Clients connected: 3.",
-        "failed</td>",
+        "failed</td><td>20</td><td>4</td><td>2</td>",
         "<tr><td>0</td><td>12</td><td>8</td><td>31</td><td>30</td><td>6</td><td>700</td></tr>",
         "Key_Shared",
     ] {

@@ -78,6 +78,7 @@ fn subscribe<G: Gauge>(
         gauge,
         InitialPosition::Earliest,
         0,
+        0,
     )?;
     Ok(true)
 }

@@ -1,12 +1,12 @@
 // A flush in three parts, each under one lock: a topic's batch is taken, written to its stores, and ended in the topic.
-ghost use Rattle.std.specs.Prelude.{◌≡◌, ◌⊎◌, ◌+◌, ◌-◌, ◌<◌, ◌≤◌, ◌^◌, true, false, length, Ok, Err, IfOk, IfErr, IfSome, OnOk, IsErr, IsErrOf, is_ok};
+ghost use Rattle.std.specs.Prelude.{◌≡◌, ◌⊎◌, ◌+◌, ◌-◌, ◌<◌, ◌≤◌, ◌^◌, true, false, length, Ok, Err, IfOk, IfErr, IfSome, IsErr, IsErrOf, is_ok};
 ghost use Rattle.disk.specs.Disk.{Kept, Failed};
 ghost use Rattle.disk.specs.Areas.{OfTopic, Within};
-ghost use Rattle.managed_ledger.specs.Entries.{Ledger, lengthened};
+ghost use Rattle.managed_ledger.specs.Entries.{Ledger, lengthened, trimmed};
 ghost use Rattle.records.specs.Records.{after_all};
 ghost use Rattle.records.specs.Maps.{Kept as KeptSubscriptions};
 ghost use Rattle.topic_stores.specs.Views.{Settled};
-ghost use Rattle.topic_stores.specs.Writing.{IsLeft, StandsFor};
+ghost use Rattle.topic_stores.specs.Writing.{IsLeft, IsTrim, StandsFor};
 ghost use Rattle.topic_core.specs.Flush.{TakeStep, awaits};
 ghost use Rattle.topic_core.specs.Standing.{IsFor};
 ghost use Rattle.topic_core.specs.State.{waiting_bytes};
@@ -63,7 +63,7 @@ pub struct Flushed {
 /// go: its topic ends the flush.
 pub struct Written<K: Tallies> {
     batch: Batch,
-    end: Result<(), FlushFault>,
+    end: Result<u64, FlushFault>,
     added: u64,
     share: Share<DurableByTopics<K>>,
     ghost counted: { (share.amount ≡ added) × (share.parts ≡ 1) },
@@ -74,7 +74,7 @@ pub struct Written<K: Tallies> {
 #[derive(Drop)]
 pub struct Unawaited<K: Tallies> {
     batch: Batch,
-    end: Result<(), FlushFault>,
+    end: Result<u64, FlushFault>,
     added: u64,
     share: Share<DurableByTopics<K>>,
 }
@@ -146,7 +146,7 @@ impl<K: Tallies> CountedTopic<K> {
         let before = core.summary().waiting_bytes;
         let ended = core.finish(batch, end_of(end));
         match end {
-            Ok(()) => share.transfer(committed, added),
+            Ok(_) => share.transfer(committed, added),
             Err(FlushFault::NoMemory) => {}
             Err(FlushFault::Device | FlushFault::Apart) => {
                 share.transfer(behind, added);
@@ -161,7 +161,8 @@ impl<K: Tallies> CountedTopic<K> {
 
 impl<T: TopicStore, S: Shelf + Drop, K: Tallies> CountedStores<T, S, K> {
     /// Writes a batch, which a flusher took of the stores' topic, and counts what became durable for the stores and for the flusher.
-    /// A batch of another topic, or one that doesn't fit what the stores remember, isn't written.
+    /// It ends with where their ledger begins then, which is trimmed up to the batch's limit at most. A batch of another topic, or
+    /// one that doesn't fit what the stores remember, isn't written.
     pub fn write<R: Wait>(
         &mut self,
         rt: &R,
@@ -174,16 +175,18 @@ impl<T: TopicStore, S: Shelf + Drop, K: Tallies> CountedStores<T, S, K> {
         ensures counted { (T.view self.new.stores).count ≡ (T.view self.old.stores).count + result.added }
         ensures apart { IsErrOf result.end Apart → (self.new.stores ≡ self.old.stores) × (self.new.shelf ≡ self.old.shelf) }
         ensures written { (ledger : Ledger) (kept : KeptSubscriptions) → Settled (T.view self.old.stores) (S.disk self.old.shelf) ledger kept →
-            OnOk result.end (Settled (T.view self.new.stores) (S.disk self.new.shelf) (lengthened ledger taken.batch.entries.items) (after_all taken.batch.changes.items kept)) }
+            IfOk result.end (λ base. Settled (T.view self.new.stores) (S.disk self.new.shelf) (trimmed base (lengthened ledger taken.batch.entries.items)) (after_all taken.batch.changes.items kept)) }
+        ensures trimmed { (ledger : Ledger) (kept : KeptSubscriptions) → Settled (T.view self.old.stores) (S.disk self.old.shelf) ledger kept →
+            IfOk result.end (λ base. IsTrim (lengthened ledger taken.batch.entries.items) taken.batch.trim (after_all taken.batch.changes.items kept) (trimmed base (lengthened ledger taken.batch.entries.items))) }
         ensures unwritten { (ledger : Ledger) (kept : KeptSubscriptions) → Settled (T.view self.old.stores) (S.disk self.old.shelf) ledger kept →
             IsErrOf result.end NoMemory → Settled (T.view self.new.stores) (S.disk self.new.shelf) ledger kept }
         ensures no_memory { IsErrOf result.end NoMemory → self.new.shelf ≡ self.old.shelf }
 
         // A crash at any moment of the call leaves the old entries and subscriptions, the ledger with the entries of the batch,
-        // or both with all of it; files of other topics are as they were.
+        // or both with all of it, where the ledger may be trimmed; files of other topics are as they were.
         ensures within { (ledger : Ledger) (kept : KeptSubscriptions) → Settled (T.view self.old.stores) (S.disk self.old.shelf) ledger kept →
             IsErrOf result.end Apart ⊎ Within (OfTopic (T.view self.old.stores).topic)
-            (StandsFor (T.stands (T.view self.old.stores).topic) (IsLeft ledger kept taken.batch.entries.items taken.batch.changes.items))
+            (StandsFor (T.stands (T.view self.old.stores).topic) (IsLeft ledger kept taken.batch.entries.items taken.batch.changes.items taken.batch.trim))
             (S.disk self.old.shelf) (S.disk self.new.shelf) }
 
         ensures topic { (T.view self.new.stores).topic ≡ (T.view self.old.stores).topic }
@@ -220,32 +223,32 @@ impl<T: TopicStore, S: Shelf + Drop, K: Tallies> CountedStores<T, S, K> {
 }
 
 /// The end of a write, as its topic takes it.
-fn end_of(end: Result<(), FlushFault>) -> Result<(), WriteError>
+fn end_of(end: Result<u64, FlushFault>) -> Result<u64, WriteError>
     ensures { result ≡ end_of end }
 {
     match end {
-        Ok(()) => Ok(()),
+        Ok(base) => Ok(base),
         Err(FlushFault::NoMemory) => Err(WriteError::NoMemory),
         Err(FlushFault::Device | FlushFault::Apart) => Err(WriteError::Device),
     }
 }
 
 /// How many entries a flush committed, or why it did not.
-fn told(end: Result<(), FlushFault>, ended: Result<usize, WriteError>) -> Result<usize, FlushFault>
+fn told(end: Result<u64, FlushFault>, ended: Result<usize, WriteError>) -> Result<usize, FlushFault>
     ensures { result ≡ told_of end ended }
 {
     match end {
-        Ok(()) => Ok(ended.unwrap_or(0)),
+        Ok(_) => Ok(ended.unwrap_or(0)),
         Err(why) => Err(why),
     }
 }
 
 /// How the write of a batch ended.
-fn fault_of(end: Result<(), WriteError>) -> Result<(), FlushFault>
+fn fault_of(end: Result<u64, WriteError>) -> Result<u64, FlushFault>
     ensures { result ≡ fault_of end }
 {
     match end {
-        Ok(()) => Ok(()),
+        Ok(base) => Ok(base),
         Err(WriteError::NoMemory) => Err(FlushFault::NoMemory),
         Err(WriteError::Device) => Err(FlushFault::Device),
     }

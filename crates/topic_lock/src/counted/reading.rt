@@ -1,10 +1,10 @@
 // A message for a consumer: its entry is read under the lock of the topic's stores alone, and given under the topic's.
-ghost use Rattle.std.specs.Prelude.{◌≡◌, ◌≢◌, ◌<◌, ℕ, false, None, Ok, IfSome, IsErr, IsErrOf};
+ghost use Rattle.std.specs.Prelude.{◌≡◌, ◌≢◌, ◌<◌, ◌≤◌, ℕ, false, None, Ok, IfSome, IsErr, IsErrOf};
 ghost use Rattle.disk.specs.Disk.{Same, Leaves, Kept, Failed};
 ghost use Rattle.gated_log.specs.declared.read_error.ReadError.TheVariants.{Device};
 ghost use Rattle.subscriptions.specs.Steps.{IsLearnt, IsLooked};
 ghost use Rattle.managed_ledger.specs.Entries.{end_of};
-ghost use Rattle.topic_core.specs.State.{Topic, CountsStay};
+ghost use Rattle.topic_core.specs.State.{Topic, CountsStay, floor};
 ghost use Rattle.topic_core.specs.Steps.{learnt};
 ghost use Rattle.topic_core.specs.Dispatch.{IsReadOf};
 ghost use Rattle.topic_core.specs.Standing.{GoesOn, Phase, Standing};
@@ -37,10 +37,10 @@ pub struct StoresRead {
 }
 
 impl<T: TopicStore, S: Shelf + Drop, K: Tallies> CountedStores<T, S, K> {
-    /// Reads the entry of a position, with one read of the device.
+    /// Reads the entry of a position, which is there where it is committed and no trim may take it, with one read of the device.
     pub fn read_at(&mut self, position: u64) -> StoresRead
         ensures about { (result.topic ≡ (T.view self.old.stores).topic) × (result.read.position ≡ position) }
-        ensures read { (phase : Phase) (core : Topic) → Standing T.stands phase core (T.view self.old.stores) (S.disk self.old.shelf) → position < core.committed → IsReadOf core.ledger result.read }
+        ensures read { (phase : Phase) (core : Topic) → Standing T.stands phase core (T.view self.old.stores) (S.disk self.old.shelf) → floor core ≤ position → position < core.committed → IsReadOf core.ledger result.read }
         ensures stores { self.new.stores ≡ self.old.stores }
         ensures cause { (T.view self.old.stores).failed ≡ false → IsErrOf result.read.entry Device → Failed (S.disk self.old.shelf) (S.disk self.new.shelf) }
         ensures seen { (S.disk self.old.shelf).honest → Same (S.disk self.old.shelf).seen (S.disk self.new.shelf).seen }

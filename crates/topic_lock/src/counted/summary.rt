@@ -19,6 +19,13 @@ impl<K: Tallies> CountedTopic<K> {
         self.core.summary()
     }
 
+    /// The position of the first entry that is still there.
+    pub fn base(&self) -> u64
+        ensures { result ≡ self.now.core.ledger.base }
+    {
+        self.core.base()
+    }
+
     /// What it has done beside accepting SENDs and handing out receipts.
     pub fn activity(&self) -> Activity
         ensures { result ≡ self.now.activity }

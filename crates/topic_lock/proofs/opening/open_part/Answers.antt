@@ -13,4 +13,4 @@ returns-clause-stands g c = λ honest.
     let e = c.in-Ok.ensures in
     let store = c.in-Ok.opened.1 in
     opened_standing g.T.TopicStore.stands c.args.per_ledger c.in-Ok.opened.0 (g.T.TopicStore.view store) e.opened.1 (g.S.Shelf.disk c.open.new.shelf)
-    (g.met.T.TopicStore.laws store) (e.settled honest) e.matched
+    (g.met.T.TopicStore.laws store) (g.met.T.TopicStore.stands_below (g.T.TopicStore.view store).topic) (e.settled honest) e.matched

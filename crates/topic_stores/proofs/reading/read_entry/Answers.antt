@@ -5,13 +5,13 @@ use Rattle.topic_stores.proofs.ReadEntry.{not_missing, not_long}
 use Rattle.topic_stores.proofs.reading.read_entry.Goals as goal
 
 pub returns-in_default-clause-refused : goal.returns-in_default-clause-refused
-returns-in_default-clause-refused g c = λ ledger honest holds there within.
+returns-in_default-clause-refused g c = λ ledger honest holds there_still within.
     let seen = (g.S.Shelf.disk c.args.shelf.now).seen in
     let read = subst (λ o. option_map (λ entry. entry.items) o ≡ entry_at ledger c.args.position) c.in_default.is (c.in_ok-found.ensures.entry ledger honest holds) in
-    absurd (not_missing ledger c.args.position there within read)
+    absurd (not_missing ledger c.args.position there_still within read)
 
 pub returns-then-len-gt-LONGEST_ENTRY-clause-refused : goal.returns-then-len-gt-LONGEST_ENTRY-clause-refused
-returns-then-len-gt-LONGEST_ENTRY-clause-refused g c = λ ledger honest holds there within.
+returns-then-len-gt-LONGEST_ENTRY-clause-refused g c = λ ledger honest holds there_still within.
     let seen = (g.S.Shelf.disk c.args.shelf.now).seen in
     let entry = c.in-Some.entry in
     let read = subst (λ o. option_map (λ entry. entry.items) o ≡ entry_at ledger c.args.position) c.in-Some.is (c.in_ok-found.ensures.entry ledger honest holds) in

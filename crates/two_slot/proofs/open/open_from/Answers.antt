@@ -25,11 +25,11 @@ returns-in_err-log-in-Read-clause-refused g c = λ honest are held.
     let form = behind (g.F.Fold.form (g.F.Fold.rule c.args.fold.now)) [] in
     let by = Read c.in-Read.slot c.in-Read.spare in
     let says = says_of heads disk c.header_of.result c.header_of-2.result by are c.header_of.ensures c.header_of-2.ensures (sym c.in-Read.is ∙ c.choose.ensures) in
-    let has = subst (λ (h : LogHead). HasHead h disk) (sym c.head_in.ensures.head) (head_there heads disk c.in-Read.slot are) in
+    let has = subst (λ (h : LogHead). HasHead h disk) (sym c.head.ensures.head) (head_there heads disk c.in-Read.slot are) in
     let p = err_from_is_err_and c.from_residual.result c.from_residual.ensures.1 in
     let e = c.in_err-log-in-Read.field-0.0 in
-    let told = told_of (λ e. IsFault form c.head_in.result.now.file (disk.seen c.head_in.result.now.file) e) (λ e. IsSlotsFault form heads.topic disk.seen e) e
-    (λ is. fault_of form heads.topic disk c.header_of.result c.header_of-2.result by e says (subst (λ (f : FileId). IsFault form f (disk.seen f) e) c.head_in.ensures.file is))
+    let told = told_of (λ e. IsFault form c.head.result.now.file (disk.seen c.head.result.now.file) e) (λ e. IsSlotsFault form heads.topic disk.seen e) e
+    (λ is. fault_of form heads.topic disk c.header_of.result c.header_of-2.result by e says (subst (λ (f : FileId). IsFault form f (disk.seen f) e) c.head.ensures.file is))
     (c.in_err-log-in-Read.ensures.refused [] honest has held) in
     rw (p.1) (subst (λ (e : Refusal). Told (λ e. IsSlotsFault form heads.topic disk.seen e) e) (sym p.2) told)
 
@@ -40,7 +40,7 @@ returns-in_ok-log-in-Read-clause-opened g c = λ honest are held.
     let heads = c.args.heads.now in
     let by = Read c.in-Read.slot c.in-Read.spare in
     let says = says_of heads disk c.header_of.result c.header_of-2.result by are c.header_of.ensures c.header_of-2.ensures (sym c.in-Read.is ∙ c.choose.ensures) in
-    let has = subst (λ (h : LogHead). HasHead h disk) (sym c.head_in.ensures.head) (head_there heads disk c.in-Read.slot are) in
+    let has = subst (λ (h : LogHead). HasHead h disk) (sym c.head.ensures.head) (head_there heads disk c.in-Read.slot are) in
     let opened = c.in_ok-log-in-Read.ensures.opened [] held in
     let settled = opened.1 honest has in (
       opened.0,

@@ -1,4 +1,4 @@
-use Rattle.std.proofs.Common.{◌≡◌, Some, inl, inr, refl, ap, subst, ◌∙◌}
+use Rattle.std.proofs.Common.{◌≡◌, ℕ, Some, inl, inr, refl, ap, subst, ◌∙◌}
 use Rattle.std.specs.Prelude.{IfSome, Result}
 use Rattle.topic_stores.specs.declared.error.WriteError.{WriteError}
 use Rattle.node.specs.Flights.{stage_of}
@@ -21,20 +21,20 @@ returns-in-Take-clause-step g c =
 pub returns-in-Take-clause-stands : goal.returns-in-Take-clause-stands
 returns-in-Take-clause-stands g c =
     let e = c.take-taken.ensures in
-    λ s. take_stands g.met.T.TopicStore.laws c.args.self.now c.take-taken.new.self (g.S.Shelf.disk c.args.shelf.now) c.take-taken.result e.stores e.step s
+    λ s. take_stands g.met.T.TopicStore.laws c.args.self.now c.take-taken.new.self (g.S.Shelf.disk c.args.shelf.now) c.take-taken.result c.show_sound.ensures.trims e.stores e.step s
 
 pub returns-in-Take-clause-within : goal.returns-in-Take-clause-within
 returns-in-Take-clause-within g c =
     let h = c.args.self.now in
     let topic = (g.T.TopicStore.view h.stores).topic in
-    λ s. rw c.in-Take.is (untouched g.S.Shelf.disk (g.T.TopicStore.stands topic) h.core topic c.args.shelf.now c.args.shelf.now s.left refl)
+    λ s. rw c.in-Take.is (h.core.ledger.base, inl refl, untouched g.S.Shelf.disk (g.T.TopicStore.stands topic) h.core topic c.args.shelf.now c.args.shelf.now s.left refl)
 
 pub returns-in-Some-clause-step : goal.returns-in-Some-clause-step
 returns-in-Some-clause-step g c =
     let h = c.args.self.now in
     let next = c.write.new.self in
     let e = c.write.ensures in
-    let stages = subst (λ r. IfSome r (λ (ended : Result (Unit {0}) WriteError). (stage_of h.flight ≡ Taken) × (stage_of next.flight ≡ Written ended))) c.in-Some.is e.written in
+    let stages = subst (λ r. IfSome r (λ (ended : Result ℕ WriteError). (stage_of h.flight ≡ Taken) × (stage_of next.flight ≡ Written ended))) c.in-Some.is e.written in
     λ _. rw c.in-Write.is (inl (record {
       was = stages.0;
       result = c.in-Some.written;
@@ -71,13 +71,13 @@ returns-in-Some-finish-clause-stands g c =
     let next = c.finish.new.self in
     let e = c.finish.ensures in
     let part = subst (λ r. IfSome r (λ ended. FinishesPart h.core (stage_of h.flight) ended next.core (stage_of next.flight))) c.in-Some-finish.is e.finished in
-    λ s. finish_stands g.met.T.TopicStore.laws h next (g.S.Shelf.disk c.args.shelf.now) c.in-Some-finish.finished e.stores part s
+    λ s. finish_stands g.met.T.TopicStore.laws h next (g.S.Shelf.disk c.args.shelf.now) c.in-Some-finish.finished c.show_sound.ensures.trims e.stores part s
 
 pub returns-in-Some-finish-clause-within : goal.returns-in-Some-finish-clause-within
 returns-in-Some-finish-clause-within g c =
     let h = c.args.self.now in
     let topic = (g.T.TopicStore.view h.stores).topic in
-    λ s. rw c.in-Finish.is (untouched g.S.Shelf.disk (g.T.TopicStore.stands topic) h.core topic c.args.shelf.now c.args.shelf.now s.left refl)
+    λ s. rw c.in-Finish.is (h.core.ledger.base, inl refl, untouched g.S.Shelf.disk (g.T.TopicStore.stands topic) h.core topic c.args.shelf.now c.args.shelf.now s.left refl)
 
 pub returns-in-None-finish-clause-step : goal.returns-in-None-finish-clause-step
 returns-in-None-finish-clause-step g c =
@@ -95,7 +95,7 @@ pub returns-in-None-finish-clause-within : goal.returns-in-None-finish-clause-wi
 returns-in-None-finish-clause-within g c =
     let h = c.args.self.now in
     let topic = (g.T.TopicStore.view h.stores).topic in
-    λ s. rw c.in-Finish.is (untouched g.S.Shelf.disk (g.T.TopicStore.stands topic) h.core topic c.args.shelf.now c.args.shelf.now s.left refl)
+    λ s. rw c.in-Finish.is (h.core.ledger.base, inl refl, untouched g.S.Shelf.disk (g.T.TopicStore.stands topic) h.core topic c.args.shelf.now c.args.shelf.now s.left refl)
 
 pub returns-in-Reopen-clause-step : goal.returns-in-Reopen-clause-step
 returns-in-Reopen-clause-step g c =
@@ -104,3 +104,13 @@ returns-in-Reopen-clause-step g c =
 
 pub returns-in-Reopen-clause-tells : goal.returns-in-Reopen-clause-tells
 returns-in-Reopen-clause-tells g c = rw (c.in-Reopen.is, c.verdict_for.ensures) c.reopen-reopened.ensures.tells
+
+-- but of a whole flush an event trims nothing
+pub returns-in-Some-clause-within : goal.returns-in-Some-clause-within
+returns-in-Some-clause-within g c = λ s. rw c.in-Write.is (c.args.self.now.core.ledger.base, inl refl, c.write.ensures.within s)
+
+pub returns-in-None-clause-within : goal.returns-in-None-clause-within
+returns-in-None-clause-within g c = λ s. rw c.in-Write.is (c.args.self.now.core.ledger.base, inl refl, c.write.ensures.within s)
+
+pub returns-in-Reopen-clause-within : goal.returns-in-Reopen-clause-within
+returns-in-Reopen-clause-within g c = λ s. rw c.in-Reopen.is (c.args.self.now.core.ledger.base, inl refl, c.reopen-reopened.ensures.within s)

@@ -1,6 +1,6 @@
-use Rattle.std.proofs.Common.{◌≡◌, Some, subst, rules}
-use Rattle.std.specs.Prelude.{Option, OnOk}
-use Rattle.managed_ledger.specs.Entries.{lengthened}
+use Rattle.std.proofs.Common.{◌≡◌, ℕ, Some, subst, rules}
+use Rattle.std.specs.Prelude.{Option, IfOk}
+use Rattle.managed_ledger.specs.Entries.{lengthened, trimmed}
 use Rattle.records.specs.Records.{after_all}
 use Rattle.topic_stores.specs.Views.{Settled}
 use Rattle.topic_core.specs.Standing.{Match, Standing}
@@ -35,7 +35,7 @@ returns-in-Some-Taken-clause-stands g c =
     λ s.
     let now = subst (λ (f : Option Flight). Standing stands (phase_at h.core.failed (stage_of f)) h.core v d0) is s in
     written_standing stands h.core batch is_for (fits h.core batch is_for) v w d0 d1 e.topic c.write-written.result now e.kept e.remembers
-    (λ done ok. subst (λ r. OnOk r (Settled w d1 (lengthened h.core.ledger batch.entries.items) (after_all batch.changes.items h.core.kept))) ok (e.written h.core.ledger h.core.kept now.holds))
+    (λ base ok. subst (λ r. IfOk r (λ (b : ℕ). Settled w d1 (trimmed b (lengthened h.core.ledger batch.entries.items)) (after_all batch.changes.items h.core.kept))) ok (e.written h.core.ledger h.core.kept now.holds))
     (λ none. e.unwritten h.core.ledger h.core.kept now.holds none) (e.within h.core.ledger h.core.kept now.holds)
 
 pub returns-in-Some-Taken-clause-within : goal.returns-in-Some-Taken-clause-within

@@ -5,7 +5,7 @@ use Rattle.catalog.specs.Catalogs.{per_ledger}
 use Rattle.session.specs.Broker.{topic_at}
 use Rattle.node.specs.Opening.{TellsOn}
 use Rattle.node.specs.Standing.{broker_of}
-use Rattle.node.proofs.Frames.{keep_numbers, topic_was, topic_now, of_number, of_number_within, stand_then, names_then, settled_then, work_leaves, beyond_leaves, here}
+use Rattle.node.proofs.Frames.{keep_numbers, topic_was, topic_now, of_number, of_number_within, stand_then, names_then, settled_then, work_leaves, beyond_leaves}
 use Rattle.node.proofs.Opening.{unknown_on, tells_at}
 use Rattle.node.proofs.Working as working
 use Rattle.node.proofs.node.Node.on_topic.Goals as goal
@@ -52,7 +52,7 @@ returns-clause-stands g c =
     let e = c.work-verdict.ensures in
     λ s.
     let here = e.stands (s.each k h was) in
-    let within = of_number_within t k h was _ _ _ (e.within (s.each k h was)) in
+    let within = of_number_within t k h was _ _ _ (e.within (s.each k h was)).2 in
     record {
       honest = here.honest;
       each = stand_then disk g.met.T.TopicStore.laws g.met.T.TopicStore.stands_local t k low h next was _ d1 within here s;
@@ -70,13 +70,12 @@ returns-clause-any_moment g c =
     let was = slice_get_read t.held.items (length t.held.items) k h refl low c.index_mut.ensures.value in
     let next = c.work-verdict.new.self in
     let disk = g.S.Shelf.disk in
-    λ s. here g.T.TopicStore.stands _ _ _
-    (work_leaves disk g.met.T.TopicStore.laws g.met.T.TopicStore.stands_local t k low h next was c.args.event (disk c.work-verdict.new.shelf) (c.work-verdict.ensures.within (s.each k h was)) s)
+    λ s. work_leaves disk g.met.T.TopicStore.laws g.met.T.TopicStore.stands_local t k low h next was c.args.event (disk c.work-verdict.new.shelf) (c.work-verdict.ensures.within (s.each k h was)) s
 
 pub returns-then-topic-count-clause-any_moment : goal.returns-then-topic-count-clause-any_moment
 returns-then-topic-count-clause-any_moment g c =
     let t = c.args.self.now.topics in
-    λ s. here g.T.TopicStore.stands _ _ _ (beyond_leaves g.S.Shelf.disk t c.args.topic (λ low. omega (arith, low, c.if-topic-count.true, c.count.ensures)) _ s)
+    λ s. beyond_leaves g.S.Shelf.disk t c.args.topic (λ low. omega (arith, low, c.if-topic-count.true, c.count.ensures)) c.args.event s
 
 pub returns-clause-tells : goal.returns-clause-tells
 returns-clause-tells g c =

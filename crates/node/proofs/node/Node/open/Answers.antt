@@ -56,7 +56,7 @@ returns-clause-found g c = λ honest.
     let settled = settled_names d1 d2 catalog (record { seen = λ h. e2.seen h (λ no. cc); any_moment = e2.any_moment; kept = e2.kept }) opened in
     let opens = opens_at g.T.TopicStore.stands c.entries_per_ledger-per_ledger.result (per_ledger catalog) d1.seen d0.seen c.in-Ok-open_topics.held.items c.entries_per_ledger-per_ledger.ensures.number same (e2.found h1) in (
       node_stands g.S.Shelf.disk _ refl settled (e2.stand h1),
-      just_opened (per_ledger catalog) c.args.site.url (remembered catalog) c.in-Ok-open_topics.held.items d0.seen (e2.count ∙ c.len.ensures.count) names opens c.new.result.items d2.faults c.new.ensures.items,
+      just_opened (per_ledger catalog) c.args.site.url (remembered catalog) c.in-Ok-open_topics.held.items d0.seen (e2.count ∙ c.len.ensures.count) names opens g.met.T.TopicStore.stands_below c.new.result.items d2.faults c.new.ensures.items,
     )
 
 pub returns-clause-opened : goal.returns-clause-opened
@@ -76,7 +76,7 @@ returns-clause-opened g c = λ old rest url.
     let opens = opens_at g.T.TopicStore.stands c.entries_per_ledger-per_ledger.result (per_ledger catalog) d1.seen d0.seen c.in-Ok-open_topics.held.items c.entries_per_ledger-per_ledger.ensures.number same (e2.found h1) in (
       node_stands g.S.Shelf.disk _ refl settled (e2.stand h1),
       state_crash g.T.TopicStore.stands g.met.T.TopicStore.stands_one old _ d0.seen (rest.left d0.seen (g.met.S.Shelf.lawful c.args.site.shelf honest).leaves_seen)
-          (just_opened (per_ledger catalog) c.args.site.url (remembered catalog) c.in-Ok-open_topics.held.items d0.seen (e2.count ∙ c.len.ensures.count) names opens c.new.result.items d2.faults c.new.ensures.items) (few_each (per_ledger catalog) c.args.site.url (remembered catalog) c.in-Ok-open_topics.held.items d0.seen (e2.count ∙ c.len.ensures.count) names opens) url (omega (arith, rest.faults, e1.kept.faults, e2.kept.faults)),
+          (just_opened (per_ledger catalog) c.args.site.url (remembered catalog) c.in-Ok-open_topics.held.items d0.seen (e2.count ∙ c.len.ensures.count) names opens g.met.T.TopicStore.stands_below c.new.result.items d2.faults c.new.ensures.items) (few_each (per_ledger catalog) c.args.site.url (remembered catalog) c.in-Ok-open_topics.held.items d0.seen (e2.count ∙ c.len.ensures.count) names opens g.met.T.TopicStore.stands_below) url (omega (arith, rest.faults, e1.kept.faults, e2.kept.faults)),
     )
 
 pub returns-clause-any_moment : goal.returns-clause-any_moment

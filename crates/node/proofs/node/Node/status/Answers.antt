@@ -28,6 +28,7 @@ returns-clause-status g c = λ stands.
       e.number,
       name,
       e.entries ∙ sym (stands.each k h was).counted ∙ ap (λ (u : Topic). end_of u.ledger) (sym at),
+      e.base ∙ ap (λ (u : Topic). u.ledger.base) (sym at),
       subst (λ (u : Topic). AreStatuses u.subs.subs c.in_ok-status.status.subscriptions.items) (sym at) e.subscriptions,
     )
 

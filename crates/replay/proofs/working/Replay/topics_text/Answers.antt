@@ -1,10 +1,9 @@
 use Rattle.std.proofs.Common.{rules, ◌≡◌, ◌∙◌, ◌++◌, ◌+◌, ℕ, List, length, Option, Some, sym, ap, subst, length-append, arith}
 use Rattle.node.specs.declared.status.TopicStatus.{TopicStatus}
 use Rattle.disk_mem.specs.Device.{disk_of}
-use Rattle.managed_ledger.specs.Laid.{IsLaidOut}
 use Rattle.node.specs.Driving as node
 use Rattle.admin.specs.Status.{lines_of}
-use Rattle.replay.specs.Replay.{IsCounted}
+use Rattle.replay.specs.Replay.{IsCounted, segments_laid}
 use Rattle.replay.proofs.Counted.{machine_counts}
 use Rattle.replay.proofs.Told.{ToldSoFar, told_more, told_all, lines_have_bytes}
 use Rattle.replay.proofs.working.Replay.topics_text.Goals as goal
@@ -19,8 +18,8 @@ loop-text-preserved c =
           let machine = c.args.self.now.machine in
           let files = (disk_of (node.shelf_in machine)).seen in
           let now : node.StatusOf life.up life.state c.loop-text.topic (Some status) = subst (λ (o : Option TopicStatus). node.StatusOf life.up life.state c.loop-text.topic o) c.in-Some.is (c.in_ok-status.ensures.status life holds) in
-          let segments = subst (λ (o : Option TopicStatus). node.SegmentsTold disk_of (λ topic. IsLaidOut topic 0) machine c.loop-text.topic o) c.in-Some.is (c.in_ok-status.ensures.files life holds) in
-          let counted : IsCounted life.state files c.loop-text.topic status = machine_counts disk_of (λ topic. IsLaidOut topic 0) c.loop-text.topic status machine life holds now segments in
+          let segments = subst (λ (o : Option TopicStatus). node.SegmentsTold disk_of segments_laid machine c.loop-text.topic o) c.in-Some.is (c.in_ok-status.ensures.files life holds) in
+          let counted : IsCounted life.state files c.loop-text.topic status = machine_counts disk_of segments_laid c.loop-text.topic status machine life holds now segments in
           subst (λ (t : List ℕ). ToldSoFar life.up life.state files (c.loop-text.topic + 1) t) (sym same) (told_more life.state files c.loop-text.topic text life.up status now counted (known.told life holds));
       few = let few = known.few in let some = lines_have_bytes status in let long = ap length same ∙ length-append text (lines_of status) in omega (arith, few, some, long);
     }

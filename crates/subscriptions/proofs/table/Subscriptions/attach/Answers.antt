@@ -35,7 +35,7 @@ pub returns-in-Ok-clause-ok : goal.returns-in-Ok-clause-ok
 returns-in-Ok-clause-ok g c =
     let t : Subscriptions = record { subs = c.self.inside.subs.items; changes = c.self.inside.changes.items; slots = c.self.inside.slots } in
     let at : position (is_named c.args.name.now) c.self.inside.subs.items ≡ Some c.in-Some.place = search rules in
-    let start = start_of c.args.initial c.args.committed in
+    let start = start_of c.args.initial c.args.first c.args.committed in
     attaches_some t c.args.name.now c.args.mode c.args.seat (g.G.Gauge.word c.args.gauge) start c.in-Some.place c.index_mut-sub.result.now c.attach.new.self at c.index_mut-sub.ensures.value c.in-Ok.ensures.ok
     ∙ ap (λ (x : Subscriptions). attached x c.args.name.now c.args.mode c.args.seat (g.G.Gauge.word c.args.gauge) start) c.self.view_is
 

@@ -17,6 +17,7 @@ use types.Kit.{‵, raw, ◌$◌, ◌∵◌, !, qed, move, suffices, done}
 use types.Run.{no_more, returns, enter}
 use types.Part.{agg}
 use types.ByLocal.{alloc_all, pass_all, free_all, look_at, sets}
+use denote.Builtin.{u64}
 use denote.Exit.{yes}
 use denote.RattleType.{owns}
 use denote.Ref.{shr_vals, shr_Tells}
@@ -32,7 +33,7 @@ use Rattle.topic_core.specs.contracts.durable.Durable.after as f
 use Rattle.topic_core.proofs.durable.Durable.after.Statement as stated
 use Rattle.topic_core.proofs.durable.Durable.after.Code as code
 use Rattle.topic_core.specs.contracts.durable.Durable as durable
-use Rattle.managed_ledger.specs.Entries.{lengthened}
+use Rattle.managed_ledger.specs.Entries.{lengthened, trimmed}
 use Rattle.bytes.specs.contracts.shared.Bytes as bytes
 use Rattle.std.specs.contracts.alloc.Global as global
 use Rattle.std.specs.contracts.impls.GlobalAllocator.TheImpl.{ghosts}
@@ -40,12 +41,12 @@ use Rattle.records.specs.contracts.record.Record as changed
 use Rattle.records.specs.Records.{after_all}
 
 abbrev stayed : Stays (f.ended).signature.params (f.ended).kept
-stayed = (stay_none_ref (0 ∷ []) tt (plain (λ _. durable.the_row)) yes, (stay_none_slice (1 ∷ []) tt (plain (λ _. (bytes.the_row global.the_row ghosts))) yes, (stay_none_slice (2 ∷ []) tt (plain (λ _. changed.the_row)) yes, tt)))
+stayed = (stay_none_ref (0 ∷ []) tt (plain (λ _. durable.the_row)) yes, (stay_none_slice (1 ∷ []) tt (plain (λ _. (bytes.the_row global.the_row ghosts))) yes, (stay_none_slice (2 ∷ []) tt (plain (λ _. changed.the_row)) yes, (stay_none_ref (3 ∷ []) tt (plain (λ _. u64)) yes, tt))))
 
 module _ {M : Type 1} {𝓤 : Ura M} (𝓛 : Logic 𝓤) (mem : Memory → SProp 𝓤) (run : Routine → Fun 𝓤) (C : Calls 𝓤 𝓛.H) (Λ : Loops 𝓤 𝓛.H) where
   open 𝓛 use {H}
 
-  module _ (κs : Lfts 3) (qs : Shares 3) (a : Args f.signature κs) where
+  module _ (κs : Lfts 4) (qs : Shares 4) (a : Args f.signature κs) where
     abbrev place : Val
     place = vptr a.0.ref_ptr.0 a.0.ref_ptr.1
 
@@ -55,34 +56,37 @@ module _ {M : Type 1} {𝓤 : Ura M} (𝓛 : Logic 𝓤) (mem : Memory → SProp
     abbrev changes : Val
     changes = slice_val a.1.1.0.ref_ptr (length a.1.1.0.now)
 
+    abbrev trim : Val
+    trim = vptr a.1.1.1.0.ref_ptr.0 a.1.1.1.0.ref_ptr.1
+
     abbrev bound : (walk_of 𝓛 f.ended stayed (f.clauses 𝓛 mem run)).Ghost
-    bound = ((κs, qs, tt, a, (place ∷ [], (entries ∷ [], (changes ∷ [], tt)))), tt)
+    bound = ((κs, qs, tt, a, (place ∷ [], (entries ∷ [], (changes ∷ [], (trim ∷ [], tt))))), tt)
 
     abbrev passed : Fml
-    passed = owns (types_at f.signature.params κs) a (place ∷ [], (entries ∷ [], (changes ∷ [], tt)))
+    passed = owns (types_at f.signature.params κs) a (place ∷ [], (entries ∷ [], (changes ∷ [], (trim ∷ [], tt))))
 
     abbrev made : durable.the_row.Denot
-    made = record { ledger = lengthened a.0.now.ledger a.1.0.now; kept = after_all a.1.1.0.now a.0.now.kept }
+    made = record { ledger = trimmed a.1.1.1.0.now (lengthened a.0.now.ledger a.1.0.now); kept = after_all a.1.1.0.now a.0.now.kept }
 
-    walk : length a.1.0.now < 2 ^ 64 → length a.1.1.0.now < 2 ^ 64 → ent 𝓤 (on_entry 𝓛 f.signature κs qs a (place ∷ [], (entries ∷ [], (changes ∷ [], tt)))) (WpFn 𝓤 H C Λ code.function (place ∷ entries ∷ changes ∷ []) ((walk_of 𝓛 f.ended stayed (f.clauses 𝓛 mem run)).post bound))
+    walk : length a.1.0.now < 2 ^ 64 → length a.1.1.0.now < 2 ^ 64 → ent 𝓤 (on_entry 𝓛 f.signature κs qs a (place ∷ [], (entries ∷ [], (changes ∷ [], (trim ∷ [], tt))))) (WpFn 𝓤 H C Λ code.function (place ∷ entries ∷ changes ∷ trim ∷ []) ((walk_of 𝓛 f.ended stayed (f.clauses 𝓛 mem run)).post bound))
     walk fits fit =
-        qed 𝓛 (raw (alive 𝓛 f.signature κs qs) ∷ ‵ passed ∷ []) ∵ enter ! C Λ code.function (place ∷ entries ∷ changes ∷ []) _ $
-        alloc_all ! (λ l. pass_all ! refl ((tt, tt), ((tt, (tt, (record { fits = fits }, tt))), ((tt, (tt, (record { fits = fit }, tt))), tt))) $ sets ! (agg ! (no_more !)) refl (tt, tt) $
+        qed 𝓛 (raw (alive 𝓛 f.signature κs qs) ∷ ‵ passed ∷ []) ∵ enter ! C Λ code.function (place ∷ entries ∷ changes ∷ trim ∷ []) _ $
+        alloc_all ! (λ l. pass_all ! refl ((tt, tt), ((tt, (tt, (record { fits = fits }, tt))), ((tt, (tt, (record { fits = fit }, tt))), ((tt, tt), tt)))) $ sets ! (agg ! (no_more !)) refl (tt, tt) $
         returns ! (look_at ! 0 refl) $ free_all ! refl $
-        suffices ! _ (ends_at 𝓛 f.ended stayed (f.clauses 𝓛 mem run) bound (vstruct vnil) made (tt, (tt, (tt, tt))) (tt, (tt, (tt, tt)))) $
+        suffices ! _ (ends_at 𝓛 f.ended stayed (f.clauses 𝓛 mem run) bound (vstruct vnil) made (tt, (tt, (tt, (tt, tt)))) (tt, (tt, (tt, (tt, tt))))) $
         says ! (refl, refl) $ pure_i ! (durable.the_row.own_val made (vstruct vnil ∷ [])) ((λ vss. (tt, tt)), tt) ((tt, (refl, tt)), tt) $
         move ! (1 ∷ 2 ∷ 0 ∷ []) $ done !)
 
   walks : Walks 𝓛 f.ended stayed (WpFn 𝓤 H C Λ code.function) (f.clauses 𝓛 mem run)
   walks =
-      walked 𝓛 f.ended stayed (f.clauses 𝓛 mem run) (WpFn 𝓤 H C Λ code.function) (λ κs. (shr_vals, (shr_slice_vals, (shr_slice_vals, tt))))
-      (λ κs. (shr_Tells (named 0) κs.0 durable.the_row, (shr_slice_Tells (named 1) κs.1.0 (bytes.the_row global.the_row ghosts), (shr_slice_Tells (named 2) κs.1.1.0 changed.the_row, tt))))
+      walked 𝓛 f.ended stayed (f.clauses 𝓛 mem run) (WpFn 𝓤 H C Λ code.function) (λ κs. (shr_vals, (shr_slice_vals, (shr_slice_vals, (shr_vals, tt)))))
+      (λ κs. (shr_Tells (named 0) κs.0 durable.the_row, (shr_slice_Tells (named 1) κs.1.0 (bytes.the_row global.the_row ghosts), (shr_slice_Tells (named 2) κs.1.1.0 changed.the_row, (shr_Tells (named 3) κs.1.1.1.0 u64, tt)))))
       (λ κs qs bounds a g are. via 𝓤 _ (fst∗ 𝓤 _ (emp 𝓤)) (walk κs qs a are.1.0.0.1.0 are.1.1.0.0.1.0))
 
 meets : {M : Type 1} {𝓤 : Ura M} (𝓛 : Logic 𝓤) (mem : Memory → SProp 𝓤) (run : Routine → Fun 𝓤) (𝓣 : Tables 𝓤 𝓛.H)
     → Meets 𝓛 f.signature (WpFn 𝓤 𝓛.H 𝓣.C 𝓣.Λ code.function) (f.spec 𝓛 mem run)
 meets {𝓤 = 𝓤} 𝓛 mem run 𝓣 =
-    walk_Meets 𝓛 f.ended stayed (Goes-none_ref 𝓛 3 (0 ∷ []) tt (plain (λ _. durable.the_row)) yes, (Goes-none_slice 𝓛 3 (1 ∷ []) tt (plain (λ _. (bytes.the_row global.the_row ghosts))) yes, (Goes-none_slice 𝓛 3 (2 ∷ []) tt (plain (λ _. changed.the_row)) yes, tt))) (f.clauses 𝓛 mem run) (WpFn 𝓤 𝓛.H 𝓣.C 𝓣.Λ code.function)
+    walk_Meets 𝓛 f.ended stayed (Goes-none_ref 𝓛 4 (0 ∷ []) tt (plain (λ _. durable.the_row)) yes, (Goes-none_slice 𝓛 4 (1 ∷ []) tt (plain (λ _. (bytes.the_row global.the_row ghosts))) yes, (Goes-none_slice 𝓛 4 (2 ∷ []) tt (plain (λ _. changed.the_row)) yes, (Goes-none_ref 𝓛 4 (3 ∷ []) tt (plain (λ _. u64)) yes, tt)))) (f.clauses 𝓛 mem run) (WpFn 𝓤 𝓛.H 𝓣.C 𝓣.Λ code.function)
     (WpFn-mono 𝓤 𝓛.H 𝓛.laws 𝓣 code.function) (walks 𝓛 mem run 𝓣.C 𝓣.Λ)
 
 pub after_spec : {M : Type 1} → stated.statement M

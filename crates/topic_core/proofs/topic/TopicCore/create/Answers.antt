@@ -11,6 +11,7 @@ invariant_of-core g c =
       refl,
       sound-opened c.args.per_ledger (whole []) [] map.empty c.requires.numbered (omega arith) refl none_durable,
       receipts-opened c.args.per_ledger (whole []) [] map.empty,
+      refl,
     )
 
 pub returns-clause-fresh : goal.returns-clause-fresh
@@ -20,5 +21,5 @@ pub returns-clause-matched : goal.returns-clause-matched
 returns-clause-matched g c = record {
   kept = kept-filled 0 map.empty _ [] _ (c.new-3.ensures ∙ empty_subs) (ap (λ (d : Durable). d.kept) c.over.ensures ∙ c.none.ensures.1) none_durable;
   numbered = c.in_ok-stores.ensures.counts.1;
-  remembers = record { core_works = refl; works = c.in_ok-stores.ensures.works; counted = c.in_ok-stores.ensures.empty.0; kept = c.in_ok-stores.ensures.empty.1 ∙ sym c.none.ensures.1 ∙ sym (ap (λ (d : Durable). d.kept) c.over.ensures) };
+  remembers = record { core_works = refl; works = c.in_ok-stores.ensures.works; counted = c.in_ok-stores.ensures.empty.0; kept = c.in_ok-stores.ensures.empty.1 ∙ sym c.none.ensures.1 ∙ sym (ap (λ (d : Durable). d.kept) c.over.ensures); begins = omega (arith, c.in_ok-stores.ensures.base) };
 }

@@ -15,6 +15,7 @@ invariant_of-self-2 g c =
       c.self.invariant.0,
       sound-sent t c.args.key c.args.position c.send.result c.send.new.self admitted.admitted c.send.ensures.ok c.send.ensures.err c.self.invariant.1,
       receipts-subs t c.send.new.self c.self.invariant.2,
+      c.self.invariant.3,
     )
 
 pub returns-clause-ok : goal.returns-clause-ok

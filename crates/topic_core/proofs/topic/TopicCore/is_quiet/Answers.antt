@@ -10,6 +10,7 @@ invariant_of-self g c =
       c.self.invariant.0,
       sound-looked t c.args.who c.is_quiet.new.self c.is_quiet.ensures.learnt c.self.invariant.1,
       receipts-subs t c.is_quiet.new.self c.self.invariant.2,
+      c.self.invariant.3,
     )
 
 pub returns-clause-learnt : goal.returns-clause-learnt

@@ -10,6 +10,7 @@ invariant_of-self g c =
       c.self.invariant.0,
       sound-is_learnt t c.key_of.result c.look.new.self c.look.ensures.looked.learnt c.self.invariant.1,
       receipts-subs t c.look.new.self c.self.invariant.2,
+      c.self.invariant.3,
     )
 
 pub returns-clause-looked : goal.returns-clause-looked

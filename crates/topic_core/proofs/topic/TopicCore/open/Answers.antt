@@ -18,6 +18,7 @@ invariant_of-core g c =
       refl,
       sound-opened c.args.per_ledger ledger slots kept c.requires.numbered few (length_slots ledger) c.in_ok-opened.ensures.durable,
       receipts-opened c.args.per_ledger ledger slots kept,
+      c.base-base.ensures ∙ sym added.3,
     )
 
 pub returns-clause-matched : goal.returns-clause-matched
@@ -26,5 +27,5 @@ returns-clause-matched g c =
     record {
       kept = kept-filled c.len-committed.result (g.T.TopicStore.view c.in_ok-opened.opened.stores).kept _ _ _ added.1 (ap (λ (d : Durable). d.kept) c.over.ensures ∙ added.2) c.in_ok-opened.ensures.durable;
       numbered = c.in_ok-opened.ensures.per_ledger;
-      remembers = record { core_works = refl; works = c.in_ok-opened.ensures.works; counted = sym c.len-committed.ensures.len; kept = sym (ap (λ (d : Durable). d.kept) c.over.ensures ∙ added.2) };
+      remembers = record { core_works = refl; works = c.in_ok-opened.ensures.works; counted = sym c.len-committed.ensures.len; kept = sym (ap (λ (d : Durable). d.kept) c.over.ensures ∙ added.2); begins = omega (arith, ap (λ (d : Durable). d.ledger.base) c.over.ensures, added.3) };
     }

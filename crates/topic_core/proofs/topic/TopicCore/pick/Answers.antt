@@ -10,6 +10,7 @@ invariant_of-self g c =
       c.self.invariant.0,
       sound-is_learnt t c.key_of.result c.pick.new.self c.pick.ensures.looked.learnt c.self.invariant.1,
       receipts-subs t c.pick.new.self c.self.invariant.2,
+      c.self.invariant.3,
     )
 
 pub returns-clause-learnt : goal.returns-clause-learnt

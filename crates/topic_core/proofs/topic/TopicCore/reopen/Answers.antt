@@ -4,6 +4,7 @@ use Rattle.gated_log.specs.declared.refusal.Refusal.TheVariants.{Damaged}
 use Rattle.managed_ledger.specs.Entries.{end_of}
 use Rattle.topic_core.specs.Slots.{slots_of}
 use Rattle.topic_core.specs.State.{Topic}
+use Rattle.topic_core.specs.Soundness.{HasFloor}
 use Rattle.topic_core.specs.Crashes.{IsLeft, ReopenIn, reopened}
 use Rattle.topic_core.specs.Standing.{phase_then, Standing}
 use Rattle.topic_core.proofs.Standings.{reopened_standing, again_left, again_stands, left_more}
@@ -20,7 +21,8 @@ returns-then-len-self-clause-step g c = λ phase h.
     let few : end_of again.durable.ledger ≤ 2 ^ 62 = omega (arith, of.added.0, c.len.ensures.len, c.len.ensures.few) in
     let left = again_left g.T.TopicStore.stands v v1 d0 d1 c.topic-topic.result again.durable.ledger (g.met.T.TopicStore.laws again.stores) (of.settled h.honest) of.topic c.topic-topic.ensures (of.seen h.honest (λ is. cc))
     g.met.T.TopicStore.stands_one c.args.self.now few (h.left d0.seen (g.met.S.Shelf.lawful c.args.shelf.now h.honest).leaves_seen) in
-    absurd (omega (arith, left_more c.args.self.now again.durable.ledger v1.kept left, h.counted, of.added.0, c.len.ensures.len, c.if-len-self.true, ap (λ (k : Topic). k.committed) c.self.view_is))
+    let floored = subst (λ (k : Topic). HasFloor k) c.self.view_is c.self.invariant.1.trims in
+    absurd (omega (arith, left_more c.args.self.now again.durable.ledger v1.kept floored left, h.counted, of.added.0, c.len.ensures.len, c.if-len-self.true, ap (λ (k : Topic). k.committed) c.self.view_is))
 
 pub returns-then-len-self-clause-told : goal.returns-then-len-self-clause-told
 returns-then-len-self-clause-told g c = λ honest.
@@ -62,5 +64,6 @@ returns-clause-standing g c = λ phase h.
     let d1 = g.S.Shelf.disk c.open_stores.new.shelf in
     let was : t.failed ≡ true = sym (ap (λ (k : Topic). k.failed) c.self.view_is) ∙ c.if-not-self.false in
     let works : t2.failed ≡ false = ap (λ (k : Topic). k.failed) c.restart.ensures.again in
-    let end = reopened_standing stands t t2 v1 d1 again.durable.ledger v1.kept (g.met.T.TopicStore.laws again.stores) c.restart.ensures.again c.restart.ensures.matched (c.in_ok-again.ensures.settled h.honest) in
+    let below = g.met.T.TopicStore.stands_below v1.topic d1.seen again.durable.ledger v1.kept ((g.met.T.TopicStore.laws again.stores).stands d1.seen again.durable.ledger v1.kept (c.in_ok-again.ensures.settled h.honest).settled.now) in
+    let end = reopened_standing stands t t2 v1 d1 again.durable.ledger v1.kept (g.met.T.TopicStore.laws again.stores) c.restart.ensures.again c.restart.ensures.matched below (c.in_ok-again.ensures.settled h.honest) in
     rw (c.restart.ensures.stores) (subst (λ b. Standing stands (phase_then b t2.failed phase) t2 v1 d1) (sym was) (subst (λ b. Standing stands (phase_then true b phase) t2 v1 d1) (sym works) end))

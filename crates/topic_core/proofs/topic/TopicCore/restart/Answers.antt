@@ -24,6 +24,7 @@ invariant_of-self g c =
       refl,
       sound-reopened t ledger slots kept c.self.invariant.1 was more few (length_slots ledger) c.requires.durable,
       receipts-reopened t ledger slots kept c.self.invariant.1 c.self.invariant.2 was more,
+      c.base-self-inside.ensures ∙ sym added.3,
     )
 
 pub returns-clause-matched : goal.returns-clause-matched
@@ -32,5 +33,5 @@ returns-clause-matched g c =
     record {
       kept = kept-filled c.len-self-inside.result (g.T.TopicStore.view c.args.again.stores).kept _ _ _ added.1 (ap (λ (d : Durable). d.kept) c.over.ensures ∙ added.2) c.requires.durable;
       numbered = c.requires.numbered ∙ sym (ap (λ (t : Topic). t.per_ledger) c.self.view_is);
-      remembers = record { core_works = refl; works = c.requires.works; counted = sym c.len-self-inside.ensures.len; kept = sym (ap (λ (d : Durable). d.kept) c.over.ensures ∙ added.2) };
+      remembers = record { core_works = refl; works = c.requires.works; counted = sym c.len-self-inside.ensures.len; kept = sym (ap (λ (d : Durable). d.kept) c.over.ensures ∙ added.2); begins = omega (arith, ap (λ (d : Durable). d.ledger.base) c.over.ensures, added.3) };
     }

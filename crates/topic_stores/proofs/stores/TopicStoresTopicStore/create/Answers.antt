@@ -4,6 +4,8 @@ use Rattle.disk.specs.declared.file_id.FileId.{FileId}
 use Rattle.disk.specs.Areas.{Agree, OfTopic, both_within}
 use Rattle.topic_stores.proofs.Writing.{entries_meanwhile, settled_both, made_within}
 use Rattle.topic_stores.specs.Views.{entry_view, sub_view}
+use Rattle.gated_log.specs.declared.start.Start.{Start}
+use Rattle.disk.specs.Contents.{Steady}
 use Rattle.topic_stores.specs.Laws.{are_apart, segment_own, slot_own}
 use Rattle.managed_ledger.specs.Entries.{whole}
 use Rattle.std.specs.FinMap as map
@@ -33,10 +35,11 @@ returns-clause-created g c = λ honest.
     let local : (a b : Image) → Agree ea a b → g.E.EntryStore.holds E a (whole []) → g.E.EntryStore.holds E b (whole []) =
     λ a b ag x. g.met.E.EntryStore.holds_local E a b (whole []) (subst (λ t. Agree (g.E.EntryStore.area t) a b) (sym topic_is) ag) x in
     settled_both (entry_view g.E.EntryStore.topic_of g.E.EntryStore.start_of g.E.EntryStore.counts g.E.EntryStore.per_ledger g.E.EntryStore.failed g.E.EntryStore.holds E)
-    (sub_view g.C.SubStore.topic_of g.C.SubStore.content g.C.SubStore.failed g.C.SubStore.holds g.C.SubStore.written c.in_ok-subscriptions.subscriptions) d2 (whole []) map.empty
-    (c.in_ok-subscriptions.ensures.topic ∙ sym topic_is) c.in_ok-entries.ensures.start
+    (sub_view g.C.SubStore.topic_of g.C.SubStore.start_of g.C.SubStore.content g.C.SubStore.failed g.C.SubStore.holds g.C.SubStore.written c.in_ok-subscriptions.subscriptions) d2 (whole []) map.empty
+    (c.in_ok-subscriptions.ensures.topic ∙ sym topic_is)
+    (c.in_ok-entries.ensures.start ∙ sym c.in_ok-subscriptions.ensures.start)
     (entries_meanwhile (λ i l. g.E.EntryStore.holds E i l) ea ca (λ i. Unit {0}) d1 d2 (whole []) local apart (c.create-2.ensures.kept.honest later) (c.create-2.ensures.others later) (c.in_ok-entries.ensures.created honest))
-    (c.in_ok-subscriptions.ensures.created 0 later)
+    (subst (λ (said : Start). Steady (g.C.SubStore.holds c.in_ok-subscriptions.subscriptions 0 said) (g.C.SubStore.written c.in_ok-subscriptions.subscriptions) d2 map.empty) (sym c.in_ok-subscriptions.ensures.start) (c.in_ok-subscriptions.ensures.created 0 later))
 
 pub returns-clause-others : goal.returns-clause-others
 returns-clause-others g c = λ honest.
