@@ -1,5 +1,5 @@
 -- Where a list of topics stands, and where it isn't missing.
-use Rattle.std.proofs.Common.{◌≡◌, ◌⊎◌, ℕ, ◌+◌, ◌≤◌, List, ◌∷◌, ◌++◌, length, ⊎_elim, inl, inr, refl, sym, ap, subst, arith, length-append}
+use Rattle.std.proofs.Common.{◌≡◌, ◌⊎◌, ℕ, List, ◌++◌, ⊎_elim, inl, inr, refl, subst, arith, length-append}
 use Rattle.std.specs.Prelude.{◌≢◌, drop}
 use Rattle.disk.specs.declared.file_id.FileId.TheVariants.{Catalog as catalog_file}
 use Rattle.disk.specs.Disk.{Image}
@@ -11,7 +11,6 @@ use Rattle.gated_log.specs.One.{good_header, version_open}
 use Rattle.catalog.specs.Names.{Names}
 use Rattle.catalog.specs.Catalogs.{StandsFor}
 use Rattle.catalog.specs.Folded.{IsFault}
-use Rattle.folder.specs.declared.fault.FolderFault.{FolderFault}
 use Rattle.folder.specs.declared.fault.FolderFault.TheVariants.{Refused, AlreadyInitialised}
 use Rattle.folder.specs.Making.{HasList, fault_of_making}
 

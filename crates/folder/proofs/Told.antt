@@ -15,6 +15,11 @@ old_or_last (first ∷ xs) last x zero is = inl is
 old_or_last (first ∷ xs) last x (suc i) is =
     ⊎_elim (λ (old : slice_get xs i ≡ Some x). let r : (slice_get xs i ≡ Some x) ⊎ ((suc i ≡ suc (length xs)) × (last ≡ x)) = inl old in r) (λ (new : (i ≡ length xs) × (last ≡ x)). inr (ap suc new.0, new.1)) (old_or_last xs last x i is)
 
+-- what each has at its place, and one more at the next
+pub each_more : {X : Type 0} (P : ℕ → X → Type 0) (xs : List X) (last : X) → ((i : ℕ) (x : X) → slice_get xs i ≡ Some x → P i x) → P (length xs) last → (i : ℕ) (x : X) → slice_get (xs ++ last ∷ []) i ≡ Some x → P i x
+each_more P xs last each at i x is =
+    ⊎_elim (each i x) (λ (new : (i ≡ length xs) × (last ≡ x)). subst (λ n. P n x) (sym new.0) (subst (λ y. P (length xs) y) new.1 at)) (old_or_last xs last x i is)
+
 -- so many topics are told, by their numbers
 pub record AreFirst (state : State) (statuses : List TopicStatus) : Type 0 where
   pub few : length statuses ≤ length state.broker.topics
@@ -27,11 +32,9 @@ module _ (state : State) (statuses : List TopicStatus) where
   more_at : (status : TopicStatus) (there : Bool) → nat_lt (length statuses) (length state.broker.topics) ≡ there → StatusIn (cond there (Some (length statuses)) None) state (Some status)
       → AreFirst state statuses → AreFirst state (statuses ++ status ∷ [])
   more_at status true is told first =
-      let at : (number : ℕ) (s : TopicStatus) → number ≡ length statuses → status ≡ s → StatusIn (Some number) state (Some s) =
-      λ number s same last. subst (λ (n : ℕ). StatusIn (Some n) state (Some s)) (sym same) (subst (λ (t : TopicStatus). StatusIn (Some (length statuses)) state (Some t)) last told) in
       record {
         few = let below : length statuses + 1 ≤ length state.broker.topics = grind (arith, nat_tests) in let long = length-append statuses (status ∷ []) in omega (arith, below, long);
-        each = λ number s get. ⊎_elim (first.each number s) (λ (last : (number ≡ length statuses) × (status ≡ s)). at number s last.0 last.1) (old_or_last statuses status s number get);
+        each = each_more (λ number s. StatusIn (Some number) state (Some s)) statuses status first.each told;
       }
   more_at status false is told first = absurd (let no : ⊥ = cc in no)
 

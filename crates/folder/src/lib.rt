@@ -8,8 +8,10 @@ mod held;
 mod holder;
 mod looking;
 mod making;
+mod sink;
 
 pub use fault::{FolderFault, exit_status};
 pub use held::Folder;
 pub use looking::{inspect, inspect_on};
 pub use making::{init, init_on};
+pub use sink::Sink;
