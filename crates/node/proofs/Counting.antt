@@ -4,12 +4,11 @@ use Rattle.gated_log.specs.declared.read_error.ReadError.{ReadError}
 use Rattle.gated_log.specs.declared.read_error.ReadError.TheVariants as read
 use Rattle.gated_log.specs.declared.refusal.Refusal.TheVariants as refusal
 use Rattle.session.specs.Client.{Play, play}
-use Rattle.session.specs.Pumping.{FindsNoMemory, Serves, ServesEach, ServesUntil, ServesAll, ServesIf, PumpIn}
-use Rattle.session.specs.declared.entry.Entry.{Entry}
 use Rattle.session.specs.declared.fault.Fault.{Fault}
 use Rattle.session.specs.declared.pumping.More.{More}
 use Rattle.session.specs.declared.pumping.PumpFault.{PumpFault}
 use Rattle.session.proofs.Causes.{fed_caused}
+use Rattle.session.proofs.Serving.{pump_step-more}
 use Rattle.node.specs.State.{State, Stage, MayRefuseOf, MayRefuse, stage_in, place_in, place_of, is_full}
 use Rattle.node.specs.Steps as steps
 use Rattle.node.specs.Runs.{Life, StateCrash, OpeningEnds, EventIn, HappeningStep}
@@ -24,55 +23,6 @@ use Rattle.node.specs.declared.event.TopicEvent.{TopicEvent}
 use Rattle.node.specs.declared.event.TopicEvent.TheVariants as on_topic
 use Rattle.node.specs.declared.event.Verdict.{Verdict}
 use Rattle.node.specs.declared.event.Verdict.TheVariants as verdict
-
--- ---- a pump whose broker may refuse for more causes
-
-module _ (R S : ReadError → Type 0) (so : (why : ReadError) → R why → S why) where
-  stops : (old new : Play) → (new ≡ old) ⊎ FindsNoMemory R old new → (new ≡ old) ⊎ FindsNoMemory S old new
-  stops old new (inl same) = inl same
-  stops old new (inr s) = inr (record { goes_on = s.goes_on; refused = so read.NoMemory s.refused; ends = s.ends })
-
-  serves : (consumer : Entry) (most count : ℕ) (old new : Play) → Serves R consumer most count old new → Serves S consumer most count old new
-  serves consumer most count old new s = record { sent = s.sent; sends = s.sends; within = s.within; stops = stops s.sent new s.stops; all = s.all }
-
-  serves_each : (consumers : List Entry) (most count : ℕ) (old new : Play) → ServesEach R consumers most count old new → ServesEach S consumers most count old new
-  serves_each [] most count old new s = s
-  serves_each (c ∷ cs) most count old new s = (s.0, s.1, s.2, serves c most s.0 old s.2 s.3, serves_each cs (most - s.0) s.1 s.2 new s.4, s.5)
-
-  serves_until : (consumer : Entry) (most : ℕ) (why : PumpFault) (old new : Play) → ServesUntil R consumer most why old new → ServesUntil S consumer most why old new
-  serves_until consumer most why old new s = record { count = s.count; sends = s.sends; within = s.within; goes_on = s.goes_on; device = s.device; refused = so read.Device s.refused }
-
-  serves_all : (consumers : List Entry) (most : ℕ) (result : Result ℕ PumpFault) (old new : Play) → ServesAll R consumers most result old new → ServesAll S consumers most result old new
-  serves_all consumers most (Ok count) old new s = serves_each consumers most count old new s
-  serves_all consumers most (Err why) old new s = record {
-    before = s.before;
-    consumer = s.consumer;
-    behind = s.behind;
-    are = s.are;
-    count = s.count;
-    between = s.between;
-    served = serves_each s.before most s.count old s.between s.served;
-    until = serves_until s.consumer (most - s.count) why s.between new s.until;
-  }
-
-  serves_if : (goes_on : Bool) (result : Result ℕ PumpFault) (old new : Play) → ServesIf R goes_on result old new → ServesIf S goes_on result old new
-  serves_if true result old new s = serves_all old.client.consumers 64 result old new s
-  serves_if false result old new s = s
-
-  pumped : (fault : Option Fault) (old : Play) (result : Result More PumpFault) (new : Play) → PumpIn R fault old result new → PumpIn S fault old result new
-  pumped None old result new s = record {
-    replies = s.replies;
-    collected = s.collected;
-    collects = s.collects;
-    most = s.most;
-    all = s.all;
-    messages = s.messages;
-    served = s.served;
-    serves = serves_if (nat_lt s.replies 65536) s.messages s.collected s.served s.serves;
-    ends = s.ends;
-    result_is = s.result_is;
-  }
-  pumped (Some why) old result new s = s
 
 -- ---- events
 
@@ -119,8 +69,8 @@ module _ (n : ℕ) where
   may_of stage a b read.Device (inr written) = inr written
   may_of stage a b (read.Damaged file offset) may = may
 
-  may : (stages : List Stage) (a b : ℕ) (why : ReadError) → MayRefuse stages a b why → MayRefuse stages (a + n) (b + n) why
-  may stages a b why is = (is.0, may_of (stage_in stages is.0) a b why is.1)
+  may : (stages : List Stage) (a b number : ℕ) (why : ReadError) → MayRefuse stages a b number why → MayRefuse stages (a + n) (b + n) number why
+  may stages a b number why is = may_of (stage_in stages number) a b why is
 
   pumps : (place : Option ℕ) (old : State) (output : Output) (new : State) → steps.PumpStep place old output new → steps.PumpStep place (later old) output (later new)
   pumps None old output new s = only verdict.Unknown old output new s
@@ -129,7 +79,7 @@ module _ (n : ℕ) where
     stands = s.stands;
     result = s.result;
     played = s.played;
-    step = pumped (MayRefuse old.stages old.faults new.faults) (MayRefuse old.stages (old.faults + n) (new.faults + n)) (may old.stages old.faults new.faults) s.client.fault (play s.client old.broker []) s.result s.played s.step;
+    step = pump_step-more (MayRefuse old.stages old.faults new.faults) (MayRefuse old.stages (old.faults + n) (new.faults + n)) (may old.stages old.faults new.faults) (play s.client old.broker []) s.result s.played s.step;
     settles = settles old place s.played _ output new s.settles;
   }
 

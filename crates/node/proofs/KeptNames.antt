@@ -250,15 +250,15 @@ messages consumer zero old new s = unmoved old new s
 messages consumer (suc count) old new s =
     both old.broker s.0.broker new.broker (messages consumer count old s.0 s.1) (placed s.0.broker new.broker consumer.topic (topic_at new.broker consumer.topic) s.2.takes.others)
 
-module _ (Refused : ReadError → Type 0) where
-  stops : (old new : Play) → (new ≡ old) ⊎ FindsNoMemory Refused old new → Keeps old.broker new.broker
-  stops old new (inl s) = unmoved old new s
-  stops old new (inr s) = ends old new _ s.ends
+module _ (Refused : ℕ → ReadError → Type 0) where
+  stops : (topic : ℕ) (old new : Play) → (new ≡ old) ⊎ FindsNoMemory Refused topic old new → Keeps old.broker new.broker
+  stops topic old new (inl s) = unmoved old new s
+  stops topic old new (inr s) = ends old new _ s.ends
 
   serves_each : (consumers : List Entry) (most count : ℕ) (old new : Play) → ServesEach Refused consumers most count old new → Keeps old.broker new.broker
   serves_each [] most count old new s = unmoved old new s.1
   serves_each (c ∷ cs) most count old new s =
-      both old.broker s.2.broker new.broker (both old.broker s.3.sent.broker s.2.broker (messages c s.0 old s.3.sent s.3.sends) (stops s.3.sent s.2 s.3.stops))
+      both old.broker s.2.broker new.broker (both old.broker s.3.sent.broker s.2.broker (messages c s.0 old s.3.sent s.3.sends) (stops c.topic s.3.sent s.2 s.3.stops))
       (serves_each cs (most - s.0) s.1 s.2 new s.4)
 
   serves_all : (consumers : List Entry) (most : ℕ) (result : Result ℕ PumpFault) (old new : Play) → ServesAll Refused consumers most result old new → Keeps old.broker new.broker

@@ -54,7 +54,7 @@ bytes_come None old bytes output new s = answers [] verdict.Unknown output s.0 t
 bytes_come (Some place) old bytes output new s = answers s.played.out _ output s.settles.answer (of_fault s.played.client.fault)
 
 -- a pump stops for a failure of the device, and for no damage
-module _ (Refused : ReadError → Type 0) where
+module _ (Refused : ℕ → ReadError → Type 0) where
   serves : (goes_on : Bool) (messages : Result ℕ PumpFault) (old new : Play) → ServesIf Refused goes_on messages old new → (fault : Option Fault) (replies : ℕ) → TellsNoFault (verdict_of_pump (pump_result fault replies messages))
   serves goes_on (Ok count) old new s None replies = tt
   serves goes_on (Ok count) old new s (Some why) replies = tt

@@ -401,15 +401,15 @@ messages consumer zero old new s = still_play old new s
 messages consumer (suc count) old new s =
     then_play old s.0 new (messages consumer count old s.0 s.1) (sends_from consumer.topic consumer.id s.0 new s.2.message s.2.takes s.2.says)
 
-module _ (Refused : ReadError → Type 0) where
-  stops : (old new : Play) → (new ≡ old) ⊎ FindsNoMemory Refused old new → Plays old new
-  stops old new (inl s) = still_play old new s
-  stops old new (inr s) = ends old new _ s.ends
+module _ (Refused : ℕ → ReadError → Type 0) where
+  stops : (topic : ℕ) (old new : Play) → (new ≡ old) ⊎ FindsNoMemory Refused topic old new → Plays old new
+  stops topic old new (inl s) = still_play old new s
+  stops topic old new (inr s) = ends old new _ s.ends
 
   serves_each : (consumers : List Entry) (most count : ℕ) (old new : Play) → ServesEach Refused consumers most count old new → Plays old new
   serves_each [] most count old new s = still_play old new s.1
   serves_each (c ∷ cs) most count old new s =
-      then_play old s.2 new (then_play old s.3.sent s.2 (messages c s.0 old s.3.sent s.3.sends) (stops s.3.sent s.2 s.3.stops)) (serves_each cs (most - s.0) s.1 s.2 new s.4)
+      then_play old s.2 new (then_play old s.3.sent s.2 (messages c s.0 old s.3.sent s.3.sends) (stops c.topic s.3.sent s.2 s.3.stops)) (serves_each cs (most - s.0) s.1 s.2 new s.4)
 
   serves_all : (consumers : List Entry) (most : ℕ) (result : Result ℕ PumpFault) (old new : Play) → ServesAll Refused consumers most result old new → Plays old new
   serves_all consumers most (Ok count) old new s = serves_each consumers most count old new s

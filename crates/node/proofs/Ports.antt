@@ -55,11 +55,11 @@ module _ (old new : Broker) (number : ℕ) (t u : Topic) (was : topic_at old num
   pub leaves : (who : ℕ) → u ≡ left t who → new ≡ left_at old number who
   leaves who step = becomes_as (λ x. left x who) step
 
--- a topic of these refuses so
+-- the topic of this number, of these, refuses so
 pub refuses_at : (A B : Type 0) (stages : List Stage) (number : ℕ) (stage : Stage) (before after : ℕ) (result : Result (Option Outgoing) ReadError) → stage_in stages number ≡ stage → (B → A)
-    → IfErr result (λ why. A → MayRefuseOf stage before after why) → IfErr result (λ why. B → MayRefuse stages before after why)
+    → IfErr result (λ why. A → MayRefuseOf stage before after why) → IfErr result (λ why. B → MayRefuse stages before after number why)
 refuses_at A B stages number stage before after (Ok message) is so refused = tt
-refuses_at A B stages number stage before after (Err why) is so refused = λ b. (number, subst (λ s. MayRefuseOf s before after why) (sym is) (refused (so b)))
+refuses_at A B stages number stage before after (Err why) is so refused = λ b. subst (λ s. MayRefuseOf s before after why) (sym is) (refused (so b))
 
 -- a topic that works has a store that works, unless the write of a flush that isn't finished has failed
 works_unless : (failed : Bool) (stage : Stage) (t : Topic) (v : StoreView) → failed ≡ false → Remembers (phase_at failed stage) t v → (v.failed ≡ false) ⊎ (stage ≡ Written (Err write.Device))

@@ -75,8 +75,8 @@ refused_of first second a b c d read.Device same before after (inl failed) = inl
 refused_of first second a b c d read.Device same before after (inr written) = inr (sym same ∙ written)
 refused_of first second a b c d (read.Damaged file offset) same before after may = may
 
-refused_within : (first second : List Stage) (a b c d : ℕ) (why : ReadError) → second ≡ first → a ≤ b → c ≤ d → MayRefuse second b c why → MayRefuse first a d why
-refused_within first second a b c d why same before after may = (may.0, refused_of (stage_in first may.0) (stage_in second may.0) a b c d why (ap (λ ss. stage_in ss may.0) same) before after may.1)
+refused_within : (first second : List Stage) (a b c d number : ℕ) (why : ReadError) → second ≡ first → a ≤ b → c ≤ d → MayRefuse second b c number why → MayRefuse first a d number why
+refused_within first second a b c d number why same before after may = refused_of (stage_in first number) (stage_in second number) a b c d why (ap (λ ss. stage_in ss number) same) before after may
 
 module _ (stands : ℕ → Image → Ledger → Kept → Type 0) where
   -- a topic stands on a device that only read
@@ -210,12 +210,12 @@ module _ {T S : Type 0} {store : StoreMembers T} (disk : S → Disk) where
   pub passes_both : (a b c : Topics T S store) → Passes disk a b → Passes disk b c → Passes disk a c
   passes_both a b c first second = (omega (arith, first.0, second.0), λ standing. let p = first.1 standing in passed_both a b c p (second.1 p.standing))
 
-  pub refuses_within : (a b c d : Topics T S store) (why : ReadError) → Passes disk a b → Passes disk b c → Passes disk c d → Refuses disk b why c → Refuses disk a why d
-  refuses_within a b c d why first second third refused standing =
+  pub refuses_within : (a b c d : Topics T S store) (number : ℕ) (why : ReadError) → Passes disk a b → Passes disk b c → Passes disk c d → Refuses disk b number why c → Refuses disk a number why d
+  refuses_within a b c d number why first second third refused standing =
       let p = first.1 standing in
       let q = second.1 p.standing in
       let r = third.1 q.standing in
-      refused_within (stages_of a) (stages_of b) (disk a.shelf).faults (disk b.shelf).faults (disk c.shelf).faults (disk d.shelf).faults why p.stages p.faults r.faults (refused p.standing)
+      refused_within (stages_of a) (stages_of b) (disk a.shelf).faults (disk b.shelf).faults (disk c.shelf).faults (disk d.shelf).faults number why p.stages p.faults r.faults (refused p.standing)
 
   module _ (t new : Topics T S store) (number : ℕ) (h next : Held T store) (was : slice_get t.held.items number ≡ Some h) (held : new.held.items ≡ slice_set t.held.items number next) (catalog : new.catalog ≡ t.catalog) (doubtful : new.doubtful ≡ t.doubtful) (url : new.url ≡ t.url)
       (stores : next.stores ≡ h.stores) (flight : next.flight ≡ h.flight) (go : GoesOn h.core next.core) where

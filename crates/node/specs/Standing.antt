@@ -113,9 +113,9 @@ module _ {T S : Type 0} {store : StoreMembers T} where
     abbrev pub Fails : Topics T S store → Topics T S store → Type 0
     Fails old new = TopicsStand old → (disk old.shelf).faults < (disk new.shelf).faults
 
-    -- a message was refused so between the two
-    abbrev pub Refuses : Topics T S store → ReadError → Topics T S store → Type 0
-    Refuses old why new = TopicsStand old → MayRefuse (stages_of old) (disk old.shelf).faults (disk new.shelf).faults why
+    -- a message of the topic of this number was refused so between the two
+    abbrev pub Refuses : Topics T S store → ℕ → ReadError → Topics T S store → Type 0
+    Refuses old number why new = TopicsStand old → MayRefuse (stages_of old) (disk old.shelf).faults (disk new.shelf).faults number why
 
     -- the abstract node
     abbrev pub state_of : Node T S store → State

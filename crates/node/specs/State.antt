@@ -100,6 +100,6 @@ MayRefuseOf stage before after read.NoMemory = Unit {0}
 MayRefuseOf stage before after read.Device = (before < after) ⊎ (stage ≡ Written (Err write.Device))
 MayRefuseOf stage before after (read.Damaged file offset) = ⊥
 
--- so a topic of these refuses
-abbrev pub MayRefuse : List Stage → ℕ → ℕ → ReadError → Type 0
-MayRefuse stages before after why = (number : ℕ) × MayRefuseOf (stage_in stages number) before after why
+-- so the topic of this number, of these, refuses
+abbrev pub MayRefuse : List Stage → ℕ → ℕ → ℕ → ReadError → Type 0
+MayRefuse stages before after number why = MayRefuseOf (stage_in stages number) before after why

@@ -55,16 +55,16 @@ module _ (c : Entry) where
   kept_by_some other zero a b h none = subst (AdmitsNothing c) (sym h) none
   kept_by_some other (suc n) a b h none = kept_by_one other h.0 b h.2 (kept_by_some other n a h.0 h.1 none)
 
-module _ (Refused : ReadError → Type 0) where
-  kept_by_stop : (c : Entry) (a b : Play) → (b ≡ a) ⊎ FindsNoMemory Refused a b → b.client.fault ≡ None → AdmitsNothing c a → AdmitsNothing c b
-  kept_by_stop c a b (inl same) goes_on none = subst (AdmitsNothing c) (sym same) none
-  kept_by_stop c a b (inr stops) goes_on none = absurd (not_none _ (sym (ap (λ (p : Play). p.client.fault) stops.ends) ∙ goes_on))
+module _ (Refused : ℕ → ReadError → Type 0) where
+  kept_by_stop : (c : Entry) (topic : ℕ) (a b : Play) → (b ≡ a) ⊎ FindsNoMemory Refused topic a b → b.client.fault ≡ None → AdmitsNothing c a → AdmitsNothing c b
+  kept_by_stop c topic a b (inl same) goes_on none = subst (AdmitsNothing c) (sym same) none
+  kept_by_stop c topic a b (inr stops) goes_on none = absurd (not_none _ (sym (ap (λ (p : Play). p.client.fault) stops.ends) ∙ goes_on))
 
   kept_by_each : (c : Entry) (others : List Entry) (most n : ℕ) (a b : Play) → ServesEach Refused others most n a b → b.client.fault ≡ None → AdmitsNothing c a → AdmitsNothing c b
   kept_by_each c [] most n a b h goes_on none = subst (AdmitsNothing c) (sym h.1) none
   kept_by_each c (other ∷ others) most n a b h goes_on none =
       kept_by_each c others (most - h.0) h.1 h.2 b h.4 goes_on
-      (kept_by_stop c h.3.sent h.2 h.3.stops (serves_each-fault Refused others (most - h.0) h.1 h.2 b h.4 goes_on) (kept_by_some c other h.0 a h.3.sent h.3.sends none))
+      (kept_by_stop c other.topic h.3.sent h.2 h.3.stops (serves_each-fault Refused others (most - h.0) h.1 h.2 b h.4 goes_on) (kept_by_some c other h.0 a h.3.sent h.3.sends none))
 
   each_within : (cs : List Entry) (most n : ℕ) (a b : Play) → ServesEach Refused cs most n a b → n ≤ most
   each_within [] most n a b h = omega (arith, h.0)
@@ -105,4 +105,4 @@ module _ (Refused : ReadError → Type 0) where
   serves (Some why) old new h = absurd (let no : ⊥ = cc in no)
 
 pub pumps_serve : PumpsServe
-pumps_serve old new h = serves (λ why. Unit {0}) old.client.fault old new h
+pumps_serve old new h = serves (λ topic why. Unit {0}) old.client.fault old new h

@@ -96,7 +96,7 @@ ended_feeds_leave old bytes why new none h =
     let s = subst P none h in
     ended_leaves _ new why s.0.ends (fault_of-feed new.client.fault why s.1)
 
-module _ (Refused : ReadError → Type 0) where
+module _ (Refused : ℕ → ReadError → Type 0) where
   -- a pump whose device fails ends no session
   serves_until : (goes_on : Bool) (why : PumpFault) (a b : Play) → ServesIf Refused goes_on (Err why) a b → why ≡ Device
   serves_until true why a b h = h.until.device
@@ -110,9 +110,9 @@ module _ (Refused : ReadError → Type 0) where
 
 pub ended_pumps_leave : EndedPumpsLeave
 ended_pumps_leave old why new none h =
-    let P : Option Fault → Type 0 = λ f. PumpIn (λ why. Unit {0}) f old (Err (Ended why)) new in
+    let P : Option Fault → Type 0 = λ f. PumpIn (λ topic why. Unit {0}) f old (Err (Ended why)) new in
     let s = subst P none h in
-    let f = fault_of-pump (λ why. Unit {0}) s.served.client.fault (nat_lt s.replies 65536) s.replies s.messages why s.collected s.served s.serves s.result_is in
+    let f = fault_of-pump (λ topic why. Unit {0}) s.served.client.fault (nat_lt s.replies 65536) s.replies s.messages why s.collected s.served s.serves s.result_is in
     ended_leaves s.served new f.0 s.ends (ap (λ (p : Play). p.client.fault) s.ends ∙ f.1)
 
 -- a pump that answers that no more is due has met no fault and not its bound
@@ -123,7 +123,7 @@ stops_by_itself None replies (Ok messages) h e =
     (refl, ⊎_elim (λ same. let bound = subst P same e in absurd (let no : ⊥ = cc in no)) (λ other. omega arith) (cases_eq replies 65536))
 stops_by_itself (Some why) replies messages h e = absurd (let no : ⊥ = cc in no)
 
-module _ (Refused : ReadError → Type 0) where
+module _ (Refused : ℕ → ReadError → Type 0) where
   finishes : (f : Option Fault) (old new : Play) → PumpIn Refused f old (Ok No) new → HasNothingDue new
   finishes None old new h =
       let stop = stops_by_itself h.served.client.fault h.replies h.messages h.most h.result_is in
@@ -133,4 +133,4 @@ module _ (Refused : ReadError → Type 0) where
   finishes (Some why) old new h = absurd (let no : ⊥ = cc in no)
 
 pub pumps_finish : PumpsFinish
-pumps_finish old new h = finishes (λ why. Unit {0}) old.client.fault old new h
+pumps_finish old new h = finishes (λ topic why. Unit {0}) old.client.fault old new h

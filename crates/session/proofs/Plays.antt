@@ -77,8 +77,8 @@ pub sends-fault : (consumer : Entry) (n : ℕ) (a b : Play) → Sends consumer n
 sends-fault consumer zero a b h none = sym (ap (λ (p : Play). p.client.fault) h) ∙ none
 sends-fault consumer (suc n) a b h none = sends-fault consumer n a h.0 h.1 h.2.goes_on
 
-module _ (Refused : ReadError → Type 0) where
-  stops-fault : (consumer : Entry) (a b : Play) → (b ≡ a) ⊎ FindsNoMemory Refused a b → b.client.fault ≡ None → a.client.fault ≡ None
+module _ (Refused : ℕ → ReadError → Type 0) where
+  stops-fault : (consumer : Entry) (a b : Play) → (b ≡ a) ⊎ FindsNoMemory Refused consumer.topic a b → b.client.fault ≡ None → a.client.fault ≡ None
   stops-fault consumer a b (inl same) none = sym (ap (λ (p : Play). p.client.fault) same) ∙ none
   stops-fault consumer a b (inr stops) none = stops.goes_on
 
@@ -113,15 +113,15 @@ sends-due : (consumer : Entry) (n : ℕ) (a b : Play) → Sends consumer n a b �
 sends-due consumer zero a b h none = subst HasNothingDue (sym h) none
 sends-due consumer (suc n) a b h none = sends_one-due consumer h.0 b h.2 (sends-due consumer n a h.0 h.1 none)
 
-module _ (Refused : ReadError → Type 0) where
-  stops-due : (a b : Play) → (b ≡ a) ⊎ FindsNoMemory Refused a b → HasNothingDue a → HasNothingDue b
-  stops-due a b (inl same) none = subst HasNothingDue (sym same) none
-  stops-due a b (inr stops) none = subst HasNothingDue (sym stops.ends) none
+module _ (Refused : ℕ → ReadError → Type 0) where
+  stops-due : (topic : ℕ) (a b : Play) → (b ≡ a) ⊎ FindsNoMemory Refused topic a b → HasNothingDue a → HasNothingDue b
+  stops-due topic a b (inl same) none = subst HasNothingDue (sym same) none
+  stops-due topic a b (inr stops) none = subst HasNothingDue (sym stops.ends) none
 
   serves_each-due : (consumers : List Entry) (most n : ℕ) (a b : Play) → ServesEach Refused consumers most n a b → HasNothingDue a → HasNothingDue b
   serves_each-due [] most n a b h none = subst HasNothingDue (sym h.1) none
   serves_each-due (c ∷ cs) most n a b h none =
-      serves_each-due cs (most - h.0) h.1 h.2 b h.4 (stops-due h.3.sent h.2 h.3.stops (sends-due c h.0 a h.3.sent h.3.sends none))
+      serves_each-due cs (most - h.0) h.1 h.2 b h.4 (stops-due c.topic h.3.sent h.2 h.3.stops (sends-due c h.0 a h.3.sent h.3.sends none))
 
   serves_all-due : (consumers : List Entry) (most : ℕ) (result : Result ℕ PumpFault) (a b : Play) → ServesAll Refused consumers most result a b → HasNothingDue a → HasNothingDue b
   serves_all-due consumers most (Ok n) a b h none = serves_each-due consumers most n a b h none
@@ -132,7 +132,7 @@ module _ (Refused : ReadError → Type 0) where
   serves_if-due true result a b h none = serves_all-due a.client.consumers 64 result a b h none
   serves_if-due false result a b h none = subst HasNothingDue (sym h.1) none
 
-module _ (Refused : ReadError → Type 0) where
+module _ (Refused : ℕ → ReadError → Type 0) where
   -- one consumer more is served
   pub serves_each-push : (consumers : List Entry) (most n k : ℕ) (a m b : Play) (consumer : Entry) → ServesEach Refused consumers most n a m → Serves Refused consumer (most - n) k m b → ServesEach Refused (consumers ++ consumer ∷ []) most (n + k) a b
   serves_each-push [] most n k a m b consumer h s =

@@ -211,15 +211,15 @@ sends_messages : (consumer : Entry) (count : ℕ) (old new : Play) → Sends con
 sends_messages consumer zero old new h = still old new h
 sends_messages consumer (suc count) old new h = said h.0.client h.0.out h.2.message new.client new.out h.2.says ∙ sends_messages consumer count old h.0 h.1
 
-module _ (Refused : ReadError → Type 0) where
-  stops : (old new : Play) → (new ≡ old) ⊎ FindsNoMemory Refused old new → Keeps old new
-  stops old new (inl h) = still old new h
-  stops old new (inr h) = ends old new _ h.ends
+module _ (Refused : ℕ → ReadError → Type 0) where
+  stops : (topic : ℕ) (old new : Play) → (new ≡ old) ⊎ FindsNoMemory Refused topic old new → Keeps old new
+  stops topic old new (inl h) = still old new h
+  stops topic old new (inr h) = ends old new _ h.ends
 
   pub serves_each : (consumers : List Entry) (most count : ℕ) (old new : Play) → ServesEach Refused consumers most count old new → Keeps old new
   serves_each [] most count old new h = still old new h.1
   serves_each (c ∷ cs) most count old new h =
-      serves_each cs (most - h.0) h.1 h.2 new h.4 ∙ stops h.3.sent h.2 h.3.stops ∙ sends_messages c h.0 old h.3.sent h.3.sends
+      serves_each cs (most - h.0) h.1 h.2 new h.4 ∙ stops c.topic h.3.sent h.2 h.3.stops ∙ sends_messages c h.0 old h.3.sent h.3.sends
 
   serves_all : (consumers : List Entry) (most : ℕ) (result : Result ℕ PumpFault) (old new : Play) → ServesAll Refused consumers most result old new → Keeps old new
   serves_all consumers most (Ok count) old new h = serves_each consumers most count old new h

@@ -25,31 +25,6 @@ module _ (R S : ReadError → Type 0) (more : (why : ReadError) → R why → S 
   is_told-more Device h = more read.Device h
   is_told-more (Damaged file offset) h = more (read.Damaged file offset) h
 
-  finds_no_memory-more : (a b : Play) → FindsNoMemory R a b → FindsNoMemory S a b
-  finds_no_memory-more a b h = record { goes_on = h.goes_on; refused = more read.NoMemory h.refused; ends = h.ends }
-
-  pub sends_nothing-more : (consumer : Entry) (a b : Play) → SendsNothing R consumer a b → SendsNothing S consumer a b
-  sends_nothing-more consumer a b (inl nothing) = inl nothing
-  sends_nothing-more consumer a b (inr finds) = inr (finds_no_memory-more a b finds)
-
-  stops-more : (a b : Play) → (b ≡ a) ⊎ FindsNoMemory R a b → (b ≡ a) ⊎ FindsNoMemory S a b
-  stops-more a b (inl same) = inl same
-  stops-more a b (inr finds) = inr (finds_no_memory-more a b finds)
-
-  pub serves-more : (consumer : Entry) (most n : ℕ) (a b : Play) → Serves R consumer most n a b → Serves S consumer most n a b
-  serves-more consumer most n a b h = record { sent = h.sent; sends = h.sends; within = h.within; stops = stops-more h.sent b h.stops; all = h.all }
-
-  pub serves_each-more : (consumers : List Entry) (most n : ℕ) (a b : Play) → ServesEach R consumers most n a b → ServesEach S consumers most n a b
-  serves_each-more [] most n a b h = h
-  serves_each-more (c ∷ cs) most n a b h = (h.0, h.1, h.2, serves-more c most h.0 a h.2 h.3, serves_each-more cs (most - h.0) h.1 h.2 b h.4, h.5)
-
-  pub serves_until-more : (consumer : Entry) (most : ℕ) (why : PumpFault) (a b : Play) → ServesUntil R consumer most why a b → ServesUntil S consumer most why a b
-  serves_until-more consumer most why a b h = record { count = h.count; sends = h.sends; within = h.within; goes_on = h.goes_on; device = h.device; refused = more read.Device h.refused }
-
-  pub serves_one-more : (consumer : Entry) (most : ℕ) (result : Result ℕ PumpFault) (a b : Play) → ServesOne R consumer most result a b → ServesOne S consumer most result a b
-  serves_one-more consumer most (Ok n) a b h = serves-more consumer most n a b h
-  serves_one-more consumer most (Err why) a b h = serves_until-more consumer most why a b h
-
   pub told-more : (result : Result ℕ PumpFault) → IfErr result (λ why. IsTold R why) → IfErr result (λ why. IsTold S why)
   told-more (Ok n) h = tt
   told-more (Err why) h = is_told-more why h
@@ -57,6 +32,33 @@ module _ (R S : ReadError → Type 0) (more : (why : ReadError) → R why → S 
   pub pumped_told-more : (result : Result More PumpFault) → IfErr result (λ why. IsTold R why) → IfErr result (λ why. IsTold S why)
   pumped_told-more (Ok m) h = tt
   pumped_told-more (Err why) h = is_told-more why h
+
+-- what is refused for some causes is so for more
+module _ (R S : ℕ → ReadError → Type 0) (more : (topic : ℕ) (why : ReadError) → R topic why → S topic why) where
+  finds_no_memory-more : (topic : ℕ) (a b : Play) → FindsNoMemory R topic a b → FindsNoMemory S topic a b
+  finds_no_memory-more topic a b h = record { goes_on = h.goes_on; refused = more topic read.NoMemory h.refused; ends = h.ends }
+
+  pub sends_nothing-more : (consumer : Entry) (a b : Play) → SendsNothing R consumer a b → SendsNothing S consumer a b
+  sends_nothing-more consumer a b (inl nothing) = inl nothing
+  sends_nothing-more consumer a b (inr finds) = inr (finds_no_memory-more consumer.topic a b finds)
+
+  stops-more : (topic : ℕ) (a b : Play) → (b ≡ a) ⊎ FindsNoMemory R topic a b → (b ≡ a) ⊎ FindsNoMemory S topic a b
+  stops-more topic a b (inl same) = inl same
+  stops-more topic a b (inr finds) = inr (finds_no_memory-more topic a b finds)
+
+  pub serves-more : (consumer : Entry) (most n : ℕ) (a b : Play) → Serves R consumer most n a b → Serves S consumer most n a b
+  serves-more consumer most n a b h = record { sent = h.sent; sends = h.sends; within = h.within; stops = stops-more consumer.topic h.sent b h.stops; all = h.all }
+
+  pub serves_each-more : (consumers : List Entry) (most n : ℕ) (a b : Play) → ServesEach R consumers most n a b → ServesEach S consumers most n a b
+  serves_each-more [] most n a b h = h
+  serves_each-more (c ∷ cs) most n a b h = (h.0, h.1, h.2, serves-more c most h.0 a h.2 h.3, serves_each-more cs (most - h.0) h.1 h.2 b h.4, h.5)
+
+  pub serves_until-more : (consumer : Entry) (most : ℕ) (why : PumpFault) (a b : Play) → ServesUntil R consumer most why a b → ServesUntil S consumer most why a b
+  serves_until-more consumer most why a b h = record { count = h.count; sends = h.sends; within = h.within; goes_on = h.goes_on; device = h.device; refused = more consumer.topic read.Device h.refused }
+
+  pub serves_one-more : (consumer : Entry) (most : ℕ) (result : Result ℕ PumpFault) (a b : Play) → ServesOne R consumer most result a b → ServesOne S consumer most result a b
+  serves_one-more consumer most (Ok n) a b h = serves-more consumer most n a b h
+  serves_one-more consumer most (Err why) a b h = serves_until-more consumer most why a b h
 
   pub serves_all-more : (consumers : List Entry) (most : ℕ) (result : Result ℕ PumpFault) (a b : Play) → ServesAll R consumers most result a b → ServesAll S consumers most result a b
   serves_all-more consumers most (Ok n) a b h = serves_each-more consumers most n a b h
@@ -116,7 +118,7 @@ module _ (R S : ReadError → Type 0) (more : (why : ReadError) → R why → S 
 pub not_none : (why : Fault) → Some why ≡ None → ⊥
 not_none why is = cc
 
-module _ (Refused : ReadError → Type 0) where
+module _ (Refused : ℕ → ReadError → Type 0) where
   -- by a topic that isn't there
   pub serves-absent : (consumer : Entry) (most : ℕ) (p : Play) → length p.broker.topics ≤ consumer.topic → Serves Refused consumer most 0 p p
   serves-absent consumer most p h = record {
@@ -172,14 +174,14 @@ module _ (Refused : ReadError → Type 0) where
   }
 
   -- until the device fails
-  pub serves-refused : (consumer : Entry) (most n : ℕ) (why : PumpFault) (a m b : Play) → n < most → Sends consumer n a m → m.client.fault ≡ None → (why ≡ Device) × (b ≡ m) → IsTold Refused why → ServesUntil Refused consumer most why a b
+  pub serves-refused : (consumer : Entry) (most n : ℕ) (why : PumpFault) (a m b : Play) → n < most → Sends consumer n a m → m.client.fault ≡ None → (why ≡ Device) × (b ≡ m) → IsTold (Refused consumer.topic) why → ServesUntil Refused consumer most why a b
   serves-refused consumer most n why a m b within sends none stops told = record {
     count = n;
     sends = subst (Sends consumer n a) (sym stops.1) sends;
     within = within;
     goes_on = ap (λ (p : Play). p.client.fault) stops.1 ∙ none;
     device = stops.0;
-    refused = subst (IsTold Refused) stops.0 told;
+    refused = subst (IsTold (Refused consumer.topic)) stops.0 told;
   }
 
   -- consumers of topics that are quiet are passed over

@@ -41,13 +41,13 @@ module _ (client : Client) where
     record { goes_on = h.2.goes_on; message = h.2.message; takes = h.2.takes; says = says h.0.client h.0.out h.2.message q.client q.out h.2.says },
   )
 
-  module _ (Refused : ReadError → Type 0) where
-    stops : (p q : Play) → (q ≡ p) ⊎ FindsNoMemory Refused p q → (as_play q ≡ as_play p) ⊎ FindsNoMemory Refused (as_play p) (as_play q)
-    stops p q (inl same) = inl (ap as_play same)
-    stops p q (inr finds) = inr (record { goes_on = finds.goes_on; refused = finds.refused; ends = ap as_play finds.ends })
+  module _ (Refused : ℕ → ReadError → Type 0) where
+    stops : (topic : ℕ) (p q : Play) → (q ≡ p) ⊎ FindsNoMemory Refused topic p q → (as_play q ≡ as_play p) ⊎ FindsNoMemory Refused topic (as_play p) (as_play q)
+    stops topic p q (inl same) = inl (ap as_play same)
+    stops topic p q (inr finds) = inr (record { goes_on = finds.goes_on; refused = finds.refused; ends = ap as_play finds.ends })
 
     serves : (consumer : Entry) (most n : ℕ) (p q : Play) → Serves Refused consumer most n p q → Serves Refused consumer most n (as_play p) (as_play q)
-    serves consumer most n p q h = record { sent = as_play h.sent; sends = sends consumer n p h.sent h.sends; within = h.within; stops = stops h.sent q h.stops; all = h.all }
+    serves consumer most n p q h = record { sent = as_play h.sent; sends = sends consumer n p h.sent h.sends; within = h.within; stops = stops consumer.topic h.sent q h.stops; all = h.all }
 
     serves_each : (consumers : List Entry) (most n : ℕ) (p q : Play) → ServesEach Refused consumers most n p q → ServesEach Refused consumers most n (as_play p) (as_play q)
     serves_each [] most n p q h = (h.0, ap as_play h.1)
@@ -85,7 +85,7 @@ answer_tells None replies (Err why) h = h
 answer_tells (Some why) replies messages h = refl
 
 -- a pump of a session that has no fault
-pub pump_spoken : (R S : ReadError → Type 0) → ((why : ReadError) → R why → S why) → (v client : Client) (b b' : Broker) (out : List ℕ) (replies : ℕ) (collected : Play) (entries : List Entry) (messages : Result ℕ PumpFault) (served : Play)
+pub pump_spoken : (R S : ℕ → ReadError → Type 0) → ((topic : ℕ) (why : ReadError) → R topic why → S topic why) → (v client : Client) (b b' : Broker) (out : List ℕ) (replies : ℕ) (collected : Play) (entries : List Entry) (messages : Result ℕ PumpFault) (served : Play)
     (result : Result More PumpFault) → v.fault ≡ None → client.number ≡ v.number → client.fault ≡ None → client.consumers ≡ entries → served.client.number ≡ v.number →
     Collects replies (play v b out) collected → replies ≤ 65536 → (collected.client.fault ≡ None → replies < 65536 → HasNothingDue collected) →
     ServesThese R (nat_lt replies 65536) entries messages collected served → b' ≡ left_if served.client.fault served.broker served.client.number → IfErr messages (λ why. ended_by why ≡ None) →

@@ -171,7 +171,7 @@ sends_write consumer zero old new h = writes_same old new (ap (λ (p : Play). p.
 sends_write consumer (suc count) old new h =
     writes_both old.out h.0.out new.out (sends_write consumer count old h.0 h.1) ((speaks_says h.0.client new.client h.0.out new.out h.2.message h.2.says).writes)
 
-module _ (Refused : ReadError → Type 0) where
+module _ (Refused : ℕ → ReadError → Type 0) where
   pub serves_writes : (consumer : Entry) (most count : ℕ) (old new : Play) → Serves Refused consumer most count old new → Writes old.out new.out
   serves_writes consumer most count old new h =
       writes_both old.out h.sent.out new.out (sends_write consumer count old h.sent h.sends)
@@ -198,4 +198,4 @@ module _ (Refused : ReadError → Type 0) where
   pump_writes (Some why) old result new h = writes_same old new (ap (λ (p : Play). p.out) h.1)
 
 pub pumps_write_frames : PumpsWriteFrames
-pumps_write_frames old result new h = pump_writes (λ why. Unit {0}) old.client.fault old result new h
+pumps_write_frames old result new h = pump_writes (λ topic why. Unit {0}) old.client.fault old result new h

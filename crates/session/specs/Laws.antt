@@ -26,7 +26,7 @@ use Rattle.session.specs.declared.pumping.PumpFault.TheVariants.{Ended}
 
 -- a pump, whichever messages it is refused
 abbrev pub AnyPump : Play → Result More PumpFault → Play → Type 0
-AnyPump old result new = PumpStep (λ why. Unit {0}) old result new
+AnyPump old result new = PumpStep (λ topic why. Unit {0}) old result new
 
 -- a feed and a frame of it, whatever a search meets
 abbrev pub AnyFeed : Play → List ℕ → Result (Unit {0}) Fault → Play → Type 0

@@ -78,30 +78,30 @@ pumped_fault (Err why) = ended_by why
 abbrev pub pumped : Client → Result More PumpFault → Client
 pumped c result = record c { fault = pumped_fault result }
 
--- which refusals of a message the broker answered
-module _ (Refused : ReadError → Type 0) where
-  -- a pump that stops for a device that fails, or for damage, was refused a message so
-  abbrev pub IsTold : PumpFault → Type 0
-  IsTold (Ended why) = Unit {0}
-  IsTold Device = Refused read.Device
-  IsTold (Damaged file offset) = Refused (read.Damaged file offset)
+-- a pump that stops for a device that fails, or for damage, was refused a message so
+abbrev pub IsTold : (ReadError → Type 0) → PumpFault → Type 0
+IsTold Refused (Ended why) = Unit {0}
+IsTold Refused Device = Refused read.Device
+IsTold Refused (Damaged file offset) = Refused (read.Damaged file offset)
 
-  -- the broker refuses a message for want of memory, which ends a session that hasn't ended
-  pub record FindsNoMemory (old new : Play) : Type 0 where
+-- which refusals of a message of each topic, by its number, the broker answered
+module _ (Refused : ℕ → ReadError → Type 0) where
+  -- the broker refuses a message of a topic for want of memory, which ends a session that hasn't ended
+  pub record FindsNoMemory (topic : ℕ) (old new : Play) : Type 0 where
     pub goes_on : old.client.fault ≡ None
-    pub refused : Refused read.NoMemory
+    pub refused : Refused topic read.NoMemory
     pub ends : Ends old fault.NoMemory new
 
   -- there is no message for the consumer: nothing is admitted, or the broker refuses one for want of memory
   abbrev pub SendsNothing : Entry → Play → Play → Type 0
-  SendsNothing consumer old new = (AdmitsNothing consumer old × (new ≡ old)) ⊎ FindsNoMemory old new
+  SendsNothing consumer old new = (AdmitsNothing consumer old × (new ≡ old)) ⊎ FindsNoMemory consumer.topic old new
 
   -- one consumer gets messages until nothing is admitted, up to a bound, or until the session ends
   pub record Serves (consumer : Entry) (most count : ℕ) (old new : Play) : Type 0 where
     pub sent : Play
     pub sends : Sends consumer count old sent
     pub within : count ≤ most
-    pub stops : (new ≡ sent) ⊎ FindsNoMemory sent new
+    pub stops : (new ≡ sent) ⊎ FindsNoMemory consumer.topic sent new
     pub all : new.client.fault ≡ None → count < most → AdmitsNothing consumer new
 
   -- one consumer after another, with so many messages together at most
@@ -110,15 +110,15 @@ module _ (Refused : ReadError → Type 0) where
   ServesEach (consumer ∷ consumers) most count old new =
       (first : ℕ) × (rest : ℕ) × (between : Play) × Serves consumer most first old between × ServesEach consumers (most - first) rest between new × (count ≡ first + rest)
 
-  -- one consumer gets messages until the broker refuses one, since the device failed in reading it; that changes nothing, and no
-  -- file is ever damaged
+  -- one consumer gets messages until the broker refuses one of its topic, since the device failed in reading it; that changes nothing,
+  -- and no file is ever damaged
   pub record ServesUntil (consumer : Entry) (most : ℕ) (why : PumpFault) (old new : Play) : Type 0 where
     pub count : ℕ
     pub sends : Sends consumer count old new
     pub within : count < most
     pub goes_on : new.client.fault ≡ None
     pub device : why ≡ Device
-    pub refused : Refused read.Device
+    pub refused : Refused consumer.topic read.Device
 
   -- one consumer gets so many messages, or messages until the device fails
   abbrev pub ServesOne : Entry → ℕ → Result ℕ PumpFault → Play → Play → Type 0

@@ -1,4 +1,4 @@
-ghost use Rattle.std.specs.Prelude.{◌≡◌, Err, IfErr, IfOk, IfSome};
+ghost use Rattle.std.specs.Prelude.{◌≡◌, ℕ, Err, IfErr, IfOk, IfSome};
 ghost use Rattle.session.specs.Client.{Client, play, Writes};
 ghost use Rattle.session.specs.declared.pumping.PumpFault.TheVariants.{Ended};
 ghost use Rattle.session.specs.Listing.{IsListOf};
@@ -94,11 +94,11 @@ impl List {
     /// Does for the session what a pump of it does. Whoever holds the session then has to hand it the answer by its
     /// `end_as_served`, since where this ended it for want of memory it has left each topic.
     pub fn serve<P: Port>(self, port: &mut P, out: &mut Vec<u8>) -> Result<More, PumpFault>
-        ensures step { P.sole port.old → (client : Client) → IsListOf client self → PumpStep (λ why. P.refuses port.old why port.new) (play client (P.broker port.old) out.old.items) result
+        ensures step { P.sole port.old → (client : Client) → IsListOf client self → PumpStep (λ topic why. P.refuses port.old topic why port.new) (play client (P.broker port.old) out.old.items) result
             (play (pumped client result) (P.broker port.new) out.new.items) }
 
         // Whoever else uses the broker:
-        ensures told { IfErr result (λ fault. IsTold (λ why. P.refuses port.old why port.new) fault) }
+        ensures told { IfErr result (λ fault. IsTold (λ why. (topic : ℕ) × P.refuses port.old topic why port.new) fault) }
         ensures ended { IfSome self.fault (λ why. (result ≡ Err (Ended why)) × (out.new.items ≡ out.old.items)) }
         ensures writes { Writes out.old.items out.new.items }
         ensures passes { P.passes port.old port.new }

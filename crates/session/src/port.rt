@@ -65,8 +65,8 @@ pub trait Port {
     /// The device failed between the two.
     ghost fails: { Self → Self → Type 0 };
 
-    /// A message was refused so between the two, and there is a cause for it.
-    ghost refuses: { Self → ReadError → Self → Type 0 };
+    /// A message of the topic of this number was refused so between the two, and there is a cause for it.
+    ghost refuses: { Self → ℕ → ReadError → Self → Type 0 };
 
     /// Where clients find the broker, of which it tells those that look for a topic's.
     fn service_url(&self) -> &str
@@ -135,7 +135,7 @@ pub trait Port {
         ensures about { (Self.Sent.topic result ≡ topic) × (Self.Sent.who result ≡ who) × (Self.Sent.asked result ≡ consumer_id) }
         ensures step { sole self.old → DispatchAt (broker self.old) topic who consumer_id (Self.Sent.said result) (broker self.new) }
         ensures sends { SendsTo consumer_id (Self.Sent.said result) }
-        ensures refused { IfErr (Self.Sent.said result) (λ why. refuses self.old why self.new) }
+        ensures refused { IfErr (Self.Sent.said result) (λ why. refuses self.old topic why self.new) }
         ensures passes { passes self.old self.new };
 
     /// Whether a topic has nothing for the consumers of a session. Changes nothing.
@@ -184,7 +184,7 @@ pub trait Port {
     ghost fails_within: { (a b c d : Self) → works a b → works b c → works c d → fails b c → fails a d };
 
     /// What was refused between two calls was refused between an earlier one and a later one.
-    ghost refuses_within: { (a b c d : Self) (why : ReadError) → passes a b → passes b c → passes c d → refuses b why c → refuses a why d };
+    ghost refuses_within: { (a b c d : Self) (topic : ℕ) (why : ReadError) → passes a b → passes b c → passes c d → refuses b topic why c → refuses a topic why d };
 
     /// The count never falls.
     ghost passes_count: { (a b : Self) → passes a b → count a ≤ count b };

@@ -50,12 +50,12 @@ impl Session {
     /// messages to the session's consumers, at most 64 of them. A reply or a message that finds no memory ends the session. A
     /// message that the device fails to read stops the pump and changes nothing: what went out before stands.
     pub fn pump<P: Port>(&mut self, port: &mut P, out: &mut Vec<u8>) -> Result<More, PumpFault>
-        ensures step { P.sole port.old → PumpStep (λ why. P.refuses port.old why port.new) (play self.old (P.broker port.old) out.old.items) result
+        ensures step { P.sole port.old → PumpStep (λ topic why. P.refuses port.old topic why port.new) (play self.old (P.broker port.old) out.old.items) result
             (play self.new (P.broker port.new) out.new.items) }
 
         // Whoever else uses the broker:
         ensures result { pumped_fault result ≡ self.new.fault }
-        ensures told { IfErr result (λ fault. IsTold (λ why. P.refuses port.old why port.new) fault) }
+        ensures told { IfErr result (λ fault. IsTold (λ why. (topic : ℕ) × P.refuses port.old topic why port.new) fault) }
         ensures ended { IfSome self.old.fault (λ why. (self.new ≡ self.old) × (out.new.items ≡ out.old.items)) }
         ensures number { self.new.number ≡ self.old.number }
         ensures writes { Writes out.old.items out.new.items }
@@ -97,9 +97,9 @@ impl Speaker {
     ) -> Result<More, PumpFault>
         requires { self.fault ≡ None }
         ensures step { P.sole port.old → (client : Client) → client.number ≡ self.number → client.fault ≡ None → client.consumers ≡ R.entries roll.now →
-            PumpStep (λ why. P.refuses port.old why port.new) (play client (P.broker port.old) out.old.items) result
+            PumpStep (λ topic why. P.refuses port.old topic why port.new) (play client (P.broker port.old) out.old.items) result
             (play (pumped client result) (P.broker port.new) out.new.items) }
-        ensures told { IfErr result (λ fault. IsTold (λ why. P.refuses port.old why port.new) fault) }
+        ensures told { IfErr result (λ fault. IsTold (λ why. (topic : ℕ) × P.refuses port.old topic why port.new) fault) }
         ensures writes { Writes out.old.items out.new.items }
         ensures passes { P.passes port.old port.new }
     {
@@ -193,10 +193,10 @@ impl Speaker {
         port: &mut P,
         out: &mut Vec<u8>,
     ) -> Result<usize, PumpFault>
-        ensures serves { P.sole port.old → ServesThese (λ why. P.refuses port.old why port.new) goes_on (R.entries roll.now) result (play self.old (P.broker port.old) out.old.items)
+        ensures serves { P.sole port.old → ServesThese (λ topic why. P.refuses port.old topic why port.new) goes_on (R.entries roll.now) result (play self.old (P.broker port.old) out.old.items)
             (play self.new (P.broker port.new) out.new.items) }
         ensures refused { IfErr result (λ why. ended_by why ≡ None) }
-        ensures told { IfErr result (λ fault. IsTold (λ why. P.refuses port.old why port.new) fault) }
+        ensures told { IfErr result (λ fault. IsTold (λ why. (topic : ℕ) × P.refuses port.old topic why port.new) fault) }
         ensures speaks { Speaks self.old out.old.items self.new out.new.items }
         ensures passes { P.passes port.old port.new }
     {
@@ -214,10 +214,10 @@ impl Speaker {
         port: &mut P,
         out: &mut Vec<u8>,
     ) -> Result<usize, PumpFault>
-        ensures serves { P.sole port.old → ServesAll (λ why. P.refuses port.old why port.new) (R.entries roll.now) 64 result (play self.old (P.broker port.old) out.old.items)
+        ensures serves { P.sole port.old → ServesAll (λ topic why. P.refuses port.old topic why port.new) (R.entries roll.now) 64 result (play self.old (P.broker port.old) out.old.items)
             (play self.new (P.broker port.new) out.new.items) }
         ensures refused { IfErr result (λ why. ended_by why ≡ None) }
-        ensures told { IfErr result (λ fault. IsTold (λ why. P.refuses port.old why port.new) fault) }
+        ensures told { IfErr result (λ fault. IsTold (λ why. (topic : ℕ) × P.refuses port.old topic why port.new) fault) }
         ensures speaks { Speaks self.old out.old.items self.new out.new.items }
         ensures passes { P.passes port.old port.new }
     {
@@ -236,10 +236,10 @@ impl Speaker {
         port: &mut P,
         out: &mut Vec<u8>,
     ) -> Result<usize, PumpFault>
-        ensures serves { P.sole port.old → ServesAll (λ why. P.refuses port.old why port.new) (R.entries roll.now) 64 result (play self.old (P.broker port.old) out.old.items)
+        ensures serves { P.sole port.old → ServesAll (λ topic why. P.refuses port.old topic why port.new) (R.entries roll.now) 64 result (play self.old (P.broker port.old) out.old.items)
             (play self.new (P.broker port.new) out.new.items) }
         ensures refused { IfErr result (λ why. ended_by why ≡ None) }
-        ensures told { IfErr result (λ fault. IsTold (λ why. P.refuses port.old why port.new) fault) }
+        ensures told { IfErr result (λ fault. IsTold (λ why. (topic : ℕ) × P.refuses port.old topic why port.new) fault) }
         ensures speaks { Speaks self.old out.old.items self.new out.new.items }
         ensures passes { P.passes port.old port.new }
     {
@@ -269,10 +269,10 @@ impl Speaker {
         ensures knows { P.sole port.old → Knows self.old.number (P.broker port.old) last.old → Knows self.new.number (P.broker port.new) last.new }
         ensures most { IfOk result (λ count. count ≤ room) }
         ensures serves { P.sole port.old → Knows self.old.number (P.broker port.old) last.old →
-            ServesOne (λ why. P.refuses port.old why port.new) consumer room result (play self.old (P.broker port.old) out.old.items)
+            ServesOne (λ topic why. P.refuses port.old topic why port.new) consumer room result (play self.old (P.broker port.old) out.old.items)
             (play self.new (P.broker port.new) out.new.items) }
         ensures refused { IfErr result (λ why. ended_by why ≡ None) }
-        ensures told { IfErr result (λ fault. IsTold (λ why. P.refuses port.old why port.new) fault) }
+        ensures told { IfErr result (λ fault. IsTold (λ why. P.refuses port.old consumer.topic why port.new) fault) }
         ensures speaks { Speaks self.old out.old.items self.new out.new.items }
         ensures passes { P.passes port.old port.new }
     {
@@ -293,10 +293,10 @@ impl Speaker {
         out: &mut Vec<u8>,
     ) -> Result<usize, PumpFault>
         ensures most { IfOk result (λ count. count ≤ room) }
-        ensures serves { P.sole port.old → ServesOne (λ why. P.refuses port.old why port.new) consumer room result (play self.old (P.broker port.old) out.old.items)
+        ensures serves { P.sole port.old → ServesOne (λ topic why. P.refuses port.old topic why port.new) consumer room result (play self.old (P.broker port.old) out.old.items)
             (play self.new (P.broker port.new) out.new.items) }
         ensures refused { IfErr result (λ why. ended_by why ≡ None) }
-        ensures told { IfErr result (λ fault. IsTold (λ why. P.refuses port.old why port.new) fault) }
+        ensures told { IfErr result (λ fault. IsTold (λ why. P.refuses port.old consumer.topic why port.new) fault) }
         ensures speaks { Speaks self.old out.old.items self.new out.new.items }
         ensures passes { P.passes port.old port.new }
     {
@@ -324,10 +324,10 @@ impl Speaker {
         requires goes_on { self.old.fault ≡ None }
         ensures some { result ≡ Ok true → P.sole port.old → SendsOne consumer (play self.old (P.broker port.old) out.old.items)
             (play self.new (P.broker port.new) out.new.items) }
-        ensures none { result ≡ Ok false → P.sole port.old → SendsNothing (λ why. P.refuses port.old why port.new) consumer (play self.old (P.broker port.old) out.old.items)
+        ensures none { result ≡ Ok false → P.sole port.old → SendsNothing (λ topic why. P.refuses port.old topic why port.new) consumer (play self.old (P.broker port.old) out.old.items)
             (play self.new (P.broker port.new) out.new.items) }
         ensures refused { IfErr result (λ why. ended_by why ≡ None) }
-        ensures told { IfErr result (λ fault. IsTold (λ why. P.refuses port.old why port.new) fault) }
+        ensures told { IfErr result (λ fault. IsTold (λ why. P.refuses port.old consumer.topic why port.new) fault) }
         ensures device { P.sole port.old → IfErr result (λ why. (why ≡ Device)
             × (play self.new (P.broker port.new) out.new.items ≡ play self.old (P.broker port.old) out.old.items)) }
         ensures speaks { Speaks self.old out.old.items self.new out.new.items }

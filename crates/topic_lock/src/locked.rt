@@ -331,7 +331,7 @@ impl<'p, 'a, T: TopicStore, S: Shelf + Drop, K: Tallies, R: Wait + Log> Port
 
     ghost fails = { λ _ _. Unit {0} };
 
-    ghost refuses = { λ _ _ _. Unit {0} };
+    ghost refuses = { λ _ _ _ _. Unit {0} };
 
     type Answered = Heard<TopicCommand, Answer>;
 
@@ -542,7 +542,7 @@ impl<'p, 'a, T: TopicStore, S: Shelf + Drop, K: Tallies, R: Wait + Log> Port
 
     ghost fails_within = { λ a b c d before between after fails. tt };
 
-    ghost refuses_within = { λ a b c d why before between after refused. tt };
+    ghost refuses_within = { λ a b c d topic why before between after refused. tt };
 
     ghost passes_count = { λ a b passes. omega (arith, passes) };
 

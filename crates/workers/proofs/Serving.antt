@@ -40,7 +40,7 @@ pumped_is (Some why) client answer start out is h =
     ap (λ (r : Result More PumpFault). pumped client r) h.0 ∙ ap (λ (f : Option Fault). record client { fault = f }) (sym is) ∙ ap (λ (f : Option Fault). served_from f client answer) (sym is)
 
 -- the session's step, from no byte on, to what is written
-pub served_step : (refused : ReadError → Type 0) (fault : Option Fault) (client : Client) (before after : Broker) (start out : List ℕ) (answer : Result More PumpFault) (number : ℕ) (o : Option Output)
+pub served_step : (refused : ℕ → ReadError → Type 0) (fault : Option Fault) (client : Client) (before after : Broker) (start out : List ℕ) (answer : Result More PumpFault) (number : ℕ) (o : Option Output)
     → PumpStep refused (play client before start) answer (play (pumped client answer) after out) → fault ≡ client.fault → IfSome fault (λ why. (answer ≡ Err (Ended why)) × (out ≡ start))
     → start ≡ [] → IsOutput number out o → PumpStep refused (play client before []) answer (play (client_served client answer) after (bytes_of_output o))
 served_step refused fault client before after start out answer number o step is ended none p =

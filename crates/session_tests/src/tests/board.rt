@@ -141,7 +141,7 @@ impl Port for Board {
 
     ghost fails = { λ _ _. Unit {0} };
 
-    ghost refuses = { λ _ _ _. Unit {0} };
+    ghost refuses = { λ _ _ _ _. Unit {0} };
 
     type Answered = Plain<TopicCommand, Answer>;
 
@@ -293,7 +293,7 @@ impl Port for Board {
 
     ghost fails_within = { λ a b c d h k l failed. tt };
 
-    ghost refuses_within = { λ a b c d why h k l refused. tt };
+    ghost refuses_within = { λ a b c d topic why h k l refused. tt };
 
     ghost passes_count = { λ a b h. h };
 

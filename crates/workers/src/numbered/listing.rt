@@ -26,7 +26,7 @@ impl Listing {
     pub fn serve<P: Port>(self, port: &mut P) -> Pumped
         ensures number { result.number ≡ self.number }
         ensures output { IsOutput self.number (bytes_of_output result.output) result.output }
-        ensures step { P.sole port.old → (client : Client) → IsListOf client self.list → PumpStep (λ why. P.refuses port.old why port.new) (play client (P.broker port.old) [])
+        ensures step { P.sole port.old → (client : Client) → IsListOf client self.list → PumpStep (λ topic why. P.refuses port.old topic why port.new) (play client (P.broker port.old) [])
             result.answer (play (client_served client result.answer) (P.broker port.new) (bytes_of_output result.output)) }
         ensures ended { IfSome self.list.fault (λ why. (result.answer ≡ Err (Ended why)) × (result.output ≡ None)) }
     {

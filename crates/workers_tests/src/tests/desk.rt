@@ -137,7 +137,7 @@ impl<'g> Port for Desk<'g> {
 
     ghost fails = { λ _ _. Unit {0} };
 
-    ghost refuses = { λ _ _ _. Unit {0} };
+    ghost refuses = { λ _ _ _ _. Unit {0} };
 
     type Answered = Plain<TopicCommand, Answer>;
 
@@ -254,7 +254,7 @@ impl<'g> Port for Desk<'g> {
 
     ghost fails_within = { λ a b c d h k l failed. tt };
 
-    ghost refuses_within = { λ a b c d why h k l refused. tt };
+    ghost refuses_within = { λ a b c d topic why h k l refused. tt };
 
     ghost passes_count = { λ a b h. Prim.search rules };
 

@@ -5,5 +5,5 @@ pub returns : goal.returns
 returns c = record {
   start = λ number. tt;
   feed = feeds_rise;
-  pump = pumps_rise (λ why. Unit {0});
+  pump = pumps_rise (λ topic why. Unit {0});
 }

@@ -26,9 +26,9 @@ returns-clause-step g c = λ stands.
     let after = c.pump-pumped.new.port in
     let passed = c.pump-pumped.ensures.passes.1 stands in
     let played = play c.pump-pumped.new.self (broker_of after) c.pump-pumped.new.out.items in
-    let May : ReadError → Type 0 = MayRefuse (stages_of before) (disk before.shelf).faults (disk after.shelf).faults in
+    let May : ℕ → ReadError → Type 0 = MayRefuse (stages_of before) (disk before.shelf).faults (disk after.shelf).faults in
     let step : pumping.PumpStep May (play c.index_mut-session.result.now (broker_of before) c.new-out.result.items) c.pump-pumped.result played =
-    pump_step-more (λ why. Refuses disk before why after) May (λ why refused. refused stands) _ _ _ (c.pump-pumped.ensures.step stands) in
+    pump_step-more (λ number why. Refuses disk before number why after) May (λ number why refused. refused stands) _ _ _ (c.pump-pumped.ensures.step stands) in
     let at : place_of c.args.self.now.sessions.items c.args.who ≡ Some c.in-Some.place = search rules in
     let sessions = c.args.self.now.sessions.items in
     let within : c.in-Some.place < length sessions = search rules in

@@ -1,4 +1,4 @@
-use Rattle.std.proofs.Common.{◌≡◌, ◌∙◌, List, sym, ap, subst}
+use Rattle.std.proofs.Common.{◌≡◌, ◌∙◌, ℕ, List, sym, ap, subst}
 use Rattle.gated_log.specs.declared.read_error.ReadError.{ReadError}
 use Rattle.session.specs.Broker.{Broker}
 use Rattle.session.specs.declared.entry.Entry.{Entry}
@@ -14,8 +14,8 @@ returns-clause-step g c = λ s.
     let looking = c.look.ensures in
     let pumping = c.pump-answer.ensures in
     let last = c.pump-answer.new.port in
-    let Told : ReadError → Type 0 = λ why. g.P.Port.refuses c.args.port.now why last in
-    let more : (why : ReadError) → g.P.Port.refuses c.look.new.port why last → Told why = λ why h. port.refuses_within c.args.port.now c.look.new.port last last why looking.passes pumping.passes (port.passes_nothing last) h in
+    let Told : ℕ → ReadError → Type 0 = λ topic why. g.P.Port.refuses c.args.port.now topic why last in
+    let more : (topic : ℕ) (why : ReadError) → g.P.Port.refuses c.look.new.port topic why last → Told topic why = λ topic why h. port.refuses_within c.args.port.now c.look.new.port last last topic why looking.passes pumping.passes (port.passes_nothing last) h in
     let step = pump_step-more _ Told more _ _ _ (pumping.step (port.passes_sole _ _ looking.passes s) client (sym (ap (λ (v : Client). v.number) c.self.view_is) ∙ sym (ap (λ (v : Client). v.number) c.new-speaker.ensures)) (sym (ap (λ (v : Client). v.fault) c.self.view_is) ∙ c.in_default.is) (sym (ap (λ (v : Client). v.consumers) c.self.view_is) ∙ sym looking.unchanged)) in
     let with : List Entry → Client = λ xs. record {
       number = c.self.inside.number;
@@ -34,6 +34,6 @@ pub returns-clause-told : goal.returns-clause-told
 returns-clause-told g c =
     let port = g.met.P.Port in
     let last = c.pump-answer.new.port in
-    let Told : ReadError → Type 0 = λ why. g.P.Port.refuses c.args.port.now why last in
-    let more : (why : ReadError) → g.P.Port.refuses c.look.new.port why last → Told why = λ why h. port.refuses_within c.args.port.now c.look.new.port last last why c.look.ensures.passes c.pump-answer.ensures.passes (port.passes_nothing last) h in
+    let Told : ReadError → Type 0 = λ why. (topic : ℕ) × g.P.Port.refuses c.args.port.now topic why last in
+    let more : (why : ReadError) → (topic : ℕ) × g.P.Port.refuses c.look.new.port topic why last → Told why = λ why h. (h.0, port.refuses_within c.args.port.now c.look.new.port last last h.0 why c.look.ensures.passes c.pump-answer.ensures.passes (port.passes_nothing last) h.1) in
     pumped_told-more _ Told more c.pump-answer.result c.pump-answer.ensures.told

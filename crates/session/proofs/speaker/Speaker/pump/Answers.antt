@@ -27,12 +27,12 @@ returns-in_err-messages-clause-writes g c = writes_both _ _ _ c.collect_all-repl
 pub returns-in-Some-clause-step : goal.returns-in-Some-clause-step
 returns-in-Some-clause-step g c = λ s client number goes_on are.
     let port = g.met.P.Port in
-    let Told : ReadError → Type 0 = λ why. g.P.Port.refuses c.args.port.now why c.leave_if_ended.new.port in
+    let Told : ℕ → ReadError → Type 0 = λ topic why. g.P.Port.refuses c.args.port.now topic why c.leave_if_ended.new.port in
     let collecting = c.collect_all-replies.ensures in
     let serving = c.serve_if-messages.ensures in
     let served = play c.serve_if-messages.new.self (g.P.Port.broker c.serve_if-messages.new.port) c.serve_if-messages.new.out.items in
-    let more : (why : ReadError) → g.P.Port.refuses c.collect_all-replies.new.port why c.serve_if-messages.new.port → Told why =
-    λ why h. port.refuses_within c.args.port.now c.collect_all-replies.new.port c.serve_if-messages.new.port c.leave_if_ended.new.port why collecting.passes serving.passes c.leave_if_ended.ensures.passes h in
+    let more : (topic : ℕ) (why : ReadError) → g.P.Port.refuses c.collect_all-replies.new.port topic why c.serve_if-messages.new.port → Told topic why =
+    λ topic why h. port.refuses_within c.args.port.now c.collect_all-replies.new.port c.serve_if-messages.new.port c.leave_if_ended.new.port topic why collecting.passes serving.passes c.leave_if_ended.ensures.passes h in
     let after = port.passes_sole _ _ collecting.passes s in
     let left = c.leave_if_ended.ensures.left (port.passes_sole _ _ serving.passes after) in
     let why : c.serve_if-messages.new.self.fault ≡ Some c.in-Some.why = sym c.leave_if_ended.ensures.fault ∙ c.in-Some.is in
@@ -42,12 +42,12 @@ returns-in-Some-clause-step g c = λ s client number goes_on are.
 pub returns-in_err-messages-clause-step : goal.returns-in_err-messages-clause-step
 returns-in_err-messages-clause-step g c = λ s client number goes_on are.
     let port = g.met.P.Port in
-    let Told : ReadError → Type 0 = λ why. g.P.Port.refuses c.args.port.now why c.leave_if_ended.new.port in
+    let Told : ℕ → ReadError → Type 0 = λ topic why. g.P.Port.refuses c.args.port.now topic why c.leave_if_ended.new.port in
     let collecting = c.collect_all-replies.ensures in
     let serving = c.serve_if-messages.ensures in
     let served = play c.serve_if-messages.new.self (g.P.Port.broker c.serve_if-messages.new.port) c.serve_if-messages.new.out.items in
-    let more : (why : ReadError) → g.P.Port.refuses c.collect_all-replies.new.port why c.serve_if-messages.new.port → Told why =
-    λ why h. port.refuses_within c.args.port.now c.collect_all-replies.new.port c.serve_if-messages.new.port c.leave_if_ended.new.port why collecting.passes serving.passes c.leave_if_ended.ensures.passes h in
+    let more : (topic : ℕ) (why : ReadError) → g.P.Port.refuses c.collect_all-replies.new.port topic why c.serve_if-messages.new.port → Told topic why =
+    λ topic why h. port.refuses_within c.args.port.now c.collect_all-replies.new.port c.serve_if-messages.new.port c.leave_if_ended.new.port topic why collecting.passes serving.passes c.leave_if_ended.ensures.passes h in
     let after = port.passes_sole _ _ collecting.passes s in
     let left = c.leave_if_ended.ensures.left (port.passes_sole _ _ serving.passes after) in
     let none : c.serve_if-messages.new.self.fault ≡ None = sym c.leave_if_ended.ensures.fault ∙ c.in_default.is in
@@ -58,12 +58,12 @@ returns-in_err-messages-clause-step g c = λ s client number goes_on are.
 pub returns-then-messages-eq-MOST_MESSAGES-clause-step : goal.returns-then-messages-eq-MOST_MESSAGES-clause-step
 returns-then-messages-eq-MOST_MESSAGES-clause-step g c = λ s client number goes_on are.
     let port = g.met.P.Port in
-    let Told : ReadError → Type 0 = λ why. g.P.Port.refuses c.args.port.now why c.leave_if_ended.new.port in
+    let Told : ℕ → ReadError → Type 0 = λ topic why. g.P.Port.refuses c.args.port.now topic why c.leave_if_ended.new.port in
     let collecting = c.collect_all-replies.ensures in
     let serving = c.serve_if-messages.ensures in
     let served = play c.serve_if-messages.new.self (g.P.Port.broker c.serve_if-messages.new.port) c.serve_if-messages.new.out.items in
-    let more : (why : ReadError) → g.P.Port.refuses c.collect_all-replies.new.port why c.serve_if-messages.new.port → Told why =
-    λ why h. port.refuses_within c.args.port.now c.collect_all-replies.new.port c.serve_if-messages.new.port c.leave_if_ended.new.port why collecting.passes serving.passes c.leave_if_ended.ensures.passes h in
+    let more : (topic : ℕ) (why : ReadError) → g.P.Port.refuses c.collect_all-replies.new.port topic why c.serve_if-messages.new.port → Told topic why =
+    λ topic why h. port.refuses_within c.args.port.now c.collect_all-replies.new.port c.serve_if-messages.new.port c.leave_if_ended.new.port topic why collecting.passes serving.passes c.leave_if_ended.ensures.passes h in
     let after = port.passes_sole _ _ collecting.passes s in
     let left = c.leave_if_ended.ensures.left (port.passes_sole _ _ serving.passes after) in
     let none : c.serve_if-messages.new.self.fault ≡ None = sym c.leave_if_ended.ensures.fault ∙ c.in_default.is in
@@ -74,12 +74,12 @@ returns-then-messages-eq-MOST_MESSAGES-clause-step g c = λ s client number goes
 pub returns-else-messages-eq-MOST_MESSAGES-clause-step : goal.returns-else-messages-eq-MOST_MESSAGES-clause-step
 returns-else-messages-eq-MOST_MESSAGES-clause-step g c = λ s client number goes_on are.
     let port = g.met.P.Port in
-    let Told : ReadError → Type 0 = λ why. g.P.Port.refuses c.args.port.now why c.leave_if_ended.new.port in
+    let Told : ℕ → ReadError → Type 0 = λ topic why. g.P.Port.refuses c.args.port.now topic why c.leave_if_ended.new.port in
     let collecting = c.collect_all-replies.ensures in
     let serving = c.serve_if-messages.ensures in
     let served = play c.serve_if-messages.new.self (g.P.Port.broker c.serve_if-messages.new.port) c.serve_if-messages.new.out.items in
-    let more : (why : ReadError) → g.P.Port.refuses c.collect_all-replies.new.port why c.serve_if-messages.new.port → Told why =
-    λ why h. port.refuses_within c.args.port.now c.collect_all-replies.new.port c.serve_if-messages.new.port c.leave_if_ended.new.port why collecting.passes serving.passes c.leave_if_ended.ensures.passes h in
+    let more : (topic : ℕ) (why : ReadError) → g.P.Port.refuses c.collect_all-replies.new.port topic why c.serve_if-messages.new.port → Told topic why =
+    λ topic why h. port.refuses_within c.args.port.now c.collect_all-replies.new.port c.serve_if-messages.new.port c.leave_if_ended.new.port topic why collecting.passes serving.passes c.leave_if_ended.ensures.passes h in
     let after = port.passes_sole _ _ collecting.passes s in
     let left = c.leave_if_ended.ensures.left (port.passes_sole _ _ serving.passes after) in
     let none : c.serve_if-messages.new.self.fault ≡ None = sym c.leave_if_ended.ensures.fault ∙ c.in_default.is in
@@ -90,12 +90,12 @@ returns-else-messages-eq-MOST_MESSAGES-clause-step g c = λ s client number goes
 pub returns-in_err-messages-clause-told : goal.returns-in_err-messages-clause-told
 returns-in_err-messages-clause-told g c =
     let port = g.met.P.Port in
-    let Told : ReadError → Type 0 = λ why. g.P.Port.refuses c.args.port.now why c.leave_if_ended.new.port in
+    let Told : ReadError → Type 0 = λ why. (topic : ℕ) × g.P.Port.refuses c.args.port.now topic why c.leave_if_ended.new.port in
     let collecting = c.collect_all-replies.ensures in
     let serving = c.serve_if-messages.ensures in
-    let Refused : ReadError → Type 0 = λ why. g.P.Port.refuses c.collect_all-replies.new.port why c.serve_if-messages.new.port in
+    let Refused : ReadError → Type 0 = λ why. (topic : ℕ) × g.P.Port.refuses c.collect_all-replies.new.port topic why c.serve_if-messages.new.port in
     let more : (why : ReadError) → Refused why → Told why =
-    λ why h. port.refuses_within c.args.port.now c.collect_all-replies.new.port c.serve_if-messages.new.port c.leave_if_ended.new.port why collecting.passes serving.passes c.leave_if_ended.ensures.passes h in
+    λ why h. (h.0, port.refuses_within c.args.port.now c.collect_all-replies.new.port c.serve_if-messages.new.port c.leave_if_ended.new.port h.0 why collecting.passes serving.passes c.leave_if_ended.ensures.passes h.1) in
     let told = subst (λ (r : Result ℕ PumpFault). IfErr r (λ fault. IsTold Refused fault)) c.in_err-messages.was serving.told in
     let p = err_from_is_err_and c.from_residual.result c.from_residual.ensures.1 in
     rw (p.1, p.2) (is_told-more Refused Told more c.in_err-messages.field-0.0 told)

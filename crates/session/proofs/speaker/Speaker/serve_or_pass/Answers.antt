@@ -1,4 +1,4 @@
-use Rattle.std.proofs.Common.{subst}
+use Rattle.std.proofs.Common.{ℕ, subst}
 use Rattle.gated_log.specs.declared.read_error.ReadError.{ReadError}
 use Rattle.session.specs.Broker.{IsQuiet}
 use Rattle.session.specs.Asking.{Knows}
@@ -15,14 +15,15 @@ returns-then-asked-clause-serves g c = λ s knows.
 pub returns-clause-serves : goal.returns-clause-serves
 returns-clause-serves g c = λ s knows.
     let port = g.met.P.Port in
-    let more : (why : ReadError) → g.P.Port.refuses c.ask-asked.new.port why c.serve.new.port → g.P.Port.refuses c.args.port.now why c.serve.new.port = λ why h.
-    port.refuses_within c.args.port.now c.ask-asked.new.port c.serve.new.port c.serve.new.port why c.ask-asked.ensures.passes c.serve.ensures.passes (port.passes_nothing c.serve.new.port) h in
+    let more : (topic : ℕ) (why : ReadError) → g.P.Port.refuses c.ask-asked.new.port topic why c.serve.new.port → g.P.Port.refuses c.args.port.now topic why c.serve.new.port = λ topic why h.
+    port.refuses_within c.args.port.now c.ask-asked.new.port c.serve.new.port c.serve.new.port topic why c.ask-asked.ensures.passes c.serve.ensures.passes (port.passes_nothing c.serve.new.port) h in
     serves-asked _ c.args.consumer c.args.room c.serve.result _ _ _ _ _ (c.ask-asked.ensures.same s)
     (serves_one-more _ _ more c.args.consumer c.args.room c.serve.result _ _ (c.serve.ensures.serves (port.passes_sole _ _ c.ask-asked.ensures.passes s)))
 
 pub returns-clause-told : goal.returns-clause-told
 returns-clause-told g c =
     let port = g.met.P.Port in
-    let more : (why : ReadError) → g.P.Port.refuses c.ask-asked.new.port why c.serve.new.port → g.P.Port.refuses c.args.port.now why c.serve.new.port = λ why h.
-    port.refuses_within c.args.port.now c.ask-asked.new.port c.serve.new.port c.serve.new.port why c.ask-asked.ensures.passes c.serve.ensures.passes (port.passes_nothing c.serve.new.port) h in
+    let topic = c.args.consumer.topic in
+    let more : (why : ReadError) → g.P.Port.refuses c.ask-asked.new.port topic why c.serve.new.port → g.P.Port.refuses c.args.port.now topic why c.serve.new.port = λ why h.
+    port.refuses_within c.args.port.now c.ask-asked.new.port c.serve.new.port c.serve.new.port topic why c.ask-asked.ensures.passes c.serve.ensures.passes (port.passes_nothing c.serve.new.port) h in
     told-more _ _ more c.serve.result c.serve.ensures.told
