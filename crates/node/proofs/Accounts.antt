@@ -29,7 +29,7 @@ fresh_quiet n = record { queues = refl; waiting = refl; sure = refl; counted = r
 pub fresh_at_start : (n : ℕ) (url : List ℕ) → 0 < n → IsAtStart (fresh_broker n url)
 fresh_at_start n url some = record { sound = fresh_broker_sound n url some; quiet = λ number. fresh_quiet n }
 
-account : (t : Topic) (told : List Handed) (u : Topic) → Course t told u → IsSoundTopic t → IsQuiet t → Account t told u
+unfoldable pub account : (t : Topic) (told : List Handed) (u : Topic) → Course t told u → IsSoundTopic t → IsQuiet t → Account t told u
 account t told u course sound quiet = record {
   moves = course.moves;
   steps = course.steps;
@@ -43,7 +43,7 @@ account t told u course sound quiet = record {
   delivered = subst (λ (hs : List Handed). DeliversEach t course.moves u.ledger hs) (sym course.tells) (moves_delivered t course.moves u course.steps quiet);
 }
 
-accounts_to : (old : Broker) (hearers : List (Option ℕ)) (outputs : List Output) (new : Broker) → RunUnfolds old hearers outputs new → IsAtStart old → AccountsTo old hearers outputs new
+unfoldable pub accounts_to : (old : Broker) (hearers : List (Option ℕ)) (outputs : List Output) (new : Broker) → RunUnfolds old hearers outputs new → IsAtStart old → AccountsTo old hearers outputs new
 unfolding account
 accounts_to old hearers outputs new u start = record {
   said = u.said;

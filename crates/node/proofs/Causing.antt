@@ -54,8 +54,8 @@ own_moves t (m ∷ ms) v steps own =
     let then = own_moves steps.0 ms v steps.2 own.1 in
     record { failed = then.failed ∙ first.failed; doubt = then.doubt ∙ first.doubt }
 
-pub talked : (t : Topic) (told : List Handed) (u : Topic) → Talk t told u → Alike t u
-talked t told u talk = own_moves t talk.course.moves u talk.course.steps talk.own
+pub talked : (t : Topic) (told : List Handed) (asked : List Move) (u : Topic) → Talk t told asked u → Alike t u
+talked t told asked u talk = own_moves t talk.course.moves u talk.course.steps talk.own
 
 -- ---- one topic
 

@@ -64,6 +64,10 @@ accepted_topic t who send u step =
     let is = ⊎_elim (λ same. absurd (same.1 refl)) (λ is. is) (send_cases (first_standing (send_refusals t who send)) t who send Later u step.0 step.1) in
     ((takes_entry t who send is.1).0, is.2)
 
+-- nothing refuses a SEND that is accepted
+pub unrefused : (t : Topic) (who : ℕ) (send : Send) (u : Topic) → TopicStep t who (asked.Send send) Later u → first_standing (send_refusals t who send) ≡ None
+unrefused t who send u step = ⊎_elim (λ same. absurd (same.1 refl)) (λ is. is.1) (send_cases (first_standing (send_refusals t who send)) t who send Later u step.0 step.1)
+
 -- neither a receipt nor a message
 pub record IsNeither (reply : Reply) : Type 0 where
   pub no_receipt : is_receipt reply ≡ false
@@ -94,7 +98,7 @@ refused_awaits : (who : ℕ) (o : Option ServerError) (refused : ServerError →
 refused_awaits who None refused t effect h = h refl
 refused_awaits who (Some e) refused t effect h = awaits_nothing who t
 
-no_first : (b : Bool) (e : ServerError) (o : Option ServerError) → cond b (Some e) o ≡ None → b ≡ false
+pub no_first : (b : Bool) (e : ServerError) (o : Option ServerError) → cond b (Some e) o ≡ None → b ≡ false
 no_first true e o h = absurd cc
 no_first false e o h = refl
 

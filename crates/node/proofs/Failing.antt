@@ -22,7 +22,7 @@ use Rattle.node.proofs.Causing.{Caused, calm_now}
 use Rattle.node.proofs.Unfolding.{CausedIn, event_tells, happening_tells, turn_tells}
 
 run_caused : (base : ℕ) (old : State) (events : List Event) (outputs : List Output) (new : State) (number : ℕ) → Run old events outputs new → Caused base (spot_at old number) → Caused base (spot_at new number)
-run_caused base old events outputs new number run h = chain_keeps BrokerStep (λ (s : State). Caused base (spot_at s number)) (λ a e o b step. (event_tells a e o b step).1 base number) old events outputs new run h
+run_caused base old events outputs new number run h = chain_keeps BrokerStep (λ (s : State). Caused base (spot_at s number)) (λ a e o b step. (event_tells a e o b step).causes base number) old events outputs new run h
 
 -- ---- from a state in which a topic works
 
@@ -38,13 +38,13 @@ run_fails old events outputs new number run w is = (run_caused old.faults old ev
 pub life_fails : (old : Life) (happenings : List Happening) (outputs : List Output) (new : Life) (number : ℕ) → AllowedRun old happenings outputs new → (old.up ≡ true → Works old.state number)
     → new.up ≡ true → (topic_at new.state.broker number).failed ≡ true → old.state.faults < new.state.faults
 life_fails old happenings outputs new number run w up is =
-    let h = chain_keeps HappeningStep (λ (l : Life). CausedIn old.state.faults l number) (λ a x o b step. (happening_tells a x o b step).1 old.state.faults number) old happenings outputs new run (life_first old number w) in
+    let h = chain_keeps HappeningStep (λ (l : Life). CausedIn old.state.faults l number) (λ a x o b step. (happening_tells a x o b step).causes old.state.faults number) old happenings outputs new run (life_first old number w) in
     (h.caused up).failed is
 
 pub cut_life_fails : (old : Life) (turns : List Turn) (outputs : List Output) (new : Life) (number : ℕ) → AllowedLife old turns outputs new → (old.up ≡ true → Works old.state number)
     → new.up ≡ true → (topic_at new.state.broker number).failed ≡ true → old.state.faults < new.state.faults
 cut_life_fails old turns outputs new number run w up is =
-    let h = chain_keeps TurnStep (λ (l : Life). CausedIn old.state.faults l number) (λ a x o b step. (turn_tells a x o b step).1 old.state.faults number) old turns outputs new run (life_first old number w) in
+    let h = chain_keeps TurnStep (λ (l : Life). CausedIn old.state.faults l number) (λ a x o b step. (turn_tells a x o b step).causes old.state.faults number) old turns outputs new run (life_first old number w) in
     (h.caused up).failed is
 
 pub opened_works : (old new : State) (number : ℕ) → StateCrash old new → Works new number

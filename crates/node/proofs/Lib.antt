@@ -15,6 +15,7 @@ pub mod Lives
 pub mod Carrying
 pub mod Saying
 pub mod Playing
+pub mod Streams
 pub mod Causing
 pub mod Unfolding
 pub mod Sound
@@ -33,6 +34,8 @@ pub mod Answering
 pub mod Promising
 pub mod Hearing
 pub mod Accounts
+pub mod Incoming
+pub mod Grounds
 pub mod Cutting
 pub mod Segments
 pub mod Failing

@@ -14,6 +14,7 @@ pub mod Growing
 pub mod Runs
 pub mod Driving
 pub mod Moves
+pub mod Origins
 pub mod Telling
 pub mod Cuts
 pub mod Finding
@@ -21,7 +22,9 @@ pub mod Promising
 pub mod Answering
 pub mod Delivering
 pub mod Laws
+pub mod Incoming
 pub mod Hearing
+pub mod Grounds
 pub mod Failing
 pub mod Keeping
 pub mod Starting

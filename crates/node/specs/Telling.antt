@@ -1,5 +1,5 @@
 -- What a run tells its clients, and the moves on which it does.
-use Rattle.std.specs.Prelude.{◌≡◌, ℕ, ◌+◌, cond, nat_eq, Bool, true, false, Option, Some, None, List, [], ◌∷◌, ◌++◌}
+use Rattle.std.specs.Prelude.{◌≡◌, ℕ, ◌+◌, cond, nat_eq, Bool, true, false, Option, Some, None, List, [], ◌∷◌, ◌++◌, filter}
 use Rattle.std.specs.List.{AllByRecursion}
 use Rattle.commands.specs.declared.reply.Reply.{Reply}
 use Rattle.commands.specs.declared.reply.Reply.TheVariants.{Connected, ProducerSuccess, SendReceipt, SendError, Message, Success, Error, PartitionedMetadataResponse, LookupResponse, AckResponse, Pong}
@@ -13,6 +13,7 @@ use Rattle.topic_core.specs.Steps.{receipts_of}
 use Rattle.session.specs.Broker.{Broker, topic_at}
 use Rattle.session.specs.Client.{plain, frames_of, AreBounded}
 use Rattle.node.specs.Moves.{Handed, outgoing, Move, Command, Moves, told_by, is_of_session}
+use Rattle.node.specs.Origins.{Origin, has_origin, moves_from}
 use Rattle.node.specs.Promising.{is_acceptance}
 use Rattle.node.specs.declared.event.Event.{Event}
 use Rattle.node.specs.declared.event.Event.TheVariants.{Open, Bytes, Pump, Close, OnTopic}
@@ -133,18 +134,20 @@ pub record Course (old : Topic) (told : List Handed) (new : Topic) : Type 0 wher
   pub steps : Moves old moves new
   pub tells : told ≡ told_by moves
 
--- it does so by moves of a session
-pub record Talk (old : Topic) (told : List Handed) (new : Topic) : Type 0 where
+-- it does so by moves of a session, of which it was asked for these
+pub record Talk (old : Topic) (told : List Handed) (asked : List Move) (new : Topic) : Type 0 where
   pub course : Course old told new
   pub own : AllByRecursion (λ move. is_of_session move ≡ true) course.moves
+  pub asks : filter (λ move. has_origin move) course.moves ≡ asked
 
--- a session's bytes go out, which are frames, each whole; and each topic makes moves, on which it tells just its own ones
-pub record Unfolds (who : ℕ) (old : Broker) (bytes : List ℕ) (new : Broker) : Type 0 where
+-- a session's bytes go out, which are frames, each whole; and each topic makes moves, on which it tells just its own ones, and which
+-- come from these
+pub record Unfolds (who : ℕ) (origins : List Origin) (old : Broker) (bytes : List ℕ) (new : Broker) : Type 0 where
   pub said : List Said
   pub written : bytes ≡ frames_of (all_outgoing said)
   pub bounded : AreBounded (all_outgoing said)
   pub heard : AreFor who said
-  pub each : (number : ℕ) → Talk (topic_at old number) (from_topic number said) (topic_at new number)
+  pub each : (number : ℕ) → Talk (topic_at old number) (from_topic number said) (moves_from number origins) (topic_at new number)
   pub at_once : AnswersAreAtOnce (λ number. (each number).course.moves) said
 
 -- outputs go out to those who hear them, and each topic makes moves, on which it tells just its own ones

@@ -1,5 +1,6 @@
 ghost use Rattle.node.specs.Cuts.{CutsAreTurns};
 ghost use Rattle.node.specs.Failing.{FailsForACause};
+ghost use Rattle.node.specs.Grounds.{RepliesRestOnFrames};
 ghost use Rattle.node.specs.Hearing.{FramesAreAccountedFor};
 ghost use Rattle.node.specs.Opening.{HaveOneFault};
 ghost use Rattle.node.specs.Laws.{RunsUnfold, LivesUnfold, StaysSound, MovesPublish, ReceiptsAreCovered, ReceiptsAreFound, WordsAreKept, MessagesAreAdmitted, LivesAccount};
@@ -76,6 +77,15 @@ pub fn lives_account()
 /// ACK_RESPONSE without error and each SUCCESS answers a command of that session that a topic accepted, whose promise stands.
 pub fn frames_are_accounted_for()
     ensures { FramesAreAccountedFor }
+{}
+
+/// The moves of such an account come from what came in: commands from frames at the front of their session's bytes in, each from one of
+/// its own, in order, and crashes from the life's own. So each receipt answers a SEND of its session that came in, whose entry, byte
+/// for byte, stands at its position until a trim takes it; each ACK_RESPONSE without error and each SUCCESS answers a command that came
+/// in to its session; and each message is the entry of a SEND that came in, or stood in the ledger at the start. Since this holds of the
+/// life that ends with a reply, too, what a reply rests on came in before it went out.
+pub fn replies_rest_on_frames()
+    ensures { RepliesRestOnFrames }
 {}
 
 /// The files of a node have one first fault: the catalog's, or that of the first of its topics whose files have one.

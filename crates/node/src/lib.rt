@@ -29,8 +29,8 @@ pub use gated_log::Refusal;
 pub use keeping::{names_are_kept, outputs_tell_no_fault};
 pub use laws::{
     cuts_are_turns, frames_are_accounted_for, lives_account, lives_unfold, messages_are_admitted,
-    moves_publish, openings_have_one_fault, receipts_are_covered, receipts_are_found, runs_unfold,
-    stays_sound, topics_fail_for_a_cause, words_are_kept,
+    moves_publish, openings_have_one_fault, receipts_are_covered, receipts_are_found,
+    replies_rest_on_frames, runs_unfold, stays_sound, topics_fail_for_a_cause, words_are_kept,
 };
 pub use node::Node;
 pub use octets::Octets;
