@@ -256,14 +256,13 @@ class Consumer:
         self.connection.put(flow(self.id, more))
 
     def take_message(self, position, entry):
-        self.topic.take_message(position, entry)
-        self.permits -= 1
-        if self.permits < 0:
+        if self.permits < 1:
             raise self.topic.wrong(f"position {position} came on {self.name} without a permit")
+        self.permits -= self.topic.take_message(position, entry)
         if position in self.kept or position <= self.kept_through:
             raise self.topic.wrong(f"position {position} came on {self.name} behind the answer to its acknowledgement")
         self.batch.append(position)
-        if self.permits < 3:
+        while self.permits < 3:
             self.grant()
 
     def act(self, _):

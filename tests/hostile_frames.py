@@ -7,6 +7,7 @@ TOPICS = (12 * [b"persistent://a/b/c"] + 4 * [b"persistent://a/b/d"] + 2 * [b"pe
 SUBSCRIPTIONS = 8 * [b"s"] + 3 * [b"t"] + [b"S-1", b"", b"two words", b"s" * 255, b"s" * 256]
 NAMES = 8 * [None] + [b"", b"p", b"s0-p1", b"n" * 255, b"n" * 256, "\u00e9".encode()]
 KEYS = (None, None, None, b"", b"hello", b"test", "\U0010ffff".encode())
+BATCHES = 7 * [None] + [1, 2, 2, 3, 3, 5, 1_048_576]  # messages of an entry
 EDGES = (0, 1, 127, 128, 2**31 - 1, 2**31, 2**32 - 1, 2**32, 2**63 - 1, 2**63, 2**64 - 2**31, 2**64 - 1)
 NO_TEXT = (b"\xc3", b"\xff", b"\xed\xa0\x80", b"\xc0\x80", b"\xf4\x90\x80\x80")  # bytes that aren't UTF-8
 CONNECT = 2
@@ -19,7 +20,7 @@ SESSION_LIMIT = 3  # ids of producers and of consumers are below
 # A message is a list of fields, each with its number and its value: a number, bytes, a message, or a wire type and the bytes behind the tag.
 
 
-def text_field(number, content):
+def some_field(number, content):
     return [] if content is None else [(number, content)]
 
 
@@ -49,7 +50,7 @@ def subscribe(chance, odd):
 
 
 def producer(chance, _):
-    return 5, [(1, chance.choice(TOPICS)), (2, chance.randrange(SESSION_LIMIT)), (3, chance.randrange(100)), *text_field(4, chance.choice(NAMES))]
+    return 5, [(1, chance.choice(TOPICS)), (2, chance.randrange(SESSION_LIMIT)), (3, chance.randrange(100)), *some_field(4, chance.choice(NAMES))]
 
 
 def send(chance, odd):
@@ -93,9 +94,10 @@ RARE = (connect, other)
 
 
 def metadata(chance, odd):
-    fields = [(1, b"p"), (2, chance.randrange(4)), (3, 1), *text_field(6, chance.choice(KEYS)), *text_field(18, chance.choice(KEYS))]
+    fields = [(1, b"p"), (2, chance.randrange(4)), (3, 1), *some_field(6, chance.choice(KEYS)), *some_field(11, chance.choice(BATCHES)),
+              *some_field(18, chance.choice(KEYS))]
     if chance.random() < odd:
-        fields += chance.choice(([(8, 0)], [(8, 1)], [(11, 0)], [(11, 1)], [(11, 2)], [(19, 5)], [(19, 2**64 - 1)], [(19, 0)]))
+        fields += chance.choice(([(8, 0)], [(8, 1)], [(11, 0)], [(11, 1_048_577)], [(11, 2**64 - 1)], [(19, 5)], [(19, 2**64 - 1)], [(19, 0)]))
     return fields
 
 

@@ -139,6 +139,12 @@ def unreadable():
             b"\x0e\x01" + B, B[:4] + b"\x0b" + B[5:]]
 
 
+def counted():
+    """Entries that may be, of one message and more, and some that have none or too many; of two numbers the last one counts."""
+    numbers = ([1], [3], [1_048_576], [0, 3], [0], [1_048_577], [2**31 - 1], [2**64 - 1], [2**64 - 2**31], [3, 0])
+    return [entry_of(b"a", b"".join(number(11, it) for it in some)) for some in numbers]
+
+
 def rows_of_chains():
     zero, one = gated(0, entries(A), MARK), gated(1, entries(B), MARK)
     return [
@@ -163,6 +169,7 @@ def rows_of_batches():
                      [gated(0, MARK, end=b"\1"), gated(0)], [gated(0, MARK, batch(b"", 9)), b""]),
         *of_segments("bodies whose lengths don't fill them", *([gated(0, entries(A), batch(body))] for body in cut)),
         *of_segments("entries whose metadata can't be read", *([gated(0, entries(A, it))] for it in unreadable())),
+        *of_segments("entries of so many messages", *([gated(0, entries(A), entries(B, it, C), entries(D))] for it in counted())),
         *limits()]
 
 

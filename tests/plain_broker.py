@@ -15,6 +15,7 @@ CONNECT, SUBSCRIBE, PRODUCER, SEND, ACK, FLOW, UNSUBSCRIBE, CLOSE_PRODUCER, CLOS
 URL = b"pulsar://replay"
 MOST_SESSIONS, MOST_TOPICS, MOST_OF_A_SESSION = 256, 64, 64
 MOST_WAITING, MOST_WAITING_BYTES, LARGEST_ENTRY, LONGEST_NAME = 1_024, 16_777_216, 1_048_576, 255
+MOST_OF_AN_ENTRY = 1_048_576  # messages
 MOST_REPLIES, MOST_MESSAGES = 65_536, 64
 ROLL, APPEND, REPLACE, MAKE = 9, 4, 6, 13  # calls of the device: of a roll, of an append, of writing a slot anew, and of making a topic's files
 DROP = 2  # and of giving a segment back
@@ -152,11 +153,16 @@ class Held:
         self.files, self.left, self.batch, self.records = files, None, None, 0
         self.waiting, self.later, self.names, self.closing = [], [], {}, set()
         self.subs = Topic()
-        self.subs.committed, self.subs.slots = len(files.entries), [slot_of(entry) for entry in files.entries]
+        self.commit(files.entries)
         for name, acked in files.kept.items():
             subscription = Subscription(name, 0)
             subscription.acked = acked.copy()
             self.subs.subs.append(subscription)
+
+    def commit(self, entries):
+        for entry in entries:
+            self.subs.add(slot_of(entry), messages_of(entry))
+        self.subs.committed += len(entries)
 
     def has_failed(self):
         return self.left is not None
@@ -217,8 +223,7 @@ class Held:
             return "S1"
         self.files = batch.left[0]
         self.records = (0 if batch.is_anew else self.records) + batch.changes + batch.trims
-        self.subs.committed = len(self.files.entries)
-        self.subs.slots += map(slot_of, self.waiting[:batch.entries])
+        self.commit(self.waiting[:batch.entries])
         self.subs.changes = self.subs.changes[batch.changes:]
         self.due += [(who, answer) for who, answer, _ in batch.replies]
         for who in batch.closing:
@@ -283,7 +288,7 @@ class Held:
             return None
         if device.read_fails():
             raise ReadFails
-        before = min(subscription.send(key, position), 2**32 - 1)
+        before = min(subscription.send(key, position, self.subs.messages[position]), 2**32 - 1)
         return message(consumer, position, before, self.files.entries[position], self.per_ledger)
 
     def segments(self, device):
@@ -339,6 +344,10 @@ def slot_of(entry):
     if key is None:
         key = (metadata["partition_key"] or "").encode()
     return slot(key)
+
+
+def messages_of(entry):
+    return metadata_in(entry)["num_messages_in_batch"]
 
 
 class Session:
@@ -440,7 +449,7 @@ class Session:
         plain = metadata or {}
         refusal = first_of((topic is None, NOT_ALLOWED), (metadata is None, CHECKSUM), (len(entry) > LARGEST_ENTRY, NOT_ALLOWED),
                            (plain.get("compression") != 0 or plain.get("deliver_at_time") is not None, NOT_ALLOWED),
-                           (it["num_messages"] != 1 or plain.get("num_messages_in_batch") != 1, NOT_ALLOWED),
+                           (not 1 <= plain.get("num_messages_in_batch", 0) <= MOST_OF_AN_ENTRY, NOT_ALLOWED),
                            (topic and topic.has_failed(), PERSISTENCE), (topic and not topic.has_room(entry), TOO_MANY))
         if refusal:
             return send_error(it["producer_id"], it["sequence_id"], refusal)

@@ -1,11 +1,12 @@
 """A plain slow reader of a topic's files, written from docs/FILES.md alone: what an opening of them answers."""
 from subscriptions import Acked
-from wire import Fault, read_entry
+from wire import Fault, metadata_in
 
 OPEN, NAME, VERSION = 1, b"PULSAR", 1
 HEADER = 16  # bytes
 LAST_GENERATION = 2**64 - 1
 LARGEST_BODY, LARGEST_ENTRY, MOST_ENTRIES = 33_554_432, 1_048_576, 2**62
+MOST_MESSAGES = 1_048_576  # of an entry
 ENTRIES, END_MARK, RECORDS = 0, 1, 0  # kinds of bodies
 MADE, REMOVED, ONE, THROUGH, RANGE, TRIM = 1, 2, 3, 4, 5, 6  # records
 POSITIONS = {MADE: 1, REMOVED: 0, ONE: 1, THROUGH: 1, RANGE: 2}
@@ -19,6 +20,16 @@ class Refused(Exception):
 
 class NotOfItsForm(Exception):
     """A body can't stand where it stands."""
+
+
+def judge_entry(entry):
+    """Its metadata can be read, and it has as many messages as an entry may have."""
+    try:
+        messages = metadata_in(entry)["num_messages_in_batch"]
+    except Fault:
+        raise NotOfItsForm from None
+    if not 1 <= messages <= MOST_MESSAGES:
+        raise NotOfItsForm
 
 
 def number_in(content):
@@ -104,10 +115,7 @@ class Segments:
             entry = content[at + 4:at + 4 + size]
             if at + 4 + size > len(content) or size > LARGEST_ENTRY or self.end() == MOST_ENTRIES:
                 raise NotOfItsForm
-            try:
-                read_entry(entry)
-            except Fault:
-                raise NotOfItsForm from None
+            judge_entry(entry)
             self.entries.append(entry)
             at += 4 + size
 

@@ -1,9 +1,9 @@
 """Plain slow models of the device in memory and of the stores above it, written from docs/FILES.md and the definitions in `specs/`: what each
 call answers, and what it leaves in the files."""
 from plain_reader import (ENTRIES, END_MARK, HEADER, LARGEST_BODY, LARGEST_ENTRY, LAST_GENERATION, LONGEST_NAME, MADE, MOST_NAMES, NAME_BYTES, ONE,
-                          OPEN, POSITIONS, RANGE, RECORDS, REMOVED, THROUGH, TRIM, File, NotOfItsForm, Refused, number_in)
+                          OPEN, POSITIONS, RANGE, RECORDS, REMOVED, THROUGH, TRIM, File, NotOfItsForm, Refused, judge_entry, number_in)
 from subscriptions import Acked
-from wire import Fault, metadata_in
+from wire import metadata_in
 
 TOPIC = 3
 LONGEST_FILE = 2**62
@@ -330,10 +330,7 @@ class EntriesTaken:
             entry = body[at + 4:at + 4 + size]
             if at + 4 + size > len(body) or size > LARGEST_ENTRY:
                 raise NotOfItsForm
-            try:
-                metadata_in(entry)
-            except Fault:
-                raise NotOfItsForm from None
+            judge_entry(entry)
             self.taken.entry(entry)
             self.segments[-1][1].append((start + at + 4, size))
             self.count, at = self.count + 1, at + 4 + size

@@ -211,6 +211,12 @@ def of_damage():
             "# - a catalog of two names that is changed", *changed({"catalog": NAMES}, "catalog", "catalog open; catalog state"), ""]
 
 
+def of_messages(*varint):
+    """An entry whose metadata says so many messages."""
+    metadata = ENTRY_X[4:-1] + b"\x58" + bytes(varint)
+    return len(metadata).to_bytes(4, "big") + metadata + b"x"
+
+
 def of_named_damage():
     """Changes of more than one byte, or to others."""
     ones = ((8, 1), (22, 13), (22, 11), (29, 9), (29, 6), (29, 8), (30, 0x0D), (37, 0x79))
@@ -218,12 +224,14 @@ def of_named_damage():
     entries = [line(lay("e0", one[:at] + bytes([byte]) + one[at + 1:]), "ledger open 100") for at, byte in ones]
     entries += [line(lay("e0", LEDGER[0][:22] + b"\x0d" + LEDGER[0][23:]), lay("e1", LEDGER[1]), "ledger open 100"),
                 line(lay("e0", LEDGER[0]), lay("e1", LEDGER[1][:21] + b"\7\0"), "ledger open 100")]
+    counted = (of_messages(1), of_messages(3), of_messages(0x80, 0x80, 0x40), of_messages(0), of_messages(0x81, 0x80, 0x40), of_messages(*[0xFF] * 9, 1))
+    entries += [line(lay("e0", log_of(b"\0" + len(it).to_bytes(4, "little") + it, number=0)), "ledger open 100; ledger read 0") for it in counted]
     numbers = [line(lay("catalog", NAMES[:place] + bytes(content) + NAMES[place + len(content):]), "catalog open; catalog state")
                for place, content in ((6, (0x53, 9)), (7, (9,)), (7, (2, 0)), (8, (0x50, 0xC3)), (8, (0x51, 0xC3)), (8, (2, 0, 0, 0, 1)))]
     several = [((b"",), b"\0"), ((b"persistent://a/b",), b"\0"), ((C, b"persistent://a/b/c/"), b"\0"), ((C, C), b"\0"), ((C, D, C), b"\0"),
                ((C, D), b"\2\1\x09"), ((C, C), b"\1\0"), ((C,), b"\1\x12\0\0\0persistent"), ((C,), b"")]
     names = [line(lay("catalog", log_of(*texts, end=end, number=2)), "catalog open") for texts, end in several]
-    return ["# - entries whose lengths or metadata are others", *entries, "", "# - catalogs of other numbers and versions", *numbers, "",
+    return ["# - entries whose lengths, metadata or numbers of messages are others", *entries, "", "# - catalogs of other numbers and versions", *numbers, "",
             "# - bodies that are no names, or names that are there", *names, ""]
 
 

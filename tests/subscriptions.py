@@ -167,10 +167,13 @@ class HeldLines:
 class Consumer:
     def __init__(self, key, ranges):
         self.key, self.ranges = key, ranges
-        self.granted = self.sent = 0
+        self.granted = self.sent = 0  # messages; what was sent beyond what was granted is owed
 
     def session(self):
         return self.key.split(".")[0]
+
+    def has_permit(self):
+        return self.sent < self.granted
 
     def takes(self, slot):
         return any(start <= slot <= end for start, end in self.ranges)
@@ -213,7 +216,7 @@ class Subscription:
 
     def permits(self):
         """How many its consumers have left together, up to what 64 bits hold."""
-        return min(sum(consumer.granted - consumer.sent for consumer in self.consumers), 2**64 - 1)
+        return min(sum(max(0, consumer.granted - consumer.sent) for consumer in self.consumers), 2**64 - 1)
 
     def acknowledge(self, first, last):
         self.acked.add(first, last)
@@ -236,7 +239,7 @@ class Subscription:
 
     def pick(self, key, slots, committed):
         consumer = self.consumer(key)
-        if consumer.sent >= consumer.granted or self.mode == "Failover" and self.consumers[0] is not consumer:
+        if not consumer.has_permit() or self.mode == "Failover" and self.consumers[0] is not consumer:
             return None
         for position in range(committed):
             slot = slots[position] if position < len(slots) else 0
@@ -246,12 +249,12 @@ class Subscription:
 
     def is_quiet(self, session, committed):
         """Whether no consumer of the session has a permit left, or nothing is open."""
-        may_ask = any(consumer.session() == session and consumer.sent < consumer.granted for consumer in self.consumers)
+        may_ask = any(consumer.session() == session and consumer.has_permit() for consumer in self.consumers)
         return not may_ask or not any(self.is_open(position) for position in range(committed))
 
-    def send(self, key, position):
-        """How often the position was sent before."""
-        self.consumer(key).sent += 1
+    def send(self, key, position, messages):
+        """An entry of so many messages is sent; answers how often the position was sent before."""
+        self.consumer(key).sent += messages
         self.holders[position] = key
         self.times[position] = self.times.get(position, 0) + 1
         return self.times[position] - 1
@@ -259,7 +262,15 @@ class Subscription:
 
 class Topic:
     def __init__(self):
-        self.subs, self.changes, self.slots, self.first, self.committed = [], [], [], 0, 0
+        self.subs, self.changes, self.first, self.committed = [], [], 0, 0
+        self.slots, self.messages = [], []  # of each entry: the slot of its key, and how many messages it has
+
+    def add(self, slot, messages):
+        self.slots.append(slot)
+        self.messages.append(messages)
+
+    def messages_of(self, position):
+        return self.messages[position] if position < len(self.messages) else 1
 
     def named(self, name):
         return next((sub for sub in self.subs if sub.name == name), None)
@@ -364,9 +375,12 @@ class TopicLines:
         return "done"
 
     def slots(self, *slots):
+        """The entries that follow have these slots, and one message each, or as many as stand behind an x."""
         if self.at.committed:
             raise ValueError("slots come before entries are committed")
-        self.at.slots += map(int, slots)
+        for word in slots:
+            slot, _, messages = word.partition("x")
+            self.at.add(int(slot), int(messages or 1))
         return "done"
 
     def commit(self, committed):
@@ -433,7 +447,7 @@ class TopicLines:
         position = self.picked(key)
         if position is None:
             return "None"
-        return f"Some(({position}, {self.at.of(key).send(key, position)}))"
+        return f"Some(({position}, {self.at.of(key).send(key, position, self.at.messages_of(position))}))"
 
     def ack(self, key, position, times=1):
         sub = self.at.of(key)
@@ -498,6 +512,7 @@ def answers_to(lines):
 
 KEYS = {"0.2": "0-9", "1.2": "10-19 40-65535", "0.3": "25-25", "1.4": "9-12", "2.0": "20-24 26-39"}
 SLOTS = (3, 12, 25, 9, 12, 40, 25, 3, 10, 33, 9, 65535, 0, 21)
+MESSAGES = (1, 1, 3, 2, 1, 1, 5, 1, 1, 2, 1, 1_048_576, 1, 4)
 
 
 def action(chance, mode):
@@ -516,7 +531,8 @@ def action(chance, mode):
 
 
 def topic_at_random(chance, mode):
-    begin = ["topic", f"slots {' '.join(map(str, SLOTS))}", "commit 6", f"subscribe s {mode} 0.2 Earliest {KEYS['0.2']}", "grant 0.2 3"]
+    marks = (f"{slot}x{messages}" if messages > 1 else str(slot) for slot, messages in zip(SLOTS, MESSAGES))
+    begin = ["topic", f"slots {' '.join(marks)}", "commit 6", f"subscribe s {mode} 0.2 Earliest {KEYS['0.2']}", "grant 0.2 3"]
     return ["", *begin, *(action(chance, mode) for _ in range(ACTIONS)), "statuses", "summaries", "changes"]
 
 

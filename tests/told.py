@@ -8,17 +8,29 @@ from server import Wrong
 POOL = random.Random(0).randbytes(1 << 20)
 SIZES = (0, 10, 20, 50, 100, 100, 200, 500, 1000, 4000)  # of most payloads
 LARGE, LARGEST = 100_000, 1_000_000  # of one in 200, and of one in 2,000
+BATCHES = (None, None, None, None, 1, 2, 3, 100)  # messages of an entry, as its metadata says
+
+
+def mixed(topic, producer, sequence):
+    """What of an entry depends on the names and on its number."""
+    return zlib.crc32(b"%s %s %d " % (topic.encode(), producer, sequence))
+
+
+def messages_of(topic, producer, sequence):
+    """How many messages an entry has."""
+    return BATCHES[mixed(topic, producer, sequence) // len(SIZES) % len(BATCHES)]
 
 
 def entry_for(topic, producer, sequence):
-    """The entry of a producer's message: a function of the names and of the message's number, so that it needn't be kept."""
+    """A producer's entry: a function of the names and of the entry's number, so that it needn't be kept."""
     words = b"%s %s %d " % (topic.encode(), producer, sequence)
-    mixed = zlib.crc32(words)
-    size = SIZES[mixed % len(SIZES)]
+    by = mixed(topic, producer, sequence)
+    size = SIZES[by % len(SIZES)]
     if sequence % 200 == 199:
         size = LARGEST if sequence % 2000 == 1999 else LARGE
-    metadata = text(1, producer) + number(2, sequence) + number(3, 1)
-    start = (mixed >> 8) % (len(POOL) - size)
+    messages = messages_of(topic, producer, sequence)
+    metadata = text(1, producer) + number(2, sequence) + number(3, 1) + (b"" if messages is None else number(11, messages))
+    start = (by >> 8) % (len(POOL) - size)
     return len(metadata).to_bytes(4, "big") + metadata + words + POOL[start:start + size]
 
 
@@ -105,7 +117,7 @@ class Topic:
         self.end = max(self.end, position + 1)
 
     def take_message(self, position, entry):
-        """A message came: it must be one that was published, byte for byte, and the one that stands there."""
+        """An entry came: it must be one that was published, byte for byte, and the one that stands there. Answers how many messages it has."""
         topic, producer, sequence = author_of(entry)
         if topic != self.name:
             raise self.wrong(f"position {position} has message {sequence} of {producer.decode(errors='replace')} on {topic}")
@@ -116,7 +128,9 @@ class Topic:
         if entry != entry_for(topic, producer, sequence):
             raise self.wrong(f"position {position} has message {sequence} of {producer.decode()} with other bytes than were sent")
         self.stands(producer, sequence, position)
-        self.messages += 1
+        count = messages_of(topic, producer, sequence) or 1
+        self.messages += count
+        return count
 
     def stands(self, producer, sequence, position):
         """This message stands at this position: no other one does, and it stands nowhere else."""

@@ -4,6 +4,7 @@ ghost use Rattle.managed_ledger.specs.Entries.{Entries};
 ghost use Rattle.managed_ledger.specs.Bodies.{IsBody, IsFirst, IsMetaOf};
 ghost use Rattle.managed_ledger.specs.Ledgers.{places_in};
 
+use crate::count::has_message_count;
 use crate::entry_fold::EntryFold;
 use crate::first_entry::FirstEntry;
 use crate::place::Place;
@@ -45,6 +46,9 @@ fn first_entry(alloc: Global, bytes: &[u8]) -> Result<Option<FirstEntry>, AllocE
     let Some(metadata) = metadata_of(alloc, &bytes[4..][..size])? else {
         return Ok(None);
     };
+    if !has_message_count(&metadata) {
+        return Ok(None);
+    }
     Ok(Some(FirstEntry { size, metadata }))
 }
 

@@ -8,6 +8,7 @@
 mod append;
 mod body;
 mod build;
+mod count;
 mod entry_fold;
 mod entry_store;
 mod extend;
@@ -27,6 +28,7 @@ mod segment_index;
 mod trim;
 mod trim_point;
 
+pub use count::has_message_count;
 pub use entry_fold::EntryFold;
 pub use entry_store::EntryStore;
 pub use law::{

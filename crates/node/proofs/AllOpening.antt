@@ -8,7 +8,7 @@ use Rattle.managed_ledger.specs.Entries.{Ledger, end_of}
 use Rattle.records.specs.Floors.{HaveBelow}
 use Rattle.records.specs.Maps.{Kept}
 use Rattle.topic_stores.specs.declared.store.TopicStore.{Ghosts as StoreMembers}
-use Rattle.topic_core.specs.Slots.{slots_of}
+use Rattle.topic_core.specs.Messages.{marks_of}
 use Rattle.topic_core.specs.State.{Topic, opened}
 use Rattle.topic_core.specs.Soundness.{IsSoundTopic}
 use Rattle.catalog.specs.Names.{Names}
@@ -58,7 +58,7 @@ module _ {T : Type 0} {store : StoreMembers T} (per_ledger : ℕ) (first now nex
     (seen : now.honest → Same now.seen next.seen) (moments : now.honest → Leaves now.may_leave now next) (kept : Counted now next) where
   -- one more
   pub going_more : (h : Held T store) (held' : List (Held T store)) → held' ≡ held ++ h ∷ [] → IsNumbered per_ledger number h → (now.honest → HeldStands h next) → (now.honest → store.stands number now.seen h.core.ledger h.core.kept) → end_of h.core.ledger ≤ 2 ^ 62
-      → h.core ≡ opened per_ledger h.core.ledger (slots_of h.core.ledger) h.core.kept → h.flight ≡ None → Going {store = store} per_ledger first next held' (number + 1)
+      → h.core ≡ opened per_ledger h.core.ledger (marks_of h.core.ledger) h.core.kept → h.flight ≡ None → Going {store = store} per_ledger first next held' (number + 1)
   going_more h held' items numbered stands found few is rests =
       let P : (ℕ → Held T store → Type 0) → Type 0 = λ Q. (j : ℕ) (x : Held T store) → slice_get held' j ≡ Some x → Q j x in
       let both : (Q : ℕ → Held T store → Type 0) → Q number h → ((j : ℕ) (x : Held T store) → slice_get held j ≡ Some x → Q j x) → P Q = λ Q here others j x at. ⊎_elim
@@ -134,7 +134,7 @@ module _ {T : Type 0} {store : StoreMembers T} (n : ℕ) (url : List ℕ) (names
     topics = λ number topic at.
         let x = get_map (λ (h : Held T store). h.core) held number topic at in
         let o = opens number x.0 x.1 in
-        subst (λ (u : Topic). store.stands number files u.ledger u.kept × (u ≡ opened n u.ledger (slots_of u.ledger) u.kept)) (sym x.2) (o.stands, o.opened);
+        subst (λ (u : Topic). store.stands number files u.ledger u.kept × (u ≡ opened n u.ledger (marks_of u.ledger) u.kept)) (sym x.2) (o.stands, o.opened);
     start = at_start;
     stages = λ number. at_each (λ (s : Stage). s ≡ Resting) (λ (h : Held T store). stage_of h.flight) held number Resting refl (λ j h at. ap (λ f. stage_of f) (opens j h at).rests);
     sessions = none;

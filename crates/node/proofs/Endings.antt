@@ -9,7 +9,7 @@ use Rattle.topic_stores.specs.declared.error.WriteError.{WriteError}
 use Rattle.topic_stores.specs.declared.error.WriteError.TheVariants.{Device, NoMemory}
 use Rattle.managed_ledger.specs.Entries.{Ledger, end_of, lengthened, trimmed}
 use Rattle.managed_ledger.specs.Trims.{IsGrown, grows_both, lengthened_none, end_lengthened, end_trimmed}
-use Rattle.topic_core.specs.Slots.{slots_of}
+use Rattle.topic_core.specs.Messages.{marks_of}
 use Rattle.topic_core.specs.declared.command.Answer.{Answer}
 use Rattle.topic_core.specs.declared.command.Send.{Send}
 use Rattle.topic_core.specs.declared.command.TopicCommand.{TopicCommand}
@@ -81,7 +81,7 @@ module _ (R : Topic → Topic → Type 0) (by : RespectedByFlushes R) where
 pub record Reopened (t u : Topic) : Type 0 where
   pub failed : t.failed ≡ true
   pub left : IsLeft t u.ledger u.kept
-  pub again : u ≡ reopened t u.ledger (slots_of u.ledger) u.kept
+  pub again : u ≡ reopened t u.ledger (marks_of u.ledger) u.kept
 
 reopen_ends : (t : Topic) (result : Result (Unit {0}) Refusal) (u : Topic) → t.failed ≡ true → ReopenEnds t result u → (u ≡ t) ⊎ Reopened t u
 reopen_ends t (Ok done) u failed s = inr (record { failed = failed; left = s.0; again = s.1 })

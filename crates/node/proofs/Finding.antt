@@ -9,7 +9,7 @@ use Rattle.topic_core.specs.declared.command.Send.{Send}
 use Rattle.topic_core.specs.declared.command.TopicCommand.{TopicCommand}
 use Rattle.managed_ledger.specs.Entries.{Entries, Ledger, end_of, entry_at, lengthened, trimmed}
 use Rattle.managed_ledger.specs.Trims.{end_lengthened, end_trimmed, entry_within, entry_last, entry_or_last, lengthened_none, lengthened_both}
-use Rattle.topic_core.specs.Slots.{slots_of}
+use Rattle.topic_core.specs.Messages.{marks_of}
 use Rattle.topic_core.specs.State.{Topic, Doubt, floor, floor_of, next_position, opened, entries_of, entries_in_doubt}
 use Rattle.reply_queues.specs.Replies.{SessionReplies, is_receipt, due_to, hand_on, make_due, take_back, refused, refuse_pending}
 use Rattle.topic_core.specs.Steps.{TopicStep, bytes_of, accepted, receipt, collected, left}
@@ -365,13 +365,13 @@ module _ (base : ℕ) (before : List Sent) where
 
   opens_again : (t u : Topic) → Reopened t u → Owes base before t → KeepsOn t u
   opens_again t u s o =
-      let v : Topic = reopened t u.ledger (slots_of u.ledger) u.kept in
+      let v : Topic = reopened t u.ledger (marks_of u.ledger) u.kept in
       subst (λ (x : Topic). KeepsOn t x) (sym s.again)
       (fronted t v refl refl refl s.left o.within (λ more. each_owed (FoundIn before t) t.queues o.queues (FoundIn before v) (on_again t v s.failed more)) o)
 
   crashes : (t u : Topic) → TopicCrash t u → Owes base before t → KeepsOn t u
   crashes t u s o =
-      let v : Topic = opened t.per_ledger u.ledger (slots_of u.ledger) u.kept in
+      let v : Topic = opened t.per_ledger u.ledger (marks_of u.ledger) u.kept in
       subst (λ (x : Topic). KeepsOn t x) (sym s.again) (fronted t v refl refl refl s.left tt (λ more who. tt) o)
 
   -- ---- moves

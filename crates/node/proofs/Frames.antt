@@ -82,7 +82,7 @@ module _ (stands : ℕ → Image → Ledger → Kept → Type 0) (local : (t : �
     matched = s.matched;
     honest = u.honest s.honest;
     counted = s.counted;
-    slots = s.slots;
+    marks = s.marks;
     acknowledged = s.acknowledged;
     left = λ files may. let was = u.left files may in same_files v.topic (IsLeft t) was.0 files was.2 (s.left was.0 was.1);
     holds = holds_still phase t v laws old new u s.holds;

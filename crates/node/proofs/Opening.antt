@@ -13,7 +13,8 @@ use Rattle.records.specs.Maps.{Kept}
 use Rattle.topic_stores.specs.declared.store.TopicStore.{Ghosts as StoreMembers}
 use Rattle.topic_stores.specs.Views.{StoreView, Settled, AreLaws}
 use Rattle.topic_stores.specs.Writing.{StandsFor}
-use Rattle.topic_core.specs.Slots.{slots_of}
+use Rattle.subscriptions.specs.Marks.{no_marks}
+use Rattle.topic_core.specs.Messages.{marks_of}
 use Rattle.topic_core.specs.State.{Topic, opened}
 use Rattle.topic_core.specs.Crashes.{IsLeft, IsShorter, TopicCrash, reopened}
 use Rattle.topic_core.specs.Standing.{Before, resting, Match, Standing}
@@ -41,7 +42,7 @@ pub left_as : (was t : Topic) (ledger : Ledger) (kept : Kept) → t.ledger ≡ l
 left_as was t ledger kept same same_kept left = subst (λ (l : Ledger). IsLeft was l t.kept) (sym same) (subst (λ (k : Kept). IsLeft was ledger k) (sym same_kept) left)
 
 -- a topic over a store that was just opened
-module _ (stands : ℕ → Image → Ledger → Kept → Type 0) (n : ℕ) (t : Topic) (v : StoreView) (as_opened : t ≡ opened n t.ledger (slots_of t.ledger) v.kept) where
+module _ (stands : ℕ → Image → Ledger → Kept → Type 0) (n : ℕ) (t : Topic) (v : StoreView) (as_opened : t ≡ opened n t.ledger (marks_of t.ledger) v.kept) where
   is_kept : t.kept ≡ v.kept
   is_kept = ap (λ (x : Topic). x.kept) as_opened
 
@@ -49,7 +50,7 @@ module _ (stands : ℕ → Image → Ledger → Kept → Type 0) (n : ℕ) (t : 
       → Standing stands (resting t.failed) t v d
   opened_standing d laws below hold matched =
       subst (λ b. Standing stands (resting b) t v d) (sym (ap (λ (x : Topic). x.failed) as_opened))
-      (reopened_standing stands (opened n (whole []) [] map.empty) t v d t.ledger v.kept laws as_opened matched (below v.topic d.seen t.ledger v.kept (laws.stands d.seen t.ledger v.kept hold.settled.now)) hold)
+      (reopened_standing stands (opened n (whole []) no_marks map.empty) t v d t.ledger v.kept laws as_opened matched (below v.topic d.seen t.ledger v.kept (laws.stands d.seen t.ledger v.kept hold.settled.now)) hold)
 
 -- a topic of a node, at rest over its store
 pub rests_so : {T : Type 0} {store : StoreMembers T} (h : Held T store) (core : Topic) (stores : T) (d : Disk) → (h.core ≡ core) × (h.stores ≡ stores) × (h.flight ≡ None) → Standing store.stands (resting core.failed) core (store.view stores) d → HeldStands h d
@@ -157,7 +158,7 @@ module _ (stands : ℕ → Image → Ledger → Kept → Type 0) (one : (t : ℕ
       let same = one number files t.ledger x.ledger t.kept x.kept (few number t is) here.0 x.stands in
       record {
         left = left_as was t x.ledger x.kept same.0 same.1 x.is_left;
-        again = here.1 ∙ ap (λ m. opened m t.ledger (slots_of t.ledger) t.kept) (f.per_ledger ∙ sym (s.formed.ledgers number));
+        again = here.1 ∙ ap (λ m. opened m t.ledger (marks_of t.ledger) t.kept) (f.per_ledger ∙ sym (s.formed.ledgers number));
       }
 
   crash_beyond : (number : ℕ) → length new.broker.topics ≤ number → TopicCrash (topic_at old.broker number) (topic_at new.broker number)
@@ -201,7 +202,7 @@ module _ (stands : ℕ → Image → Ledger → Kept → Type 0) (faulty : ℕ �
   unknown_tells = record { cause = λ is. absurd cc; found = λ honest fails is. absurd cc; refused = λ honest why is. absurd cc }
 
   pub reopen_tells : (result : Result (Unit {0}) Refusal) → (IsErrOf result refusal.Device → Failed before after)
-      → (before.honest → old.failed ≡ true → OnOk result (stands number before.seen new.ledger new.kept × (new ≡ reopened old new.ledger (slots_of new.ledger) new.kept)))
+      → (before.honest → old.failed ≡ true → OnOk result (stands number before.seen new.ledger new.kept × (new ≡ reopened old new.ledger (marks_of new.ledger) new.kept)))
       → (before.honest → IfErr result (λ e. (e ≡ refusal.NoMemory) ⊎ ((e ≡ refusal.Device) ⊎ (faulty number before.seen e ⊎ IsShorter stands number old before.seen e))))
       → ReopenTells stands faulty number old new before after (verdict_for result)
   reopen_tells (Ok done) cause found refused = record {

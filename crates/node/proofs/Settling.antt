@@ -9,7 +9,8 @@ use Rattle.gated_log.specs.declared.refusal.Refusal.{Refusal}
 use Rattle.managed_ledger.specs.Entries.{Ledger, end_of, whole}
 use Rattle.records.specs.Maps.{Kept}
 use Rattle.topic_stores.specs.declared.store.TopicStore.{Ghosts as StoreMembers}
-use Rattle.topic_core.specs.Slots.{slots_of}
+use Rattle.subscriptions.specs.Marks.{no_marks}
+use Rattle.topic_core.specs.Messages.{marks_of}
 use Rattle.topic_core.specs.State.{Topic, opened}
 use Rattle.topic_core.specs.Crashes.{IsLeft}
 use Rattle.catalog.specs.declared.catalog.Catalog.{Catalog}
@@ -51,8 +52,8 @@ pub one_more_name : (again names held : ℕ) → (again ≡ names) ⊎ (again �
 one_more_name again names held (inl is) named more = absurd (omega (arith, is, named, more))
 one_more_name again names held (inr is) named more = omega (arith, is, named)
 
-pub opened_so : (core : Topic) (n m : ℕ) → n ≡ m → core ≡ opened n core.ledger (slots_of core.ledger) core.kept → core ≡ opened m core.ledger (slots_of core.ledger) core.kept
-opened_so core n m is opens = opens ∙ ap (λ k. opened k core.ledger (slots_of core.ledger) core.kept) is
+pub opened_so : (core : Topic) (n m : ℕ) → n ≡ m → core ≡ opened n core.ledger (marks_of core.ledger) core.kept → core ≡ opened m core.ledger (marks_of core.ledger) core.kept
+opened_so core n m is opens = opens ∙ ap (λ k. opened k core.ledger (marks_of core.ledger) core.kept) is
 
 module _ {T S : Type 0} {store : StoreMembers T} (disk : S → Disk) (t : Topics T S store) (s : TopicsStand disk t) (lawful : (disk t.shelf).may_leave (disk t.shelf).seen) where
   -- the catalog's file has no fault
@@ -86,15 +87,15 @@ module _ {T S : Type 0} {store : StoreMembers T} (disk : S → Disk) (t : Topics
       with_name = settled_with t.doubtful (broker_of t) f.settled doubts f.settles (omega (arith, f.count, more, count_is t))
 
       -- the topic of the name is a fresh one
-      pub fresh_there : (core : Topic) → core ≡ opened (per_ledger again) core.ledger (slots_of core.ledger) core.kept → end_of core.ledger ≤ 2 ^ 62 → store.stands (length t.held.items) d1.seen core.ledger core.kept → core ≡ fresh (per_ledger t.catalog)
+      pub fresh_there : (core : Topic) → core ≡ opened (per_ledger again) core.ledger (marks_of core.ledger) core.kept → end_of core.ledger ≤ 2 ^ 62 → store.stands (length t.held.items) d1.seen core.ledger core.kept → core ≡ fresh (per_ledger t.catalog)
       fresh_there core is few here =
           let n = length t.held.items in
           let x = f.topics n (omega (arith, more)) in
           let left = subst (λ (u : Topic). IsLeft u x.ledger x.kept) (get_or_past (broker_of t).topics n (fresh (per_ledger t.catalog)) (omega (arith, count_is t))) x.is_left in
           let none = fresh_only (per_ledger t.catalog) x.ledger x.kept left in
           let same = one n (disk t.shelf).seen core.ledger x.ledger core.kept x.kept few (subst (λ (i : Image). store.stands n i core.ledger core.kept) seen here) x.stands in
-          is ∙ ap (λ m. opened m core.ledger (slots_of core.ledger) core.kept) f.per_ledger
-          ∙ ap (λ (l : Ledger). opened (per_ledger t.catalog) l (slots_of l) core.kept) (same.0 ∙ none.0) ∙ ap (λ k. opened (per_ledger t.catalog) (whole []) [] k) (same.1 ∙ none.1)
+          is ∙ ap (λ m. opened m core.ledger (marks_of core.ledger) core.kept) f.per_ledger
+          ∙ ap (λ (l : Ledger). opened (per_ledger t.catalog) l (marks_of l) core.kept) (same.0 ∙ none.0) ∙ ap (λ k. opened (per_ledger t.catalog) (whole []) no_marks k) (same.1 ∙ none.1)
 
       abbrev pub name_there : List ℕ
       name_there = with_name.0

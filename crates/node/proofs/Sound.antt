@@ -10,6 +10,8 @@ use Rattle.reply_queues.specs.Replies.{due_to}
 use Rattle.topic_core.specs.Steps.{Collects, collected}
 use Rattle.topic_core.specs.Soundness.{IsSoundTopic}
 use Rattle.topic_core.proofs.Keeps.{command-sound, grant-sound, dispatch-sound, flush-sound, take-sound, handed_on-sound, finish-sound, reopen-sound, crash-sound, collected-sound, leave-sound}
+use Rattle.subscriptions.specs.Marks.{no_marks}
+use Rattle.topic_core.proofs.Slotted.{nothing_marked}
 use Rattle.topic_core.proofs.Openings.{sound-opened, receipts-opened}
 use Rattle.topic_core.proofs.Floors.{opened_acknowledged}
 use Rattle.topic_core.specs.Flush.{IsTrimPoint, has_no_flush}
@@ -86,12 +88,12 @@ none_have name acked there i low = absurd (omega (arith, low))
 
 pub fresh_sound : (n : ℕ) → 0 < n → IsSoundTopic (fresh n)
 fresh_sound n some = record {
-  state = sound-opened n (whole []) [] map.empty some (omega arith) refl durable_empty;
-  receipts = receipts-opened n (whole []) [] map.empty;
+  state = sound-opened n (whole []) no_marks map.empty some (omega arith) nothing_marked durable_empty;
+  receipts = receipts-opened n (whole []) no_marks map.empty;
   counted = refl;
-  kept = are_kept.slot 0 map.empty (subscriptions.opened map.empty) [] (are_kept.opened 0 map.empty durable_empty);
-  slots = refl;
-  acknowledged = opened_acknowledged n (whole []) [] map.empty none_have;
+  kept = are_kept.mark 0 map.empty (subscriptions.opened map.empty) [] [] (are_kept.opened 0 map.empty durable_empty);
+  marks = refl;
+  acknowledged = opened_acknowledged n (whole []) no_marks map.empty none_have;
 }
 
 pub fresh_broker_sound : (n : ℕ) (url : List ℕ) → 0 < n → IsSoundBroker (fresh_broker n url)

@@ -6,7 +6,7 @@ use Rattle.gated_log.specs.declared.refusal.Refusal.TheVariants as refusal
 use Rattle.managed_ledger.specs.Entries.{Ledger, end_of}
 use Rattle.records.specs.Maps.{Kept}
 use Rattle.topic_stores.specs.declared.store.TopicStore.{Ghosts as StoreMembers}
-use Rattle.topic_core.specs.Slots.{slots_of}
+use Rattle.topic_core.specs.Messages.{marks_of}
 use Rattle.topic_core.specs.State.{Topic, opened}
 use Rattle.topic_core.specs.Crashes.{IsShorter, reopened}
 use Rattle.session.specs.Broker.{Broker, topic_at}
@@ -34,7 +34,7 @@ pub record IsJustOpened (files_stand : ℕ → Image → Ledger → Kept → Typ
   pub formed : IsFormed state.broker
   pub sure : state.broker.doubtful ≡ None
   pub topics : (number : ℕ) (t : Topic) → slice_get state.broker.topics number ≡ Some t
-      → files_stand number files t.ledger t.kept × (t ≡ opened state.broker.per_ledger t.ledger (slots_of t.ledger) t.kept)
+      → files_stand number files t.ledger t.kept × (t ≡ opened state.broker.per_ledger t.ledger (marks_of t.ledger) t.kept)
   pub start : IsAtStart state.broker
   pub stages : (number : ℕ) → stage_at state number ≡ Resting
   pub sessions : state.sessions ≡ []
@@ -60,7 +60,7 @@ HaveOneFault files_stand faulty = (files : Image) (one other : Refusal) → IsFi
 pub record IsOpened {T : Type 0} {store : StoreMembers T} (files_stand : ℕ → Image → Ledger → Kept → Type 0) (per_ledger number : ℕ) (files : Image) (h : Held T store) : Type 0 where
   pub stands : files_stand number files h.core.ledger h.core.kept
   pub few : end_of h.core.ledger ≤ 2 ^ 62
-  pub opened : h.core ≡ opened per_ledger h.core.ledger (slots_of h.core.ledger) h.core.kept
+  pub opened : h.core ≡ opened per_ledger h.core.ledger (marks_of h.core.ledger) h.core.kept
   pub rests : h.flight ≡ None
 
 module _ {T : Type 0} {store : StoreMembers T} where
@@ -90,7 +90,7 @@ module _ {T S : Type 0} {store : StoreMembers T} (disk : S → Disk) where
 pub record ReopenTells (files_stand : ℕ → Image → Ledger → Kept → Type 0) (faulty : ℕ → Image → Refusal → Type 0) (number : ℕ) (old new : Topic) (before after : Disk) (told : Verdict) : Type 0 where
   pub cause : told ≡ verdict.Refused refusal.Device → Failed before after
   pub found : before.honest → old.failed ≡ true → told ≡ verdict.Done
-      → files_stand number before.seen new.ledger new.kept × (new ≡ reopened old new.ledger (slots_of new.ledger) new.kept)
+      → files_stand number before.seen new.ledger new.kept × (new ≡ reopened old new.ledger (marks_of new.ledger) new.kept)
   pub refused : before.honest → (why : Refusal) → told ≡ verdict.Refused why
       → (why ≡ refusal.NoMemory) ⊎ ((why ≡ refusal.Device) ⊎ (faulty number before.seen why ⊎ IsShorter files_stand number old before.seen why))
 

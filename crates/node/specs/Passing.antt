@@ -85,7 +85,7 @@ module _ (stands : ℕ → Image → Ledger → Kept → Type 0) where
     matched = h.matched;
     honest = reads.kept.honest h.honest;
     counted = h.counted;
-    slots = h.slots;
+    marks = h.marks;
     acknowledged = h.acknowledged;
     left = λ c may. h.left c ((reads.any_moment h.honest).now c may);
     holds = holds_read phase t v old new reads h.holds;

@@ -4,7 +4,7 @@ ghost use Rattle.disk.specs.Disk.{Same, Leaves, Kept, Failed};
 ghost use Rattle.disk.specs.Areas.{Agree, OfTopic, Within};
 ghost use Rattle.gated_log.specs.declared.refusal.Refusal.TheVariants.{Device, NoMemory};
 ghost use Rattle.managed_ledger.specs.Entries.{end_of};
-ghost use Rattle.topic_core.specs.Slots.{slots_of};
+ghost use Rattle.topic_core.specs.Messages.{marks_of};
 ghost use Rattle.topic_core.specs.State.{opened};
 ghost use Rattle.topic_core.specs.Standing.{Match, resting};
 ghost use Rattle.session.specs.Broker.{fresh};
@@ -59,7 +59,7 @@ impl<T: TopicStore> Held<T> {
         per_ledger: u32,
     ) -> Result<Held<T>, Refusal>
         requires { 1 ≤ per_ledger }
-        ensures opened { IfOk result (λ held. held.core ≡ opened per_ledger held.core.ledger (slots_of held.core.ledger) held.core.kept) }
+        ensures opened { IfOk result (λ held. held.core ≡ opened per_ledger held.core.ledger (marks_of held.core.ledger) held.core.kept) }
         ensures few { IfOk result (λ held. end_of held.core.ledger ≤ 2 ^ 62) }
         ensures rests { IfOk result (λ held. held.flight ≡ None) }
         ensures numbered { IfOk result (λ held. IsNumbered per_ledger number held) }

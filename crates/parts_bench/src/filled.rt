@@ -7,7 +7,7 @@ use anyhow::{Error, bail};
 use bytes::Bytes;
 use commands::read_entry;
 use disk::Shelf;
-use managed_ledger::{EntryStore, ManagedLedger};
+use managed_ledger::{EntryStore, ManagedLedger, has_message_count};
 use std::alloc::Global;
 
 pub const TOPIC: u16 = 0;
@@ -19,12 +19,15 @@ const ENTRY: [u8; 14] = [
     0, 0, 0, 0x0a, 0x0a, 1, 0x70, 0x10, 0, 0x18, 1, 0xc0, 0x3e, 5,
 ];
 
-// The entry, whose metadata can be read.
+// The entry, whose metadata can be read, and says that it is one message.
 fn entry(alloc: Global) -> Result<Bytes, Error>
     ensures { IfOk result IsEntry }
 {
     let entry = Bytes::copy_from_slice(alloc, &ENTRY)?;
-    read_entry(alloc, entry.as_slice())?;
+    let metadata = read_entry(alloc, entry.as_slice())?;
+    if !has_message_count(&metadata) {
+        bail!("an entry has from 1 to 1,048,576 messages");
+    }
     Ok(entry)
 }
 

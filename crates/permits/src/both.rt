@@ -1,5 +1,6 @@
 // The two ends of a permit word in one place.
 ghost use Rattle.std.specs.Prelude.{◌≡◌, ◌-◌, ◌≤◌, max, Some, None};
+ghost use Rattle.permits.specs.Ends.{sent_of};
 
 use crate::ends::{Granter, Taker, permits};
 use crate::gauge::{Fresh, Gauge, Grant};
@@ -21,15 +22,15 @@ impl Model for BothEnds {
 
     ghost use Rattle.std.specs.Prelude.{◌≡◌, ◌^◌, ◌≤◌};
 
-    ghost view = { λ g. record { word = g.taker.word; taken = g.taker.taken; known = g.granter.granted; looks = 0 } };
+    ghost view = { λ g. record { word = g.taker.word; taken = g.taker.taken; known = g.granter.granted; debt = g.taker.debt; looks = 0 } };
 
-    ghost invariant = { λ g. (g.granter.word ≡ g.taker.word) × (g.taker.taken ≤ g.granter.granted) × (g.granter.granted ≤ g.taker.known) × (g.granter.granted ≤ 2 ^ 62) };
+    ghost invariant = { λ g. (g.granter.word ≡ g.taker.word) × (g.granter.granted ≤ g.taker.known) × (g.granter.granted ≤ 2 ^ 62) × (g.taker.debt ≤ 1048575) };
 }
 
 impl Gauge for BothEnds {
     type Told = PlainTold;
 
-    ghost taken = { λ g. g.taken };
+    ghost sent = { sent_of };
 
     ghost known = { λ g. g.known };
 
@@ -43,12 +44,12 @@ impl Gauge for BothEnds {
 
     ghost looks = { λ g. g.looks };
 
-    fn count(&self) -> u64 {
-        self.taker.count()
+    fn sent(&self) -> u64 {
+        self.taker.sent()
     }
 
     fn left(&self) -> u64 {
-        self.granter.count() - self.taker.count()
+        self.granter.count().saturating_sub(self.taker.sent())
     }
 
     fn learn(&mut self, told: PlainTold) {
@@ -58,14 +59,14 @@ impl Gauge for BothEnds {
     }
 
     fn look(&mut self) -> bool {
-        self.taker.count() < self.granter.count()
+        self.taker.sent() < self.granter.count()
     }
 
-    fn take(&mut self) -> bool {
-        if self.taker.count() == self.granter.count() {
+    fn take(&mut self, messages: u32) -> bool {
+        if self.taker.sent() >= self.granter.count() {
             return false;
         }
-        let is_taken = self.taker.take();
+        let is_taken = self.taker.take(messages);
         prove!(is_taken);
         true
     }

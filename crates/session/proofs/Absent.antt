@@ -55,7 +55,7 @@ none_kept-entries : map.entries none_kept ≡ []
 none_kept-entries = nothing_in (map.entries none_kept) (sym (map.len-entries none_kept) ∙ none_kept-len)
 
 abbrev no_subs : Subscriptions
-no_subs = record { subs = []; changes = []; slots = [] }
+no_subs = record { subs = []; changes = []; slots = []; messages = [] }
 
 none_opened : subscriptions.opened none_kept ≡ no_subs
 none_opened = ap (λ es. subscriptions.opened_all es) none_kept-entries

@@ -13,7 +13,7 @@ use Rattle.holds.proofs.Kept.{get_inserted}
 use Rattle.subscriptions.specs.declared.consumer.Mode.{Mode}
 use Rattle.subscriptions.specs.declared.consumer.Mode.TheVariants.{Exclusive, Failover, Shared, KeyShared}
 use Rattle.subscriptions.specs.State.{Consumer, Subscription, Subscriptions}
-use Rattle.subscriptions.specs.Steps.{first_changed, is_consumer, is_on, is_first, has_permit, sent, sent_on, sent_one, IsLeastIn, AdmitsBy, AdmitsOn, AdmitsAt, Admits}
+use Rattle.subscriptions.specs.Steps.{first_changed, is_consumer, is_on, is_first, has_permit, sent, sent_on, sent_more, IsLeastIn, AdmitsBy, AdmitsOn, AdmitsAt, Admits}
 use Rattle.subscriptions.proofs.Sound.{any_changed}
 
 -- ---- positions
@@ -73,51 +73,51 @@ module _ (committed : ℕ) (s : Subscription) (other : ConsumerKey) (i : ℕ) wh
 
 -- ---- one subscription
 
-first_same : (other key : ConsumerKey) (cs : List Consumer) → is_first key (first_changed (is_consumer other) (λ c. sent_one c) cs) ≡ is_first key cs
-first_same other key [] = refl
-first_same other key (c ∷ cs) = elim (is_consumer other c) as (λ b. is_first key (cond b (sent_one c ∷ cs) (c ∷ first_changed (is_consumer other) (λ c. sent_one c) cs)) ≡ is_first key (c ∷ cs)) [
+first_same : (n : ℕ) (other key : ConsumerKey) (cs : List Consumer) → is_first key (first_changed (is_consumer other) (sent_more n) cs) ≡ is_first key cs
+first_same n other key [] = refl
+first_same n other key (c ∷ cs) = elim (is_consumer other c) as (λ b. is_first key (cond b (sent_more n c ∷ cs) (c ∷ first_changed (is_consumer other) (sent_more n) cs)) ≡ is_first key (c ∷ cs)) [
   | true ↦ refl
   | false ↦ refl
 ]
 
-permit_first : (b : Bool) (c : Consumer) (o : Option Consumer) → has_permit (cond b (Some (sent_one c)) o) ≡ true → has_permit (cond b (Some c) o) ≡ true
-permit_first true c o h = lt-ltb c.sent c.granted (let low = ltb-true (c.sent + 1) c.granted h in omega (arith, low))
-permit_first false c o h = h
+permit_first : (n : ℕ) (b : Bool) (c : Consumer) (o : Option Consumer) → has_permit (cond b (Some (sent_more n c)) o) ≡ true → has_permit (cond b (Some c) o) ≡ true
+permit_first n true c o h = lt-ltb c.sent c.granted (let low = ltb-true (c.sent + n) c.granted h in omega (arith, low))
+permit_first n false c o h = h
 
 permit_rest : (b : Bool) (c : Consumer) (o o' : Option Consumer) → (has_permit o' ≡ true → has_permit o ≡ true) → has_permit (cond b (Some c) o') ≡ true → has_permit (cond b (Some c) o) ≡ true
 permit_rest true c o o' to h = h
 permit_rest false c o o' to h = to h
 
 -- a permit now was one before
-permit_before : (other key : ConsumerKey) (cs : List Consumer) → has_permit (find (is_consumer key) (first_changed (is_consumer other) (λ c. sent_one c) cs)) ≡ true → has_permit (find (is_consumer key) cs) ≡ true
-permit_before other key [] h = h
-permit_before other key (c ∷ cs) h =
-    elim (is_consumer other c) as (λ b. has_permit (find (is_consumer key) (cond b (sent_one c ∷ cs) (c ∷ first_changed (is_consumer other) (λ c. sent_one c) cs))) ≡ true → has_permit (find (is_consumer key) (c ∷ cs)) ≡ true) [
-      | true ↦ λ h. permit_first (is_consumer key c) c (find (is_consumer key) cs) h
-      | false ↦ λ h. permit_rest (is_consumer key c) c (find (is_consumer key) cs) (find (is_consumer key) (first_changed (is_consumer other) (λ c. sent_one c) cs)) (permit_before other key cs) h
+permit_before : (n : ℕ) (other key : ConsumerKey) (cs : List Consumer) → has_permit (find (is_consumer key) (first_changed (is_consumer other) (sent_more n) cs)) ≡ true → has_permit (find (is_consumer key) cs) ≡ true
+permit_before n other key [] h = h
+permit_before n other key (c ∷ cs) h =
+    elim (is_consumer other c) as (λ b. has_permit (find (is_consumer key) (cond b (sent_more n c ∷ cs) (c ∷ first_changed (is_consumer other) (sent_more n) cs))) ≡ true → has_permit (find (is_consumer key) (c ∷ cs)) ≡ true) [
+      | true ↦ λ h. permit_first n (is_consumer key c) c (find (is_consumer key) cs) h
+      | false ↦ λ h. permit_rest (is_consumer key c) c (find (is_consumer key) cs) (find (is_consumer key) (first_changed (is_consumer other) (sent_more n) cs)) (permit_before n other key cs) h
     ] h
 
 -- whoever may get a position now might have got one before
-served_before : (mode : Mode) (s : Subscription) (other key : ConsumerKey) (slots : List ℕ) (committed i j : ℕ) → AdmitsBy mode other s slots (IsOpenAt committed s.acked s.deliveries) i →
-    AdmitsBy mode key (sent_on other i s) slots (IsOpenAt committed s.acked (sent_on other i s).deliveries) j → (k : ℕ) × AdmitsBy mode key s slots (IsOpenAt committed s.acked s.deliveries) k
-served_before Exclusive s other key slots committed i j may h = (i, may)
-served_before Failover s other key slots committed i j may h = (i, (sym (first_same other key s.consumers) ∙ h.0, may.1))
-served_before Shared s other key slots committed i j may h = (j, opens_before committed s other i j h)
-served_before KeyShared s other key slots committed i j may h =
+served_before : (mode : Mode) (s : Subscription) (n : ℕ) (other key : ConsumerKey) (slots : List ℕ) (committed i j : ℕ) → AdmitsBy mode other s slots (IsOpenAt committed s.acked s.deliveries) i →
+    AdmitsBy mode key (sent_on other n i s) slots (IsOpenAt committed s.acked (sent_on other n i s).deliveries) j → (k : ℕ) × AdmitsBy mode key s slots (IsOpenAt committed s.acked s.deliveries) k
+served_before Exclusive s n other key slots committed i j may h = (i, may)
+served_before Failover s n other key slots committed i j may h = (i, (sym (first_same n other key s.consumers) ∙ h.0, may.1))
+served_before Shared s n other key slots committed i j may h = (j, opens_before committed s other i j h)
+served_before KeyShared s n other key slots committed i j may h =
     some_before committed s other i slots (seat_of key s.seats) j (some_opens committed s other i slots (seat_of other s.seats) may) h
 
 -- ---- all subscriptions
 
-module _ (other key : ConsumerKey) (slots : List ℕ) (committed i : ℕ) where
+module _ (n : ℕ) (other key : ConsumerKey) (slots : List ℕ) (committed i : ℕ) where
   abbrev None_at : Option Subscription → Type 0
   None_at o = (j : ℕ) → AdmitsAt o key slots committed j → ⊥
 
-  none_on : (s : Subscription) → AdmitsOn s other slots committed i → None_at (Some s) → None_at (Some (sent_on other i s))
+  none_on : (s : Subscription) → AdmitsOn s other slots committed i → None_at (Some s) → None_at (Some (sent_on other n i s))
   none_on s may none = λ j h.
-      let k = served_before s.mode s other key slots committed i j may.served h.served in
-      none k.0 (record { permit = permit_before other key s.consumers h.permit; served = k.1 })
+      let k = served_before s.mode s n other key slots committed i j may.served h.served in
+      none k.0 (record { permit = permit_before n other key s.consumers h.permit; served = k.1 })
 
-  none_first : (b : Bool) (s : Subscription) (o : Option Subscription) → AdmitsOn s other slots committed i → None_at (cond b (Some s) o) → None_at (cond b (Some (sent_on other i s)) o)
+  none_first : (b : Bool) (s : Subscription) (o : Option Subscription) → AdmitsOn s other slots committed i → None_at (cond b (Some s) o) → None_at (cond b (Some (sent_on other n i s)) o)
   none_first true s o may none = none_on s may none
   none_first false s o may none = none
 
@@ -125,16 +125,16 @@ module _ (other key : ConsumerKey) (slots : List ℕ) (committed i : ℕ) where
   none_rest true s o o' to none = none
   none_rest false s o o' to none = to none
 
-  on_same : (s : Subscription) → is_on key (sent_on other i s) ≡ is_on key s
-  on_same s = any_changed (is_consumer other) (λ c. sent_one c) (is_consumer key) (λ _. refl) s.consumers
+  on_same : (s : Subscription) → is_on key (sent_on other n i s) ≡ is_on key s
+  on_same s = any_changed (is_consumer other) (sent_more n) (is_consumer key) (λ _. refl) s.consumers
 
-  none_among : (subs : List Subscription) → AdmitsAt (find (is_on other) subs) other slots committed i → None_at (find (is_on key) subs) → None_at (find (is_on key) (first_changed (is_on other) (sent_on other i) subs))
+  none_among : (subs : List Subscription) → AdmitsAt (find (is_on other) subs) other slots committed i → None_at (find (is_on key) subs) → None_at (find (is_on key) (first_changed (is_on other) (sent_on other n i) subs))
   none_among [] may none = none
   none_among (s ∷ subs) may none =
-      elim (is_on other s) as (λ b. AdmitsAt (cond b (Some s) (find (is_on other) subs)) other slots committed i → None_at (find (is_on key) (cond b (sent_on other i s ∷ subs) (s ∷ first_changed (is_on other) (sent_on other i) subs)))) [
-        | true ↦ λ may. subst (λ (b : Bool). None_at (cond b (Some (sent_on other i s)) (find (is_on key) subs))) (sym (on_same s)) (none_first (is_on key s) s (find (is_on key) subs) may none)
-        | false ↦ λ may. none_rest (is_on key s) s (find (is_on key) subs) (find (is_on key) (first_changed (is_on other) (sent_on other i) subs)) (none_among subs may) none
+      elim (is_on other s) as (λ b. AdmitsAt (cond b (Some s) (find (is_on other) subs)) other slots committed i → None_at (find (is_on key) (cond b (sent_on other n i s ∷ subs) (s ∷ first_changed (is_on other) (sent_on other n i) subs)))) [
+        | true ↦ λ may. subst (λ (b : Bool). None_at (cond b (Some (sent_on other n i s)) (find (is_on key) subs))) (sym (on_same s)) (none_first (is_on key s) s (find (is_on key) subs) may none)
+        | false ↦ λ may. none_rest (is_on key s) s (find (is_on key) subs) (find (is_on key) (first_changed (is_on other) (sent_on other n i) subs)) (none_among subs may) none
       ] may
 
 pub none_sent : (t : Subscriptions) (other key : ConsumerKey) (committed i : ℕ) → Admits t other committed i → ((j : ℕ) → Admits t key committed j → ⊥) → (j : ℕ) → Admits (sent t other i) key committed j → ⊥
-none_sent t other key committed i may none = none_among other key t.slots committed i t.subs may none
+none_sent t other key committed i may none = none_among (slice_index t.messages i) other key t.slots committed i t.subs may none

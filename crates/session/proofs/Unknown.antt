@@ -24,7 +24,7 @@ pub sends-unknown : (topic : Option ℕ) (old : Play) (asked : Send) (entry : Se
     SaysAlone old (SendError asked.producer_id asked.sequence_id NotAllowedError) new → SendIn topic (Some entry) old asked new
 sends-unknown None old asked entry new past said = said
 sends-unknown (Some number) old asked entry new past said =
-    asks-absent old number (record { producer_id = asked.producer_id; sequence_id = asked.sequence_id; num_messages = asked.num_messages; entry = entry }) new past said
+    asks-absent old number (record { producer_id = asked.producer_id; sequence_id = asked.sequence_id; entry = entry }) new past said
 
 pub closes-unknown : (topic : Option ℕ) (old : Play) (asked : CloseProducer) (new : Play) → IsPast topic old →
     SaysAlone old (Error asked.request_id NotAllowedError) new → CloseIn topic old asked new

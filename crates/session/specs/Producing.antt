@@ -128,7 +128,7 @@ sent_entry behind.Checksummed = Some sent.Checksummed
 sent_entry (behind.Entry entry) = Some (sent.Plain (plain_entry entry))
 
 abbrev pub send_command : Send → SentEntry → TopicCommand
-send_command asked entry = topic_command.Send (record { producer_id = asked.producer_id; sequence_id = asked.sequence_id; num_messages = asked.num_messages; entry = entry })
+send_command asked entry = topic_command.Send (record { producer_id = asked.producer_id; sequence_id = asked.sequence_id; entry = entry })
 
 -- the topic works a command, and its answer goes out
 pub record Asks (old : Play) (topic : ℕ) (command : TopicCommand) (new : Play) : Type 0 where

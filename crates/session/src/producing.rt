@@ -185,7 +185,6 @@ impl Session {
         let command = TopicCommand::Send(topic_core::Send {
             producer_id: asked.producer_id,
             sequence_id: asked.sequence_id,
-            num_messages: asked.num_messages,
             entry,
         });
         let answer = hear(port.command(topic, self.number, command));

@@ -11,7 +11,7 @@ use bytes::Bytes;
 use commands::read_entry;
 use disk_mem::MemShelf;
 use gated_log::{Refusal, Start, UNTRIMMED};
-use managed_ledger::{EntryStore, ManagedLedger};
+use managed_ledger::{EntryStore, ManagedLedger, has_message_count};
 use std::alloc::Global;
 
 /// So many bytes are added to those that a word spells, at most.
@@ -34,7 +34,10 @@ fn entry_of(alloc: Global, bytes: Bytes) -> Result<Bytes, Error>
     if bytes.len() > 1_048_576 {
         bail!("an entry isn't so long");
     }
-    let _metadata = read_entry(alloc, bytes.as_slice())?;
+    let metadata = read_entry(alloc, bytes.as_slice())?;
+    if !has_message_count(&metadata) {
+        bail!("an entry has from 1 to 1,048,576 messages");
+    }
     Ok(bytes)
 }
 

@@ -14,7 +14,7 @@ use Rattle.std.specs.Str.{bytes_eq}
 use Rattle.std.specs.FinSet as set
 use Rattle.std.specs.FinMap as map
 use Rattle.std.specs.FinMap.Entries as entries
-use Rattle.std.specs.Prelude.{map as each}
+use Rattle.std.specs.Prelude.{map as each, slice_index}
 use Rattle.cursor.specs.Positions.{Positions, below}
 use Rattle.holds.specs.declared.consumer.ConsumerKey.{ConsumerKey}
 use Rattle.holds.specs.declared.consumer.Consumer.{Consumer as Seat}
@@ -309,6 +309,7 @@ opened_sound kept durable = record {
     changes = omega arith;
   };
   each_one = each_opened (map.entries kept);
+  messages = tt;
 }
 
 abbrev pub pairs : List KeptCursor → List (List ℕ × Positions)
@@ -318,9 +319,9 @@ names_of : (cursors : List KeptCursor) → names (each opened_one (pairs cursors
 names_of [] = refl
 names_of (c ∷ cs) = ap (λ ns. c.name ∷ ns) (names_of cs)
 
-pub limits_opened : (cursors : List KeptCursor) (subs : List Subscription) (changes : List Record) (slots : List ℕ) → length cursors ≤ 64 → IsDistinct bytes_eq (each (λ (c : KeptCursor). c.name) cursors)
-    → subs ≡ each opened_one (pairs cursors) → changes ≡ [] → HasLimits (record { subs = subs; changes = changes; slots = slots })
-limits_opened cursors subs changes slots few distinct first second = rw (first, second) (record {
+pub limits_opened : (cursors : List KeptCursor) (subs : List Subscription) (changes : List Record) (slots messages : List ℕ) → length cursors ≤ 64 → IsDistinct bytes_eq (each (λ (c : KeptCursor). c.name) cursors)
+    → subs ≡ each opened_one (pairs cursors) → changes ≡ [] → HasLimits (record { subs = subs; changes = changes; slots = slots; messages = messages })
+limits_opened cursors subs changes slots messages few distinct first second = rw (first, second) (record {
   names = subst (IsDistinct bytes_eq) (sym (names_of cursors)) distinct;
   subscriptions = omega (arith, length_each opened_one (pairs cursors), length_each {Y = List ℕ × Positions} (λ (c : KeptCursor). (c.name, c.acked)) cursors);
   changes = omega arith;
@@ -343,12 +344,12 @@ are_kept = record {
   acknowledge = λ e kept t key ps limits all is. ack_kept e kept t key ps (find (is_on key) t.subs) refl limits all is;
   acknowledge_through = λ e kept t key p limits low is. through_kept e kept t key p (find (is_on key) t.subs) refl limits low is;
   unsubscribe = λ e kept t key limits is. removed_kept e kept t key (find (is_on key) t.subs) refl limits is;
-  send = λ e kept t key i is. kept_spared e kept t _ (λ q. acked_spared (is_on key) (sent_on key i) (record { name = λ _. refl; acked = λ _. refl }) q t.subs) (length_changed (is_on key) (sent_on key i) t.subs) is;
+  send = λ e kept t key i is. kept_spared e kept t _ (λ q. acked_spared (is_on key) (sent_on key (slice_index t.messages i) i) (record { name = λ _. refl; acked = λ _. refl }) q t.subs) (length_changed (is_on key) (sent_on key (slice_index t.messages i) i) t.subs) is;
   leave = λ e kept t who is. kept_spared e kept t _ (λ q. acked_each (left_on who) (record { name = λ _. refl; acked = λ _. refl }) q t.subs) (length_each (left_on who) t.subs) is;
   detach = λ e kept t key is. kept_spared e kept t _ (λ q. acked_spared (is_on key) (detached_on key) (record { name = λ _. refl; acked = λ _. refl }) q t.subs) (length_changed (is_on key) (detached_on key) t.subs) is;
   redeliver = λ e kept t key asked is. kept_spared e kept t _ (λ q. acked_spared (is_on key) (redelivered_on key asked) (record { name = λ _. refl; acked = λ _. refl }) q t.subs) (length_changed (is_on key) (redelivered_on key asked) t.subs) is;
   settle = settle_kept;
-  slot = λ e kept t slots is. record { same = is.same; count = is.count; durable = is.durable; formed = is.formed };
+  mark = λ e kept t slots messages is. record { same = is.same; count = is.count; durable = is.durable; formed = is.formed };
   forget = λ e kept t position is. record { same = is.same; count = is.count; durable = is.durable; formed = is.formed };
   longer = λ e m kept t low is. record { same = is.same; count = is.count; durable = is.durable; formed = formed_longer e m t.changes kept low is.formed };
 }

@@ -23,7 +23,7 @@ use Rattle.subscriptions.specs.declared.consumer.Refusal.TheVariants.{ConsumerBu
 use Rattle.subscriptions.specs.Forgetting.{unacknowledged, forgetting, forgetful, AnswersTheSame, GoesOnTheSame, CountsAreForgotten}
 use Rattle.subscriptions.specs.Laws.{IsOpenFor}
 use Rattle.subscriptions.specs.State.{Subscription, Subscriptions}
-use Rattle.subscriptions.specs.Steps.{first_changed, first_removed, each_delivery, is_on, is_named, refuses_ranges, refusals_at, attached_to, attached_at, granted_on, is_past_on, learnt_on, HasLearntOn, acked_on, acknowledgements, acked_through_on, acknowledgement_through, is_shared, removal, made, is_first, AdmitsBy, AdmitsAt, IsLeastIn, sent_on, times_at, freed, left_on, detached_on, is_asked_back, redelivered_on, settled, slotted, forgotten}
+use Rattle.subscriptions.specs.Steps.{first_changed, first_removed, each_delivery, is_on, is_named, refuses_ranges, refusals_at, attached_to, attached_at, granted_on, is_past_on, learnt_on, HasLearntOn, acked_on, acknowledgements, acked_through_on, acknowledgement_through, is_shared, removal, made, is_first, AdmitsBy, AdmitsAt, IsLeastIn, sent_on, times_at, freed, left_on, detached_on, is_asked_back, redelivered_on, settled, marked, forgotten}
 use Rattle.subscriptions.proofs.Each.{get_each}
 use Rattle.subscriptions.proofs.Limits.{picked}
 use Rattle.subscriptions.proofs.Settled.{is_in, has_joined, has_through, get_forgotten, get_forgotten_below}
@@ -97,12 +97,12 @@ alike_acked_through position s =
     (same_unacked now.acked was.deliveries now.deliveries
     (λ q lacks. get_forgotten_below u end q ∙ ap (λ o. cond (nat_lt q end) None o) (get_unacked s.acked d q (lacked q lacks)) ∙ sym (get_forgotten_below d end q)))
 
-alike_sent : (key : ConsumerKey) (i : ℕ) (s : Subscription) → forgetting (sent_on key i (forgetting s)) ≡ forgetting (sent_on key i s)
-alike_sent key i s =
+alike_sent : (key : ConsumerKey) (n i : ℕ) (s : Subscription) → forgetting (sent_on key n i (forgetting s)) ≡ forgetting (sent_on key n i s)
+alike_sent key n i s =
     let d = s.deliveries in
     let u = unacknowledged s.acked d in
-    let now = sent_on key i s in
-    let was = sent_on key i (forgetting s) in
+    let now = sent_on key n i s in
+    let was = sent_on key n i (forgetting s) in
     let at : (q : ℕ) → Lacks s.acked q → cond (nat_eq q i) (Some (sent_to key (map.get u i))) (map.get u q) ≡ cond (nat_eq q i) (Some (sent_to key (map.get d i))) (map.get d q) = λ q lacks.
     elim (nat_eq q i) as (λ b. nat_eq q i ≡ b → cond b (Some (sent_to key (map.get u i))) (map.get u q) ≡ cond b (Some (sent_to key (map.get d i))) (map.get d q)) [
       | true ↦ λ is. ap (λ o. Some (sent_to key o)) (get_unacked s.acked d i (subst (λ (k : ℕ). Lacks s.acked k) (same_position q i is) lacks))
@@ -287,12 +287,12 @@ goes_on t =
       acknowledge_through = λ key position.
           with_both t _ _ _ _ (on key (acked_through_on position) (λ s. alike_acked_through position s)) (ap (λ o. acknowledgement_through o position) (found_on key t) ∙ through_same (find (is_on key) t.subs) position);
       unsubscribe = λ key. with_both t _ _ _ _ (removed_alike (is_on key) (λ s. refl) t.subs) (ap removal (found_on key t) ∙ removal_same (find (is_on key) t.subs));
-      send = λ key i. with_subs t _ _ (on key (sent_on key i) (λ s. alike_sent key i s));
+      send = λ key i. with_subs t _ _ (on key (sent_on key (slice_index t.messages i) i) (λ s. alike_sent key (slice_index t.messages i) i s));
       leave = λ who. with_subs t _ _ (each_alike (left_on who) (λ s. alike_left who s) t.subs);
       detach = λ key. with_subs t _ _ (on key (detached_on key) (λ s. alike_detached key s));
       redeliver = λ key asked. with_subs t _ _ (on key (redelivered_on key asked) (λ s. alike_redelivered key asked s));
       settle = λ count. with_subs (settled t count) _ _ (all_twice t.subs);
-      slot = λ slots. with_subs (slotted t slots) _ _ (all_twice t.subs);
+      mark = λ slots messages. with_subs (marked t slots messages) _ _ (all_twice t.subs);
       forget = λ position. with_subs (forgotten t position) _ _ (all_twice t.subs);
     }
 

@@ -1,10 +1,11 @@
--- Slots that are forgotten, and those that come before.
-use Rattle.std.proofs.Common.{◌≡◌, ℕ, zero, suc, ◌+◌, ◌-◌, ◌≤◌, List, [], ◌∷◌, ◌++◌, true, ◌||◌, length, drop, length-append, append_assoc, refl, ap, sym, ◌∙◌, arith}
+-- Entries that are forgotten, and those that come before.
+use Rattle.std.proofs.Common.{◌≡◌, ℕ, zero, suc, ◌+◌, ◌-◌, ◌≤◌, List, [], ◌∷◌, ◌++◌, ◌||◌, length, drop, length-append, append_assoc, refl, ap, sym, ◌∙◌, arith}
 use Rattle.std.specs.List.{AllByRecursion}
 use Rattle.std.proofs.lemmas.List.{length-replicate, length-drop, replicate-append-replicate}
 use Rattle.cursor.specs.Positions.{Positions, Has, has_union}
 use Rattle.std.specs.FinSet as set
 use Rattle.subscriptions.specs.Progress.{joined, listed}
+use Rattle.subscriptions.specs.Marks.{Marks, behind, forgotten}
 use Rattle.subscriptions.specs.State.{Subscription}
 use Rattle.subscriptions.specs.Trimming.{IsPast}
 use Rattle.std.specs.Prelude.{replicate}
@@ -19,30 +20,37 @@ copies_stay zero from x xs low = refl
 copies_stay (suc base) zero x xs low = absurd (omega (arith, low))
 copies_stay (suc base) (suc from) x xs low = ap (λ (l : List _). x ∷ l) (copies_stay base from x xs (omega (arith, low)))
 
-pub forgets : (base from : ℕ) (xs old new : List ℕ) → old ≡ replicate from 0 ++ xs → from ≤ base → new ≡ replicate base 0 ++ drop (base - from) xs → new ≡ replicate base 0 ++ drop base old
-forgets base from xs old new is low after =
+pub forgets : (base from : ℕ) (xs ys : List ℕ) (m new : Marks) → m ≡ record { slots = replicate from 0 ++ xs; messages = replicate from 1 ++ ys } → from ≤ base
+    → new ≡ record { slots = replicate base 0 ++ drop (base - from) xs; messages = replicate base 1 ++ drop (base - from) ys } → new ≡ forgotten base m
+forgets base from xs ys m new is low after =
     after
-    ∙ ap (λ (l : List ℕ). replicate base 0 ++ l) (sym (behind_copies base from 0 xs low))
-    ∙ ap (λ (l : List ℕ). replicate base 0 ++ drop base l) (sym is)
+    ∙ (λ i. record { slots = replicate base 0 ++ sym (behind_copies base from 0 xs low) i; messages = replicate base 1 ++ sym (behind_copies base from 1 ys low) i })
+    ∙ ap (λ (k : Marks). forgotten base k) (sym is)
 
-pub stays : (base from : ℕ) (xs old : List ℕ) → old ≡ replicate from 0 ++ xs → base ≤ from → old ≡ replicate base 0 ++ drop base old
-stays base from xs old is low = is ∙ sym (copies_stay base from 0 xs low) ∙ ap (λ (l : List ℕ). replicate base 0 ++ drop base l) (sym is)
+pub stays : (base from : ℕ) (xs ys : List ℕ) (m : Marks) → m ≡ record { slots = replicate from 0 ++ xs; messages = replicate from 1 ++ ys } → base ≤ from → m ≡ forgotten base m
+stays base from xs ys m is low =
+    is
+    ∙ (λ i. record { slots = sym (copies_stay base from 0 xs low) i; messages = sym (copies_stay base from 1 ys low) i })
+    ∙ ap (λ (k : Marks). forgotten base k) (sym is)
 
 -- ---- what comes before
 
-pub before_all : (count from : ℕ) (xs old : List ℕ) → old ≡ replicate from 0 ++ xs → replicate (from + count) 0 ++ xs ≡ replicate count 0 ++ old
-before_all count from xs old is =
-    ap (λ (n : ℕ). replicate n 0 ++ xs) (let same : from + count ≡ count + from = omega arith in same)
-    ∙ ap (λ (l : List ℕ). l ++ xs) (sym (replicate-append-replicate count from 0))
-    ∙ append_assoc (replicate count 0) (replicate from 0) xs
-    ∙ ap (λ (l : List ℕ). replicate count 0 ++ l) (sym is)
+before_copies : (count from x : ℕ) (xs : List ℕ) → replicate (from + count) x ++ xs ≡ replicate count x ++ (replicate from x ++ xs)
+before_copies count from x xs =
+    ap (λ (n : ℕ). replicate n x ++ xs) (let same : from + count ≡ count + from = omega arith in same)
+    ∙ ap (λ (l : List ℕ). l ++ xs) (sym (replicate-append-replicate count from x))
+    ∙ append_assoc (replicate count x) (replicate from x) xs
+
+pub before_all : (count from : ℕ) (xs ys : List ℕ) (m : Marks) → m ≡ record { slots = replicate from 0 ++ xs; messages = replicate from 1 ++ ys }
+    → (let new : Marks = record { slots = replicate (from + count) 0 ++ xs; messages = replicate (from + count) 1 ++ ys } in new ≡ behind count m)
+before_all count from xs ys m is = (λ i. record { slots = before_copies count from 0 xs i; messages = before_copies count from 1 ys i }) ∙ ap (behind count) (sym is)
 
 pub from_within : (from : ℕ) (xs old : List ℕ) → old ≡ replicate from 0 ++ xs → from ≤ length old
 from_within from xs old is = omega (arith, ap (λ (l : List ℕ). length l) is, length-append (replicate from 0) xs, length-replicate {A = ℕ} from 0)
 
--- as many slots are left
-pub forgotten_length : (position : ℕ) (slots : List ℕ) → position ≤ length slots → length (replicate position 0 ++ drop position slots) ≡ length slots
-forgotten_length position slots low = omega (arith, low, length-append (replicate position 0) (drop position slots), length-replicate {A = ℕ} position 0, length-drop position slots)
+-- as many marks are left
+pub forgotten_length : (position mark : ℕ) (marks : List ℕ) → position ≤ length marks → length (replicate position mark ++ drop position marks) ≡ length marks
+forgotten_length position mark marks low = omega (arith, low, length-append (replicate position mark) (drop position marks), length-replicate {A = ℕ} position mark, length-drop position marks)
 
 -- ---- what all are past
 

@@ -1,12 +1,12 @@
 -- What a FLOW does, and how what is learnt of a consumer's permits goes with what else happens to it.
 use Rattle.std.proofs.Common.{◌≡◌, ℕ, ◌+◌, ◌≤◌, Bool, true, false, cond, max, ◌||◌, Option, Some, None, Result, Ok, Err, List, [], ◌∷◌, get_or, set, refl, ap, sym, subst, ◌∙◌, arith}
-use Rattle.std.specs.Prelude.{OnOk, OnErr}
+use Rattle.std.specs.Prelude.{OnOk, OnErr, slice_index}
 use Rattle.std.specs.List.{find, list_any, position}
 use Rattle.std.proofs.lemmas.Bool.{true≢false}
 use Rattle.holds.specs.declared.consumer.ConsumerKey.{ConsumerKey}
 use Rattle.subscriptions.specs.Directory.{ArePlacesAmong}
 use Rattle.subscriptions.specs.State.{Consumer, Subscription, Subscriptions}
-use Rattle.subscriptions.specs.Steps.{first_changed, is_consumer, is_on, has_consumer, granted_to, is_past, learnt, learnt_on, learnt_to, Admits, AdmitsAt, sent, sent_on, sent_one, sent_before, times_at}
+use Rattle.subscriptions.specs.Steps.{first_changed, is_consumer, is_on, has_consumer, granted_to, is_past, learnt, learnt_on, learnt_to, Admits, AdmitsAt, sent, sent_on, sent_more, sent_before, times_at}
 use Rattle.subscriptions.proofs.Numbered.{places_granted_to}
 use Rattle.subscriptions.proofs.Places.{changes, finds, same_at}
 use Rattle.subscriptions.proofs.Sound.{any_changed, any_found}
@@ -140,28 +140,29 @@ learnt_again t key a b =
     ap (with_subs t) (sym (changed_twice (is_on key) (learnt_on key b) (learnt_on key a) (λ s. on_learnt key a key s) t.subs)
     ∙ changed_alike (is_on key) (λ s. learnt_on key b (learnt_on key a s)) (learnt_on key (seen_both a b)) t.subs (λ s _. on_again key a b s))
 
-on_sent : (key : ConsumerKey) (i : ℕ) (s : Subscription) → is_on key (sent_on key i s) ≡ is_on key s
-on_sent key i s = any_changed (is_consumer key) (λ c. sent_one c) (is_consumer key) (λ _. refl) s.consumers
+on_sent : (key : ConsumerKey) (m i : ℕ) (s : Subscription) → is_on key (sent_on key m i s) ≡ is_on key s
+on_sent key m i s = any_changed (is_consumer key) (sent_more m) (is_consumer key) (λ _. refl) s.consumers
 
-on_either : (key : ConsumerKey) (i : ℕ) (n : Seen) (s : Subscription) → learnt_on key n (sent_on key i s) ≡ sent_on key i (learnt_on key n s)
-on_either key i n s =
-    ap (λ (cs : List Consumer). with_consumers (sent_on key i s) cs) (sym (changed_twice (is_consumer key) (learnt_to n) (λ c. sent_one c) (λ _. refl) s.consumers)
-    ∙ changed_twice (is_consumer key) (λ c. sent_one c) (learnt_to n) (λ _. refl) s.consumers)
+on_either : (key : ConsumerKey) (m i : ℕ) (n : Seen) (s : Subscription) → learnt_on key n (sent_on key m i s) ≡ sent_on key m i (learnt_on key n s)
+on_either key m i n s =
+    ap (λ (cs : List Consumer). with_consumers (sent_on key m i s) cs) (sym (changed_twice (is_consumer key) (learnt_to n) (sent_more m) (λ _. refl) s.consumers)
+    ∙ changed_twice (is_consumer key) (sent_more m) (learnt_to n) (λ _. refl) s.consumers)
 
 -- what is learnt behind a message might have been learnt before it
 pub learnt_before : (t : Subscriptions) (key : ConsumerKey) (i : ℕ) (n : Seen) → learnt (sent t key i) key n ≡ sent (learnt t key n) key i
 learnt_before t key i n =
-    ap (with_subs t) (sym (changed_twice (is_on key) (learnt_on key n) (sent_on key i) (on_sent key i) t.subs)
-    ∙ changed_alike (is_on key) (λ s. learnt_on key n (sent_on key i s)) (λ s. sent_on key i (learnt_on key n s)) t.subs (λ s _. on_either key i n s)
-    ∙ changed_twice (is_on key) (sent_on key i) (learnt_on key n) (λ s. on_learnt key n key s) t.subs)
+    let m = slice_index t.messages i in
+    ap (with_subs t) (sym (changed_twice (is_on key) (learnt_on key n) (sent_on key m i) (on_sent key m i) t.subs)
+    ∙ changed_alike (is_on key) (λ s. learnt_on key n (sent_on key m i s)) (λ s. sent_on key m i (learnt_on key n s)) t.subs (λ s _. on_either key m i n s)
+    ∙ changed_twice (is_on key) (sent_on key m i) (learnt_on key n) (λ s. on_learnt key n key s) t.subs)
 
 -- of who was attached before a message as much was seen behind it
-found_sent : (t : Subscriptions) (key : ConsumerKey) (i : ℕ) (s : Subscription) → find (is_on key) t.subs ≡ Some s → find (is_on key) (sent t key i).subs ≡ Some (sent_on key i s)
-found_sent t key i s is = found_changed (is_on key) (sent_on key i) (on_sent key i) t.subs s is
+found_sent : (t : Subscriptions) (key : ConsumerKey) (i : ℕ) (s : Subscription) → find (is_on key) t.subs ≡ Some s → find (is_on key) (sent t key i).subs ≡ Some (sent_on key (slice_index t.messages i) i s)
+found_sent t key i s is = let m = slice_index t.messages i in found_changed (is_on key) (sent_on key m i) (on_sent key m i) t.subs s is
 
 seen_sent : (t : Subscriptions) (key : ConsumerKey) (i : ℕ) (s : Subscription) (c : Consumer) → find (is_on key) t.subs ≡ Some s → find (is_consumer key) s.consumers ≡ Some c → seen_in (sent t key i) key ≡ seen_by c
 seen_sent t key i s c on one =
-    ap (seen_at key) (found_sent t key i s on) ∙ ap seen_of (found_changed (is_consumer key) (λ c. sent_one c) (λ _. refl) s.consumers c one)
+    ap (seen_at key) (found_sent t key i s on) ∙ ap seen_of (found_changed (is_consumer key) (sent_more (slice_index t.messages i)) (λ _. refl) s.consumers c one)
 
 -- where nothing was learnt behind a message, nothing was before it
 pub nothing_before : (t : Subscriptions) (key : ConsumerKey) (i : ℕ) (n : Seen) → has_consumer t key ≡ true → sent (learnt t key n) key i ≡ sent t key i → learnt t key n ≡ t

@@ -1,6 +1,7 @@
 -- What a consumer's permits learn, from the consumer to the subscriptions of a topic.
 use Rattle.std.proofs.Common.{◌≡◌, ◌⊎◌, inl, inr, ⊎_elim, ℕ, ◌+◌, ◌≤◌, ◌^◌, Bool, true, false, cond, nat_eq, max, MatchBool, Option, Some, None, List, [], ◌∷◌, get_or, set, refl, ap, sym, ◌∙◌, subst, arith}
 use Rattle.std.specs.List.{find, position}
+use Rattle.std.specs.Prelude.{slice_index}
 use Rattle.std.specs.Option.{option_map}
 use Rattle.holds.specs.declared.consumer.ConsumerKey.{ConsumerKey}
 use Rattle.subscriptions.specs.declared.hint.Hint.{Hint}
@@ -16,7 +17,7 @@ use Rattle.subscriptions.specs.declared.consumer.Mode.TheVariants.{Exclusive, Fa
 use Rattle.holds.specs.Backlog.{IsOpenAt}
 use Rattle.std.proofs.lemmas.Bool.{true≢false}
 use Rattle.std.proofs.lemmas.Bool.Decides.{nat_tests}
-use Rattle.subscriptions.specs.Steps.{AdmitsAt, AdmitsBy, is_first, IsLearnt, IsLooked, first_changed, is_consumer, is_on, learnt, learnt_on, learnt_to, has_permit, has_permit_at, sent, sent_on, sent_one}
+use Rattle.subscriptions.specs.Steps.{AdmitsAt, AdmitsBy, is_first, IsLearnt, IsLooked, first_changed, is_consumer, is_on, learnt, learnt_on, learnt_to, has_permit, has_permit_at, sent, sent_on, sent_more}
 use Rattle.subscriptions.proofs.Places.{changes, finds, stays}
 use Rattle.subscriptions.proofs.Sound.{any_changed}
 use Rattle.subscriptions.proofs.Limits.{limits_changed}
@@ -56,20 +57,20 @@ looked exact key known known' sent sent' looks looks' word word' old is s more b
       once = n.2;
     }
 
-raised : (b : Bool) (sent sent' : ℕ) (P : Type 0) → b ≡ true → MatchBool b (sent' ≡ sent + 1) P → sent' ≡ sent + 1
-raised true sent sent' P is said = said
-raised false sent sent' P is said = absurd (cc)
+raised : (b : Bool) (n sent sent' : ℕ) (P : Type 0) → b ≡ true → MatchBool b (sent' ≡ sent + n) P → sent' ≡ sent + n
+raised true n sent sent' P is said = said
+raised false n sent sent' P is said = absurd (cc)
 
-pub took : (exact : Type 0) (key : ConsumerKey) (known known' sent sent' looks looks' : ℕ) (word word' : Word) (old : Consumer) (b : Bool) (P : Type 0)
+pub took : (exact : Type 0) (key : ConsumerKey) (n known known' sent sent' looks looks' : ℕ) (word word' : Word) (old : Consumer) (b : Bool) (P : Type 0)
     → (let inside : Consumer = record { key = key; granted = known; sent = sent; word = word; looks = looks } in inside ≡ old)
-    → b ≡ true → MatchBool b (sent' ≡ sent + 1) P → known ≤ known' → known' ≤ 2 ^ 62 → word' ≡ word → exact ⊎ (looks' ≡ looks + 1) → (exact → looks' ≡ looks)
-    → (let new : Consumer = record { key = key; granted = known'; sent = sent'; word = word'; looks = looks' } in IsLearnt (λ n. learnt_to n (sent_one old)) new)
-took exact key known known' sent sent' looks looks' word word' old b P is answer s more bound same said none =
-    let n = looks_between exact looks looks' said none in record {
-      seen = record { granted = known'; looks = n.0 };
+    → b ≡ true → MatchBool b (sent' ≡ sent + n) P → known ≤ known' → known' ≤ 2 ^ 62 → word' ≡ word → exact ⊎ (looks' ≡ looks + 1) → (exact → looks' ≡ looks)
+    → (let new : Consumer = record { key = key; granted = known'; sent = sent'; word = word'; looks = looks' } in IsLearnt (λ seen. learnt_to seen (sent_more n old)) new)
+took exact key n known known' sent sent' looks looks' word word' old b P is answer s more bound same said none =
+    let between = looks_between exact looks looks' said none in record {
+      seen = record { granted = known'; looks = between.0 };
       bound = bound;
-      same = same_but_known key known known' (sent + 1) sent' looks looks' n.0 word word' (raised b sent sent' P answer s) more same n.1
-          ∙ ap (λ (c : Consumer). learnt_to (record { granted = known'; looks = n.0 }) (sent_one c)) is;
+      same = same_but_known key known known' (sent + n) sent' looks looks' between.0 word word' (raised b n sent sent' P answer s) more same between.1
+          ∙ ap (λ (c : Consumer). learnt_to (record { granted = known'; looks = between.0 }) (sent_more n c)) is;
     }
 
 -- ---- the first that passes a test
@@ -141,8 +142,8 @@ looked_within exact make f x l = record { learnt = learnt_within make f x l.lear
 nothing_on : (key : ConsumerKey) (s : Subscription) → s ≡ learnt_on key unseen s
 nothing_on key s = ap (λ (cs : List Consumer). let n : Subscription = record s { consumers = cs } in n) (nothing_changed (is_consumer key) (learnt_to unseen) nothing_to s.consumers)
 
-on_sent : (key : ConsumerKey) (p : ℕ) (s : Subscription) → is_on key (sent_on key p s) ≡ is_on key s
-on_sent key p s = any_changed (is_consumer key) (λ c. sent_one c) (is_consumer key) (λ _. refl) s.consumers
+on_sent : (key : ConsumerKey) (m p : ℕ) (s : Subscription) → is_on key (sent_on key m p s) ≡ is_on key s
+on_sent key m p s = any_changed (is_consumer key) (sent_more m) (is_consumer key) (λ _. refl) s.consumers
 
 module _ (t : Subscriptions) (key : ConsumerKey) where
   abbrev with_subs : List Subscription → Subscriptions
@@ -180,22 +181,23 @@ module _ (t : Subscriptions) (key : ConsumerKey) where
         notes_learnt t.subs notes notes' key n says kept.3,
       )
 
-  pub sends_at : (p i : ℕ) (s s' : Subscription) → position (is_on key) t.subs ≡ Some i → s ≡ get_or t.subs i s → IsLearnt (λ n. learnt_on key n (sent_on key p s)) s'
+  pub sends_at : (p i : ℕ) (s s' : Subscription) → position (is_on key) t.subs ≡ Some i → s ≡ get_or t.subs i s → IsLearnt (λ n. learnt_on key n (sent_on key (slice_index t.messages p) p s)) s'
       → IsLearnt (learnt (sent t key p) key) (with_subs (set t.subs i s'))
-  sends_at p i s s' at read l = learnt_within with_subs _ (set t.subs i s') (learnt_twice (is_on key) (learnt_on key) (sent_on key p) (on_sent key p) t.subs i s s' at read l)
+  sends_at p i s s' at read l = learnt_within with_subs _ (set t.subs i s') (learnt_twice (is_on key) (learnt_on key) (sent_on key (slice_index t.messages p) p) (on_sent key (slice_index t.messages p) p) t.subs i s s' at read l)
 
   pub kept_sent : (p i : ℕ) (s s' : Subscription) (hints : List (List Hint)) (places : List ((ℕ × ℕ) × ℕ)) (notes notes' : List (Option Note)) → ((q : ℕ) → noted q notes' ≡ cond (nat_eq q key.session) None (noted q notes))
-      → position (is_on key) t.subs ≡ Some i → s ≡ get_or t.subs i s → IsLearnt (λ n. learnt_on key n (sent_on key p s)) s'
+      → position (is_on key) t.subs ≡ Some i → s ≡ get_or t.subs i s → IsLearnt (λ n. learnt_on key n (sent_on key (slice_index t.messages p) p s)) s'
       → IsKeptWith hints places notes t.subs → IsKeptWith hints places notes' (set t.subs i s')
   unfolding learnt_twice
   kept_sent p i s s' hints places notes notes' says at read l kept =
       let after = sent t key p in
-      let both = learnt_twice (is_on key) (learnt_on key) (sent_on key p) (on_sent key p) t.subs i s s' at read l in
+      let m = slice_index t.messages p in
+      let both = learnt_twice (is_on key) (learnt_on key) (sent_on key m p) (on_sent key m p) t.subs i s s' at read l in
       subst (IsKeptWith hints places notes') (sym both.same) (
-        limits_changed after (is_on key) (learnt_on key l.seen) (λ _. refl) (limits_changed t (is_on key) (sent_on key p) (λ _. refl) kept.0),
+        limits_changed after (is_on key) (learnt_on key l.seen) (λ _. refl) (limits_changed t (is_on key) (sent_on key m p) (λ _. refl) kept.0),
         hints_learnt after key l.seen hints (hints_sent t key p hints kept.1),
-        places_learnt after.subs places key l.seen (places_sent t.subs places key p kept.2),
-        notes_learnt after.subs notes notes' key l.seen says (notes_sent t.subs notes key p kept.3),
+        places_learnt after.subs places key l.seen (places_sent t.subs places key m p kept.2),
+        notes_learnt after.subs notes notes' key l.seen says (notes_sent t.subs notes key m p kept.3),
       )
 
 -- ---- who is admitted stays so

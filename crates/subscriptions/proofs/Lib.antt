@@ -13,6 +13,7 @@ pub mod Kept
 pub mod Limits
 pub mod Found
 pub mod Durable
+pub mod Counts
 pub mod Told
 pub mod Lowered
 pub mod Noted

@@ -5,7 +5,7 @@ use Rattle.std.proofs.lemmas.Map.Keys.{IsDistinct-push, IsDistinct-head, IsDisti
 use Rattle.std.specs.List.{list_any, find, AllByRecursion, IsDistinct}
 use Rattle.std.specs.Cmp.Lexicographic.{nat_list_eq_equiv}
 use Rattle.std.specs.Str.{bytes_eq}
-use Rattle.std.specs.Prelude.{map as each}
+use Rattle.std.specs.Prelude.{map as each, slice_index}
 use Rattle.std.specs.Option.{option_map}
 use Rattle.std.specs.Ordering.{nat_cmp}
 use Rattle.std.specs.FinMap as map
@@ -20,11 +20,12 @@ use Rattle.subscriptions.specs.declared.consumer.Refusal.{Refusal}
 use Rattle.records.specs.declared.record.Record.{Record}
 use Rattle.records.specs.declared.record.Record.TheVariants.{Acknowledged}
 use Rattle.subscriptions.specs.State.{Subscription, Subscriptions}
-use Rattle.subscriptions.specs.Steps.{first_changed, first_standing, is_named, is_on, refuses_ranges, refusals_at, making_refusals, attach_refusals, attached_to, attached_at, made, granted_on, grants_too_many, is_past_on, learnt_on, HasLearntOn, acknowledged, acknowledgements, acked_on, acknowledged_through, acknowledgement_through, acked_through_on, first_removed, is_shared, unsubscribe_refusals, unsubscribed, removal, Admits, AdmitsAt, AdmitsOn, sent_on, left, left_on, freed, detached_on, is_asked_back, redelivered_on, settled, slotted, forgotten}
+use Rattle.subscriptions.specs.Steps.{first_changed, first_standing, is_named, is_on, refuses_ranges, refusals_at, making_refusals, attach_refusals, attached_to, attached_at, made, granted_on, grants_too_many, is_past_on, learnt_on, HasLearntOn, acknowledged, acknowledgements, acked_on, acknowledged_through, acknowledgement_through, acked_through_on, first_removed, is_shared, unsubscribe_refusals, unsubscribed, removal, Admits, AdmitsAt, AdmitsOn, sent_on, left, left_on, freed, detached_on, is_asked_back, redelivered_on, settled, marked, forgotten}
 use Rattle.subscriptions.specs.Soundness.{IsSoundSubscription, HasLimits, IsSound, IsCommittedOn, IsCommitted}
 use Rattle.subscriptions.specs.Laws.{StaysSound, DeliveriesAreCommitted, PickedIsOpen, IsOpenFor}
 use Rattle.subscriptions.proofs.Looking.{zip_all, limits_looked, sound_looked}
 use Rattle.subscriptions.proofs.Sound.{length_changed, all_changed, all_pushed, any_found, three_rows, sound_attached, sound_first, sound_granted, sound_learnt, sound_acked, sound_acked_through, sound_sent, sound_left, get_freed, opens_of, sound_detached, sound_redelivered}
+use Rattle.subscriptions.proofs.Counts.{few_at, counts_joined, counts_forgotten}
 use Rattle.subscriptions.proofs.Each.{none_changed}
 use Rattle.subscriptions.proofs.Kept.{names, turned}
 use Rattle.subscriptions.proofs.Durable.{opened_sound, opened_committed}
@@ -65,8 +66,8 @@ limits_left t who l = record {
 pub limits_settled : (t : Subscriptions) (count : ℕ) → HasLimits t → HasLimits (settled t count)
 limits_settled t count l = record { names = l.names; subscriptions = l.subscriptions; changes = omega (arith, length-drop count t.changes, l.changes) }
 
-pub limits_slotted : (t : Subscriptions) (slots : List ℕ) → HasLimits t → HasLimits (slotted t slots)
-limits_slotted t slots l = record { names = l.names; subscriptions = l.subscriptions; changes = l.changes }
+pub limits_marked : (t : Subscriptions) (slots messages : List ℕ) → HasLimits t → HasLimits (marked t slots messages)
+limits_marked t slots messages l = record { names = l.names; subscriptions = l.subscriptions; changes = l.changes }
 
 pub limits_forgotten : (t : Subscriptions) (position : ℕ) → HasLimits t → HasLimits (forgotten t position)
 limits_forgotten t position l = record { names = l.names; subscriptions = l.subscriptions; changes = l.changes }
@@ -168,11 +169,13 @@ sound_attach t name mode seat word start None none allowed sound = record {
   limits = limits_made t name mode seat word start none allowed sound.limits;
   each_one = all_pushed IsSoundSubscription t.subs (attached_to mode seat word (made name mode start)) sound.each_one
       (sound_first name mode seat word start (making_rows t mode seat word allowed).1);
+  messages = sound.messages;
 }
 sound_attach t name mode seat word start (Some s) found allowed sound = record {
   limits = limits_changed t (is_named name) (attached_to mode seat word) (λ _. refl) sound.limits;
   each_one = all_changed (is_named name) (attached_to mode seat word) IsSoundSubscription t.subs
       (λ x is ok. sound_attached mode seat word x (let same : x ≡ s = cc in ap (λ (y : Subscription). first_standing (attach_refusals mode seat.ranges y)) same ∙ allowed) ok) sound.each_one;
+  messages = sound.messages;
 }
 
 granted_at : (key : ConsumerKey) (permits : ℕ) (t : Subscriptions) (x : Subscription) → find (is_on key) t.subs ≡ Some x → grants_too_many t key permits ≡ false → is_past_on key permits (Some x) ≡ false
@@ -185,8 +188,8 @@ admitted_at key committed i t x is a = subst (λ (o : Option Subscription). Admi
 open_for : (key : ConsumerKey) (slots : List ℕ) (committed i : ℕ) (s : Subscription) → AdmitsOn s key slots committed i → IsOpenAt committed s.acked s.deliveries i
 open_for key slots committed i s a = opens_of s.mode key s slots (IsOpenAt committed s.acked s.deliveries) i a.served
 
-sent_sound : (key : ConsumerKey) (slots : List ℕ) (committed i : ℕ) (s : Subscription) → AdmitsOn s key slots committed i → IsSoundSubscription s → IsSoundSubscription (sent_on key i s)
-sent_sound key slots committed i s a sound = sound_sent key committed i s a.permit (open_for key slots committed i s a) sound
+sent_sound : (key : ConsumerKey) (slots : List ℕ) (committed n i : ℕ) (s : Subscription) → n ≤ 1048576 → AdmitsOn s key slots committed i → IsSoundSubscription s → IsSoundSubscription (sent_on key n i s)
+sent_sound key slots committed n i s few a sound = sound_sent key committed n i s few a.permit (open_for key slots committed i s a) sound
 
 no_names : IsDistinct bytes_eq []
 unfolding IsDistinct
@@ -195,48 +198,57 @@ no_names = tt
 pub each_sound : StaysSound
 each_sound = record {
   opened = opened_sound;
-  made = record { limits = record { names = no_names; subscriptions = omega arith; changes = omega arith }; each_one = tt };
+  made = record { limits = record { names = no_names; subscriptions = omega arith; changes = omega arith }; each_one = tt; messages = tt };
   attach = λ t name mode seat word start allowed sound. sound_attach t name mode seat word start (find (is_named name) t.subs) refl allowed sound;
   grant = λ t key permits within sound. record {
     limits = limits_changed t (is_on key) (granted_on key permits) (λ _. refl) sound.limits;
     each_one = all_changed (is_on key) (granted_on key permits) IsSoundSubscription t.subs (λ x is ok. sound_granted key permits x (granted_at key permits t x is within) ok) sound.each_one;
+    messages = sound.messages;
   };
   learn = λ t key n within sound. record {
     limits = limits_changed t (is_on key) (learnt_on key n) (λ _. refl) sound.limits;
     each_one = all_changed (is_on key) (learnt_on key n) IsSoundSubscription t.subs (λ x is ok. sound_learnt key n x (within (any_found (is_on key) t.subs x is)) ok) sound.each_one;
+    messages = sound.messages;
   };
   look = λ t new who h sound. subst IsSound (sym h.same) (record {
     limits = limits_looked who t new.subs h.subs sound.limits;
     each_one = zip_all (HasLearntOn who) IsSoundSubscription IsSoundSubscription (sound_looked who) t.subs new.subs h.subs sound.each_one;
+    messages = sound.messages;
   });
   acknowledge = λ t key ps room sound. record {
     limits = limits_acknowledged t key ps room sound.limits;
     each_one = all_changed (is_on key) (acked_on ps) IsSoundSubscription t.subs (λ x is ok. sound_acked ps x ok) sound.each_one;
+    messages = sound.messages;
   };
   acknowledge_through = λ t key p room sound. record {
     limits = limits_through t key p room sound.limits;
     each_one = all_changed (is_on key) (acked_through_on p) IsSoundSubscription t.subs (λ x is ok. sound_acked_through p x ok) sound.each_one;
+    messages = sound.messages;
   };
   unsubscribe = λ t key allowed sound. record {
     limits = limits_unsubscribed t key allowed sound.limits;
     each_one = all_removed (is_on key) IsSoundSubscription t.subs sound.each_one;
+    messages = sound.messages;
   };
   send = λ t key committed i a sound. record {
-    limits = limits_changed t (is_on key) (sent_on key i) (λ _. refl) sound.limits;
-    each_one = all_changed (is_on key) (sent_on key i) IsSoundSubscription t.subs (λ x is ok. sent_sound key t.slots committed i x (admitted_at key committed i t x is a) ok) sound.each_one;
+    limits = limits_changed t (is_on key) (sent_on key (slice_index t.messages i) i) (λ _. refl) sound.limits;
+    each_one = all_changed (is_on key) (sent_on key (slice_index t.messages i) i) IsSoundSubscription t.subs (λ x is ok. sent_sound key t.slots committed (slice_index t.messages i) i x (few_at t.messages i sound.messages) (admitted_at key committed i t x is a) ok) sound.each_one;
+    messages = sound.messages;
   };
-  leave = λ t who sound. record { limits = limits_left t who sound.limits; each_one = all_each (left_on who) (sound_left who) t.subs sound.each_one };
+  leave = λ t who sound. record { limits = limits_left t who sound.limits; each_one = all_each (left_on who) (sound_left who) t.subs sound.each_one; messages = sound.messages };
   detach = λ t key sound. record {
     limits = limits_changed t (is_on key) (detached_on key) (λ _. refl) sound.limits;
     each_one = all_changed (is_on key) (detached_on key) IsSoundSubscription t.subs (λ x is ok. sound_detached key x ok) sound.each_one;
+    messages = sound.messages;
   };
   redeliver = λ t key asked sound. record {
     limits = limits_changed t (is_on key) (redelivered_on key asked) (λ _. refl) sound.limits;
     each_one = all_changed (is_on key) (redelivered_on key asked) IsSoundSubscription t.subs (λ x is ok. sound_redelivered key asked x ok) sound.each_one;
+    messages = sound.messages;
   };
-  settle = λ t count sound. record { limits = limits_settled t count sound.limits; each_one = sound.each_one };
-  slot = λ t slots sound. record { limits = limits_slotted t slots sound.limits; each_one = sound.each_one };
-  forget = λ t position sound. record { limits = limits_forgotten t position sound.limits; each_one = sound.each_one };
+  settle = λ t count sound. record { limits = limits_settled t count sound.limits; each_one = sound.each_one; messages = sound.messages };
+  mark = λ t slots messages counts sound. record { limits = limits_marked t slots messages sound.limits; each_one = sound.each_one; messages = counts_joined t.messages messages sound.messages counts };
+  forget = λ t position sound. record { limits = limits_forgotten t position sound.limits; each_one = sound.each_one; messages = counts_forgotten position t.messages sound.messages };
 }
 
 -- ---- deliveries are of committed positions
@@ -251,8 +263,8 @@ either_none false x h = h
 not_here : {X : Type 0} (b : Bool) (v x : Option X) → b ≡ false → x ≡ None → cond b v x ≡ None
 not_here b v x e none = ap (λ c. cond c v x) e ∙ none
 
-committed_sent : (committed i : ℕ) (key : ConsumerKey) (slots : List ℕ) (s : Subscription) → AdmitsOn s key slots committed i → IsCommittedOn committed s → IsCommittedOn committed (sent_on key i s)
-committed_sent committed i key slots s a c j h =
+committed_sent : (committed n i : ℕ) (key : ConsumerKey) (slots : List ℕ) (s : Subscription) → AdmitsOn s key slots committed i → IsCommittedOn committed s → IsCommittedOn committed (sent_on key n i s)
+committed_sent committed n i key slots s a c j h =
     get_inserted s.deliveries i (sent_to key (map.get s.deliveries i)) j
     ∙ not_here (nat_eq j i) (Some (sent_to key (map.get s.deliveries i))) (map.get s.deliveries j) (differs j i committed h (open_for key slots committed i s a).is_committed) (c j h)
 
@@ -286,13 +298,13 @@ each_committed = record {
   acknowledge = λ committed t key ps all. all_changed (is_on key) (acked_on ps) (IsCommittedOn committed) t.subs (λ x is c. committed_acked committed ps x c) all;
   acknowledge_through = λ committed t key p all. all_changed (is_on key) (acked_through_on p) (IsCommittedOn committed) t.subs (λ x is c. committed_through committed p x c) all;
   unsubscribe = λ committed t key all. all_removed (is_on key) (IsCommittedOn committed) t.subs all;
-  send = λ committed t key i a all. all_changed (is_on key) (sent_on key i) (IsCommittedOn committed) t.subs (λ x is c. committed_sent committed i key t.slots x (admitted_at key committed i t x is a) c) all;
+  send = λ committed t key i a all. all_changed (is_on key) (sent_on key (slice_index t.messages i) i) (IsCommittedOn committed) t.subs (λ x is c. committed_sent committed (slice_index t.messages i) i key t.slots x (admitted_at key committed i t x is a) c) all;
   leave = λ committed t who all. each_left committed who t.subs all;
   detach = λ committed t key all. all_changed (is_on key) (detached_on key) (IsCommittedOn committed) t.subs (λ x is c j h. none_changed (λ i d. given_back key d) x.deliveries j (c j h)) all;
   redeliver = λ committed t key asked all. all_changed (is_on key) (redelivered_on key asked) (IsCommittedOn committed) t.subs
       (λ x is c j h. none_changed (λ i d. cond (is_asked_back x.mode asked i) (given_back key d) d) x.deliveries j (c j h)) all;
   settle = λ committed t count all. all;
-  slot = λ committed t slots all. all;
+  mark = λ committed t slots messages all. all;
   forget = λ committed t position all. all;
 }
 
@@ -300,8 +312,16 @@ picked_at : (o : Option Subscription) (key : ConsumerKey) (slots : List ℕ) (co
 picked_at None key slots committed i a = a
 picked_at (Some s) key slots committed i a = open_for key slots committed i s a
 
+low_at : (o : Option Subscription) (key : ConsumerKey) (slots : List ℕ) (committed i : ℕ) → AdmitsAt o key slots committed i → i < committed
+low_at None key slots committed i a = absurd a
+low_at (Some s) key slots committed i a = (open_for key slots committed i s a).is_committed
+
+-- who is admitted is to a committed position
+pub admitted_low : (t : Subscriptions) (key : ConsumerKey) (committed i : ℕ) → Admits t key committed i → i < committed
+admitted_low t key committed i a = low_at (find (is_on key) t.subs) key t.slots committed i a
+
 pub picked : PickedIsOpen
 picked t key committed i a = picked_at (find (is_on key) t.subs) key t.slots committed i a
 
-pub limits_none : (subs : List Subscription) (changes : List Record) (slots : List ℕ) → subs ≡ [] → changes ≡ [] → HasLimits (record { subs = subs; changes = changes; slots = slots })
-limits_none subs changes slots first second = rw (first, second) (record { names = no_names; subscriptions = omega arith; changes = omega arith })
+pub limits_none : (subs : List Subscription) (changes : List Record) (slots messages : List ℕ) → subs ≡ [] → changes ≡ [] → HasLimits (record { subs = subs; changes = changes; slots = slots; messages = messages })
+limits_none subs changes slots messages first second = rw (first, second) (record { names = no_names; subscriptions = omega arith; changes = omega arith })

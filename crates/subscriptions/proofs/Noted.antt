@@ -11,7 +11,7 @@ use Rattle.subscriptions.specs.declared.consumer.Mode.{Mode}
 use Rattle.subscriptions.specs.declared.quiet.Note.{Note}
 use Rattle.subscriptions.specs.Quiet.{has_permit_of, has_permits, IsQuietOn, IsQuiet, no_notes, noted_in, noted, AreQuiet}
 use Rattle.subscriptions.specs.State.{Consumer, Subscription, Subscriptions}
-use Rattle.subscriptions.specs.Steps.{first_changed, is_on, is_named, is_consumer, has_permit, granted_on, granted_to, learnt_on, learnt_to, acked_on, acked_through_on, sent_on, sent_one, attached_to, made, Admits, AdmitsAt}
+use Rattle.subscriptions.specs.Steps.{first_changed, is_on, is_named, is_consumer, has_permit, granted_on, granted_to, learnt_on, learnt_to, acked_on, acked_through_on, sent_on, sent_more, attached_to, made, Admits, AdmitsAt}
 use Rattle.subscriptions.proofs.Passed.{FreesNone, grants, learns, acks, acks_through, sends}
 use Rattle.subscriptions.proofs.Sound.{all_changed, all_pushed, opens_of}
 use Rattle.permits.specs.Ends.{Seen, Word}
@@ -31,9 +31,9 @@ any_before q test f to (x ∷ xs) h = elim (test x) as (λ b. test x ≡ b → l
   | false ↦ λ _. either (q x) (q x) (list_any q (first_changed test f xs)) (list_any q xs) (λ k. k) (any_before q test f to xs)
 ] refl h
 
-fewer : (a : Bool) (sent granted : ℕ) → (a && nat_lt (sent + 1) granted) ≡ true → (a && nat_lt sent granted) ≡ true
-fewer true sent granted h = grind (arith, nat_tests)
-fewer false sent granted h = h
+fewer : (a : Bool) (sent granted n : ℕ) → (a && nat_lt (sent + n) granted) ≡ true → (a && nat_lt sent granted) ≡ true
+fewer true sent granted n h = grind (arith, nat_tests)
+fewer false sent granted n h = h
 
 other_session : (c k : ConsumerKey) (who : ℕ) → same_key c k ≡ true → nat_eq who k.session ≡ false → nat_eq c.session who ≡ false
 other_session c k who same other = grind (arith, nat_tests)
@@ -91,9 +91,9 @@ notes_acknowledged subs notes key ps are = notes_changed (is_on key) (acked_on p
 pub notes_through : (subs : List Subscription) (notes : List (Option Note)) (key : ConsumerKey) (p : ℕ) → AreQuiet subs notes → AreQuiet (first_changed (is_on key) (acked_through_on p) subs) notes
 notes_through subs notes key p are = notes_changed (is_on key) (acked_through_on p) (λ who. leaves who (acked_through_on p) (acks_through p) (λ _ h. h)) subs notes are
 
-pub notes_sent : (subs : List Subscription) (notes : List (Option Note)) (key : ConsumerKey) (i : ℕ) → AreQuiet subs notes → AreQuiet (first_changed (is_on key) (sent_on key i) subs) notes
-notes_sent subs notes key i are = notes_changed (is_on key) (sent_on key i)
-    (λ who. leaves who (sent_on key i) (sends key i) (λ s. any_before (λ c. nat_eq c.key.session who && nat_lt c.sent c.granted) (is_consumer key) (λ c. sent_one c) (λ c _. fewer (nat_eq c.key.session who) c.sent c.granted) s.consumers))
+pub notes_sent : (subs : List Subscription) (notes : List (Option Note)) (key : ConsumerKey) (n i : ℕ) → AreQuiet subs notes → AreQuiet (first_changed (is_on key) (sent_on key n i) subs) notes
+notes_sent subs notes key n i are = notes_changed (is_on key) (sent_on key n i)
+    (λ who. leaves who (sent_on key n i) (sends key n i) (λ s. any_before (λ c. nat_eq c.key.session who && nat_lt c.sent c.granted) (is_consumer key) (sent_more n) (λ c _. fewer (nat_eq c.key.session who) c.sent c.granted n) s.consumers))
     subs notes are
 
 -- a consumer is attached, without permits

@@ -10,7 +10,7 @@ use Rattle.holds.specs.Deliveries.{same_key}
 use Rattle.holds.specs.declared.consumer.ConsumerKey.{ConsumerKey}
 use Rattle.subscriptions.specs.State.{Consumer}
 use Rattle.subscriptions.specs.Directory.{place_in, ArePlacesAmong, earliest, put_in_place, place_before, numbered}
-use Rattle.subscriptions.specs.Steps.{first_changed, is_consumer, granted_to, learnt_to, sent_one}
+use Rattle.subscriptions.specs.Steps.{first_changed, is_consumer, granted_to, learnt_to, sent_more}
 use Rattle.subscriptions.proofs.Passed.{key_is}
 use Rattle.permits.specs.Ends.{Seen}
 use Rattle.subscriptions.proofs.Standing.{behind, step, any_place, same_place, beside_place, pushed_place, any_left, none_left, apart, of_session, of_another, by_key, put_some}
@@ -151,8 +151,8 @@ places_granted_to cs places key permits are = record { found = λ k. are.found k
 pub places_learnt_to : (cs : List Consumer) (places : Places) (key : ConsumerKey) (n : Seen) → ArePlacesAmong cs places → ArePlacesAmong (first_changed (is_consumer key) (learnt_to n) cs) places
 places_learnt_to cs places key n are = record { found = λ k. are.found k ∙ sym (same_place (is_consumer k) (is_consumer key) (learnt_to n) (λ _. refl) cs) }
 
-pub places_taken : (cs : List Consumer) (places : Places) (key : ConsumerKey) → ArePlacesAmong cs places → ArePlacesAmong (first_changed (is_consumer key) (λ c. sent_one c) cs) places
-places_taken cs places key are = record { found = λ k. are.found k ∙ sym (same_place (is_consumer k) (is_consumer key) (λ c. sent_one c) (λ _. refl) cs) }
+pub places_taken : (cs : List Consumer) (places : Places) (key : ConsumerKey) (n : ℕ) → ArePlacesAmong cs places → ArePlacesAmong (first_changed (is_consumer key) (sent_more n) cs) places
+places_taken cs places key n are = record { found = λ k. are.found k ∙ sym (same_place (is_consumer k) (is_consumer key) (sent_more n) (λ _. refl) cs) }
 
 -- nobody is there
 pub nobody_placed : (places : Places) → places ≡ [] → ArePlacesAmong [] places

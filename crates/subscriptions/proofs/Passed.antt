@@ -20,7 +20,7 @@ use Rattle.subscriptions.specs.declared.hint.Hint.{Hint}
 use Rattle.subscriptions.specs.Hints.{IsPassed, IsHint, AreHintsOn, AreHintsOf, AreHints, hinted, is_hint_of}
 use Rattle.records.specs.declared.record.Record.{Record}
 use Rattle.subscriptions.specs.State.{Subscription, Subscriptions}
-use Rattle.subscriptions.specs.Steps.{first_changed, is_on, granted, granted_on, learnt, learnt_on, acknowledged, acked_on, acknowledged_through, acked_through_on, sent, sent_on, slotted, attached_to, AdmitsBy, IsLeastIn, is_key_shared}
+use Rattle.subscriptions.specs.Steps.{first_changed, is_on, granted, granted_on, learnt, learnt_on, acknowledged, acked_on, acknowledged_through, acked_through_on, sent, sent_on, marked, attached_to, AdmitsBy, IsLeastIn, is_key_shared}
 use Rattle.subscriptions.proofs.Sound.{all_kept, all_pushed}
 use Rattle.subscriptions.proofs.Settled.{is_in, has_joined, get_forgotten, has_through, get_forgotten_below}
 use Rattle.permits.specs.Ends.{Seen, Word}
@@ -194,8 +194,8 @@ hints_longer slots more (s ∷ subs) (h ∷ hints) all = (
   hints_longer slots more subs hints all.1,
 )
 
-pub hints_slotted : (t : Subscriptions) (more : List ℕ) (hints : List (List Hint)) → AreHints t hints → AreHints (slotted t more) hints
-hints_slotted t more hints all = are_hints (slotted t more) hints (hints_longer t.slots more t.subs hints all.each_one)
+pub hints_marked : (t : Subscriptions) (more messages : List ℕ) (hints : List (List Hint)) → AreHints t hints → AreHints (marked t more messages) hints
+hints_marked t more messages hints all = are_hints (marked t more messages) hints (hints_longer t.slots more t.subs hints all.each_one)
 
 -- ---- the calls that free no position
 
@@ -256,15 +256,15 @@ free_before : (b : Bool) (key : ConsumerKey) (before x y : Option Delivery) → 
 free_before true key before x y is free = let taken : Some key ≡ None = sym (ap (λ o. holder_in o) is) ∙ free in absurd (cc)
 free_before false key before x y is free = sym (ap (λ o. holder_in o) is) ∙ free
 
-pub sends : (key : ConsumerKey) (p : ℕ) → FreesNone (sent_on key p)
-sends key p = record {
+pub sends : (key : ConsumerKey) (n p : ℕ) → FreesNone (sent_on key n p)
+sends key n p = record {
   seats = λ _. refl;
   opens = λ s i lacks free. (lacks, free_before (nat_eq i p) key (map.get s.deliveries p) (map.get s.deliveries i) _ (get_inserted s.deliveries p (sent_to key (map.get s.deliveries p)) i) free);
 }
 
 pub hints_sent : (t : Subscriptions) (key : ConsumerKey) (p : ℕ) (hints : List (List Hint)) → AreHints t hints → AreHints (sent t key p) hints
 hints_sent t key p hints all =
-    are_hints (sent t key p) hints (hints_changed t.slots (is_on key) (sent_on key p) (sends key p) t.subs hints all.each_one)
+    are_hints (sent t key p) hints (hints_changed t.slots (is_on key) (sent_on key (slice_index t.messages p) p) (sends key (slice_index t.messages p) p) t.subs hints all.each_one)
 
 -- ---- a hint is noted
 
@@ -372,16 +372,16 @@ hints_noted t hints i s h h' are low is its to =
 
 -- a subscription is made
 pub hints_made : (t : Subscriptions) (hints : List (List Hint)) (s : Subscription) (h : List Hint) (changes : List Record) → AreHints t hints → h ≡ []
-    → AreHints (record { subs = t.subs ++ s ∷ []; changes = changes; slots = t.slots }) (hints ++ h ∷ [])
+    → AreHints (record { subs = t.subs ++ s ∷ []; changes = changes; slots = t.slots; messages = t.messages }) (hints ++ h ∷ [])
 hints_made t hints s h changes are none =
-    subst (λ (x : List Hint). AreHints (record { subs = t.subs ++ s ∷ []; changes = changes; slots = t.slots }) (hints ++ x ∷ [])) (sym none)
-    (are_hints (record { subs = t.subs ++ s ∷ []; changes = changes; slots = t.slots }) (hints ++ [] ∷ []) (hints_pushed t.slots t.subs hints s are.each_one))
+    subst (λ (x : List Hint). AreHints (record { subs = t.subs ++ s ∷ []; changes = changes; slots = t.slots; messages = t.messages }) (hints ++ x ∷ [])) (sym none)
+    (are_hints (record { subs = t.subs ++ s ∷ []; changes = changes; slots = t.slots; messages = t.messages }) (hints ++ [] ∷ []) (hints_pushed t.slots t.subs hints s are.each_one))
 
 -- a subscription goes
 pub hints_gone : (t : Subscriptions) (hints : List (List Hint)) (i : ℕ) (changes : List Record) → AreHints t hints
-    → AreHints (record { subs = remove t.subs i; changes = changes; slots = t.slots }) (remove hints i)
+    → AreHints (record { subs = remove t.subs i; changes = changes; slots = t.slots; messages = t.messages }) (remove hints i)
 hints_gone t hints i changes are =
-    are_hints (record { subs = remove t.subs i; changes = changes; slots = t.slots }) (remove hints i) (hints_removed t.slots t.subs hints i are.each_one)
+    are_hints (record { subs = remove t.subs i; changes = changes; slots = t.slots; messages = t.messages }) (remove hints i) (hints_removed t.slots t.subs hints i are.each_one)
 
 -- none is known so far
 pub hints_opened : (t : Subscriptions) (hints : List (List Hint)) → length hints ≡ length t.subs → AllByRecursion (λ h. h ≡ []) hints → AreHints t hints

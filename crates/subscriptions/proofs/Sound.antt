@@ -27,8 +27,9 @@ use Rattle.holds.specs.declared.consumer.Refusal.TheVariants.{TooManyConsumers, 
 use Rattle.subscriptions.specs.State.{Subscription}
 use Rattle.subscriptions.specs.Freeing.{is_among, freed_among}
 use Rattle.subscriptions.specs.Dispatching.{keys}
-use Rattle.subscriptions.specs.Steps.{first_changed, first_standing, is_consumer, is_on, has_some, is_exclusive, same_mode, refuses_ranges, attach_refusals, attached_to, made, opened_one, granted_to, granted_on, is_past, learnt_to, learnt_on, acked_on, acked_through_on, has_permit, IsLeastIn, AdmitsBy, sent_one, sent_on, is_of, freed, freed_by, left_on, detached_on, is_asked_back, redelivered_on}
+use Rattle.subscriptions.specs.Steps.{first_changed, first_standing, is_consumer, is_on, has_some, is_exclusive, same_mode, refuses_ranges, attach_refusals, attached_to, made, opened_one, granted_to, granted_on, is_past, learnt_to, learnt_on, acked_on, acked_through_on, has_permit, IsLeastIn, AdmitsBy, sent_more, sent_on, is_of, freed, freed_by, left_on, detached_on, is_asked_back, redelivered_on}
 use Rattle.subscriptions.specs.Soundness.{IsWithinPermits, IsSoundSubscription}
+use Rattle.subscriptions.proofs.Counts.{sends_within}
 use Rattle.subscriptions.proofs.Lists.{keys_pushed, keys_kept, keys_changed, keys_length}
 use Rattle.subscriptions.proofs.Each.{get_each, apart_changed}
 use Rattle.subscriptions.proofs.Settled.{is_in, get_forgotten, get_forgotten_below, apart_acked, apart_through, apart_empty, apart_sent, given_back_apart}
@@ -310,17 +311,17 @@ opens_of KeyShared key s slots Opens i a = opens_in (attached key s.seats) a
     opens_in None h = absurd h
     opens_in (Some seat) h = h.0.0
 
-pub sound_sent : (key : ConsumerKey) (committed i : ℕ) (s : Subscription) → has_permit (find (is_consumer key) s.consumers) ≡ true → IsOpenAt committed s.acked s.deliveries i → IsSoundSubscription s → IsSoundSubscription (sent_on key i s)
-sound_sent key committed i s permit at sound = record {
+pub sound_sent : (key : ConsumerKey) (committed n i : ℕ) (s : Subscription) → n ≤ 1048576 → has_permit (find (is_consumer key) s.consumers) ≡ true → IsOpenAt committed s.acked s.deliveries i → IsSoundSubscription s → IsSoundSubscription (sent_on key n i s)
+sound_sent key committed n i s few permit at sound = record {
   few = rw length_changed sound.few;
   single = λ is. rw length_changed (sound.single is);
-  permits = all_changed (is_consumer key) (λ c. sent_one c) IsWithinPermits s.consumers
-      (λ c found p. record { sent = permit_of c (ap has_permit (sym found) ∙ permit); granted = p.granted })
+  permits = all_changed (is_consumer key) (sent_more n) IsWithinPermits s.consumers
+      (λ c found p. record { sent = sends_within c.sent c.granted n few (permit_of c (ap has_permit (sym found) ∙ permit)); granted = p.granted })
       sound.permits;
-  seated = seated_changed (is_consumer key) (λ c. sent_one c) (λ _. refl) s.seats s.consumers sound.seated;
+  seated = seated_changed (is_consumer key) (sent_more n) (λ _. refl) s.seats s.consumers sound.seated;
   ranges_apart = sound.ranges_apart;
   unacknowledged = apart_sent s.acked s.deliveries i (sent_to key (map.get s.deliveries i)) at.is_unacked sound.unacknowledged;
-  held = λ j k h. any_changed (is_consumer key) (λ c. sent_one c) (is_consumer k) (λ _. refl) s.consumers
+  held = λ j k h. any_changed (is_consumer key) (sent_more n) (is_consumer k) (λ _. refl) s.consumers
       ∙ sent_holder (nat_eq j i) key (map.get s.deliveries i) (map.get s.deliveries j) k s (on_of key s permit) (sound.held j k)
       (ap holder_in (sym (get_inserted s.deliveries i (sent_to key (map.get s.deliveries i)) j)) ∙ h);
 }

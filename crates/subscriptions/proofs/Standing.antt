@@ -19,7 +19,7 @@ use Rattle.subscriptions.specs.declared.consumer.Mode.{Mode}
 use Rattle.subscriptions.specs.declared.consumer.Refusal.TheVariants.{ConsumerBusy, TooManyRequests}
 use Rattle.subscriptions.specs.State.{Consumer, Subscription, Subscriptions}
 use Rattle.subscriptions.specs.Directory.{pair_cmp, place_in, ArePlaces, earliest, moved_up, put_in_place}
-use Rattle.subscriptions.specs.Steps.{first_changed, is_consumer, is_on, is_named, is_shared, opened_one, granted_to, granted_on, learnt_to, learnt_on, sent_one, sent_on, acked_on, acked_through_on, redelivered_on, attached_to, made, detached_on, left_on, first_standing, unsubscribe_refusals}
+use Rattle.subscriptions.specs.Steps.{first_changed, is_consumer, is_on, is_named, is_shared, opened_one, granted_to, granted_on, learnt_to, learnt_on, sent_more, sent_on, acked_on, acked_through_on, redelivered_on, attached_to, made, detached_on, left_on, first_standing, unsubscribe_refusals}
 use Rattle.subscriptions.proofs.Sound.{any_changed}
 use Rattle.subscriptions.proofs.Passed.{key_is}
 use Rattle.subscriptions.proofs.Places.{is_place, finds}
@@ -266,8 +266,8 @@ on_granted key permits k s = any_changed (is_consumer key) (granted_to permits) 
 pub on_learnt : (key : ConsumerKey) (n : Seen) (k : ConsumerKey) (s : Subscription) → is_on k (learnt_on key n s) ≡ is_on k s
 on_learnt key n k s = any_changed (is_consumer key) (learnt_to n) (is_consumer k) (λ _. refl) s.consumers
 
-on_sent : (key : ConsumerKey) (i : ℕ) (k : ConsumerKey) (s : Subscription) → is_on k (sent_on key i s) ≡ is_on k s
-on_sent key i k s = any_changed (is_consumer key) (λ c. sent_one c) (is_consumer k) (λ _. refl) s.consumers
+on_sent : (key : ConsumerKey) (n i : ℕ) (k : ConsumerKey) (s : Subscription) → is_on k (sent_on key n i s) ≡ is_on k s
+on_sent key n i k s = any_changed (is_consumer key) (sent_more n) (is_consumer k) (λ _. refl) s.consumers
 
 on_detached : (key k : ConsumerKey) → same_key key k ≡ false → (s : Subscription) → is_on k (detached_on key s) ≡ is_on k s
 on_detached key k other s = any_left (is_consumer k) (λ c. not (is_consumer key c)) (apart key k other) s.consumers
@@ -306,8 +306,8 @@ places_granted subs places key permits are = places_kept subs places (is_on key)
 pub places_learnt : (subs : List Subscription) (places : List ((ℕ × ℕ) × ℕ)) (key : ConsumerKey) (n : Seen) → ArePlaces subs places → ArePlaces (first_changed (is_on key) (learnt_on key n) subs) places
 places_learnt subs places key n are = places_kept subs places (is_on key) (learnt_on key n) (on_learnt key n) are
 
-pub places_sent : (subs : List Subscription) (places : List ((ℕ × ℕ) × ℕ)) (key : ConsumerKey) (i : ℕ) → ArePlaces subs places → ArePlaces (first_changed (is_on key) (sent_on key i) subs) places
-places_sent subs places key i are = places_kept subs places (is_on key) (sent_on key i) (on_sent key i) are
+pub places_sent : (subs : List Subscription) (places : List ((ℕ × ℕ) × ℕ)) (key : ConsumerKey) (n i : ℕ) → ArePlaces subs places → ArePlaces (first_changed (is_on key) (sent_on key n i) subs) places
+places_sent subs places key n i are = places_kept subs places (is_on key) (sent_on key n i) (on_sent key n i) are
 
 pub places_acked : (subs : List Subscription) (places : List ((ℕ × ℕ) × ℕ)) (key : ConsumerKey) (positions : List ℕ) → ArePlaces subs places → ArePlaces (first_changed (is_on key) (acked_on positions) subs) places
 places_acked subs places key positions are = places_kept subs places (is_on key) (acked_on positions) (λ _ _. refl) are

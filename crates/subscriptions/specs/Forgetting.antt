@@ -9,7 +9,7 @@ use Rattle.holds.specs.declared.consumer.Consumer.{Consumer as Seat}
 use Rattle.holds.specs.declared.consumer.SlotRange.{SlotRange}
 use Rattle.subscriptions.specs.declared.consumer.Mode.{Mode}
 use Rattle.subscriptions.specs.State.{Subscription, Subscriptions}
-use Rattle.subscriptions.specs.Steps.{subscribe_refusals, attached, granted, grants_too_many, learnt, HasLearnt, acknowledged, acknowledged_through, unsubscribe_refusals, unsubscribed, sent, sent_before, left, detached, redelivered, settled, slotted, forgotten, Admits}
+use Rattle.subscriptions.specs.Steps.{subscribe_refusals, attached, granted, grants_too_many, learnt, HasLearnt, acknowledged, acknowledged_through, unsubscribe_refusals, unsubscribed, sent, sent_before, left, detached, redelivered, settled, marked, forgotten, Admits}
 use Rattle.permits.specs.Ends.{Seen, Word}
 
 -- the deliveries of the positions that aren't acknowledged
@@ -47,7 +47,7 @@ pub record GoesOnTheSame (t : Subscriptions) : Type 0 where
   pub detach : (key : ConsumerKey) → forgetful (detached (forgetful t) key) ≡ forgetful (detached t key)
   pub redeliver : (key : ConsumerKey) (asked : Option (List ℕ)) → forgetful (redelivered (forgetful t) key asked) ≡ forgetful (redelivered t key asked)
   pub settle : (count : ℕ) → forgetful (settled (forgetful t) count) ≡ forgetful (settled t count)
-  pub slot : (slots : List ℕ) → forgetful (slotted (forgetful t) slots) ≡ forgetful (slotted t slots)
+  pub mark : (slots messages : List ℕ) → forgetful (marked (forgetful t) slots messages) ≡ forgetful (marked t slots messages)
   pub forget : (position : ℕ) → forgetful (forgotten (forgetful t) position) ≡ forgetful (forgotten t position)
 
 abbrev pub CountsAreForgotten : Type 0

@@ -12,8 +12,9 @@ use Rattle.records.specs.Names.{is_subscription_name}
 use Rattle.records.specs.Maps.{Kept}
 use Rattle.records.specs.Records.{IsThere, AreFormed, after_all}
 use Rattle.subscriptions.specs.State.{Subscription, Subscriptions}
-use Rattle.subscriptions.specs.Steps.{none_yet, opened, first_standing, subscribe_refusals, attached, has_consumer, learnt, HasLearnt, granted, grants_too_many, acknowledged, acknowledged_through, unsubscribe_refusals, unsubscribed, sent, left, detached, redelivered, settled, slotted, forgotten, Admits, is_named, is_on}
+use Rattle.subscriptions.specs.Steps.{none_yet, opened, first_standing, subscribe_refusals, attached, has_consumer, learnt, HasLearnt, granted, grants_too_many, acknowledged, acknowledged_through, unsubscribe_refusals, unsubscribed, sent, left, detached, redelivered, settled, marked, forgotten, Admits, is_named, is_on}
 use Rattle.subscriptions.specs.Soundness.{IsSound, HasLimits, IsCommitted}
+use Rattle.subscriptions.specs.Marks.{IsCount}
 use Rattle.permits.specs.Ends.{Seen, Word}
 
 -- durable subscriptions that a topic may have: 64 at most, each name of its form
@@ -48,7 +49,7 @@ pub record StaysSound : Type 0 where
   pub detach : (t : Subscriptions) (key : ConsumerKey) → IsSound t → IsSound (detached t key)
   pub redeliver : (t : Subscriptions) (key : ConsumerKey) (asked : Option (List ℕ)) → IsSound t → IsSound (redelivered t key asked)
   pub settle : (t : Subscriptions) (count : ℕ) → IsSound t → IsSound (settled t count)
-  pub slot : (t : Subscriptions) (slots : List ℕ) → IsSound t → IsSound (slotted t slots)
+  pub mark : (t : Subscriptions) (slots messages : List ℕ) → AllByRecursion IsCount messages → IsSound t → IsSound (marked t slots messages)
   pub forget : (t : Subscriptions) (position : ℕ) → IsSound t → IsSound (forgotten t position)
 
 -- The subscriptions stay what the changes make of the durable ones; a change that is settled belongs to these from then on.
@@ -71,7 +72,7 @@ pub record AreKept : Type 0 where
   pub detach : (entries : ℕ) (kept : Kept) (t : Subscriptions) (key : ConsumerKey) → IsKept entries kept t → IsKept entries kept (detached t key)
   pub redeliver : (entries : ℕ) (kept : Kept) (t : Subscriptions) (key : ConsumerKey) (asked : Option (List ℕ)) → IsKept entries kept t → IsKept entries kept (redelivered t key asked)
   pub settle : (entries : ℕ) (kept : Kept) (t : Subscriptions) (count : ℕ) → IsKept entries kept t → IsKept entries (after_all (take count t.changes) kept) (settled t count)
-  pub slot : (entries : ℕ) (kept : Kept) (t : Subscriptions) (slots : List ℕ) → IsKept entries kept t → IsKept entries kept (slotted t slots)
+  pub mark : (entries : ℕ) (kept : Kept) (t : Subscriptions) (slots messages : List ℕ) → IsKept entries kept t → IsKept entries kept (marked t slots messages)
   pub forget : (entries : ℕ) (kept : Kept) (t : Subscriptions) (position : ℕ) → IsKept entries kept t → IsKept entries kept (forgotten t position)
   pub longer : (entries more : ℕ) (kept : Kept) (t : Subscriptions) → entries ≤ more → IsKept entries kept t → IsKept more kept t
 
@@ -91,7 +92,7 @@ pub record DeliveriesAreCommitted : Type 0 where
   pub detach : (committed : ℕ) (t : Subscriptions) (key : ConsumerKey) → IsCommitted committed t → IsCommitted committed (detached t key)
   pub redeliver : (committed : ℕ) (t : Subscriptions) (key : ConsumerKey) (asked : Option (List ℕ)) → IsCommitted committed t → IsCommitted committed (redelivered t key asked)
   pub settle : (committed : ℕ) (t : Subscriptions) (count : ℕ) → IsCommitted committed t → IsCommitted committed (settled t count)
-  pub slot : (committed : ℕ) (t : Subscriptions) (slots : List ℕ) → IsCommitted committed t → IsCommitted committed (slotted t slots)
+  pub mark : (committed : ℕ) (t : Subscriptions) (slots messages : List ℕ) → IsCommitted committed t → IsCommitted committed (marked t slots messages)
   pub forget : (committed : ℕ) (t : Subscriptions) (position : ℕ) → IsCommitted committed t → IsCommitted committed (forgotten t position)
 
 -- what is picked is open on the consumer's subscription: committed, unacknowledged and held by nobody

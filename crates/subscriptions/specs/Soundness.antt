@@ -1,5 +1,5 @@
 -- What holds of the subscriptions of a topic at any time.
-use Rattle.std.specs.Prelude.{◌≡◌, ℕ, ◌^◌, ◌≤◌, true, Some, None, length, map as each}
+use Rattle.std.specs.Prelude.{◌≡◌, ℕ, ◌+◌, ◌^◌, ◌≤◌, true, Some, None, length, map as each}
 use Rattle.std.specs.List.{AllByRecursion, IsDistinct}
 use Rattle.std.specs.Str.{bytes_eq}
 use Rattle.std.specs.FinMap as map
@@ -11,11 +11,12 @@ use Rattle.subscriptions.specs.declared.consumer.Mode.TheVariants.{Exclusive, Ke
 use Rattle.subscriptions.specs.State.{Consumer}
 use Rattle.subscriptions.specs.State.{Subscription, Subscriptions}
 use Rattle.subscriptions.specs.Progress.{AreApart}
+use Rattle.subscriptions.specs.Marks.{IsCount}
 use Rattle.subscriptions.specs.Steps.{is_on}
 
--- a consumer got no more messages than permits, and no more permits than there are positions
+-- a consumer got fewer than 1,048,576 messages beyond its permits, and no more permits than there are positions
 pub record IsWithinPermits (c : Consumer) : Type 0 where
-  pub sent : c.sent ≤ c.granted
+  pub sent : c.sent ≤ c.granted + 1048575
   pub granted : c.granted ≤ 2 ^ 62
 
 pub record IsSoundSubscription (s : Subscription) : Type 0 where
@@ -39,6 +40,7 @@ pub record HasLimits (t : Subscriptions) : Type 0 where
 pub record IsSound (t : Subscriptions) : Type 0 where
   pub limits : HasLimits t
   pub each_one : AllByRecursion IsSoundSubscription t.subs
+  pub messages : AllByRecursion IsCount t.messages
 
 -- no position from the committed length on is known: all deliveries are of committed positions
 abbrev pub IsCommittedOn : ℕ → Subscription → Type 0

@@ -28,3 +28,4 @@ pub record Subscriptions : Type 0 where
   pub subs : List Subscription  -- the earliest made first
   pub changes : List Record  -- the ones that aren't durable yet
   pub slots : List ℕ  -- the hash slot of each entry of the topic, by its position
+  pub messages : List ℕ  -- and how many messages it has

@@ -28,26 +28,26 @@ use Rattle.subscriptions.specs.Progress.{joined, listed}
 
 -- no subscription, and no change
 abbrev pub none_yet : Subscriptions
-none_yet = record { subs = []; changes = []; slots = [] }
+none_yet = record { subs = []; changes = []; slots = []; messages = [] }
 
 -- a durable subscription, without consumers and deliveries
 abbrev pub opened_one : List ℕ × Positions → Subscription
 opened_one e = record { name = e.0; mode = Exclusive; consumers = []; seats = []; acked = e.1; deliveries = map.empty }
 
 abbrev pub opened_all : List (List ℕ × Positions) → Subscriptions
-opened_all entries = record { subs = each opened_one entries; changes = []; slots = [] }
+opened_all entries = record { subs = each opened_one entries; changes = []; slots = []; messages = [] }
 
--- the subscriptions of a topic that was opened: the durable ones, in the order of the names' bytes, no change, and no slot so far
+-- the subscriptions of a topic that was opened: the durable ones, in the order of the names' bytes, no change, and no entry so far
 abbrev pub opened : Kept → Subscriptions
 opened kept = opened_all (map.entries kept)
 
--- further entries have these slots
-abbrev pub slotted : Subscriptions → List ℕ → Subscriptions
-slotted t slots = record t { slots = t.slots ++ slots }
+-- further entries have these slots, and so many messages
+abbrev pub marked : Subscriptions → List ℕ → List ℕ → Subscriptions
+marked t slots messages = record t { slots = t.slots ++ slots; messages = t.messages ++ messages }
 
--- the slots of positions below this one are forgotten: they are 0
+-- the entries of positions below this one are forgotten: they have slot 0, and one message
 abbrev pub forgotten : Subscriptions → ℕ → Subscriptions
-forgotten t position = record t { slots = replicate position 0 ++ drop position t.slots }
+forgotten t position = record t { slots = replicate position 0 ++ drop position t.slots; messages = replicate position 1 ++ drop position t.messages }
 
 -- the first that passes a test is changed
 abbrev pub first_changed : {X : Type 0} → (X → Bool) → (X → X) → List X → List X
@@ -332,18 +332,18 @@ AdmitsAt (Some s) key slots committed i = AdmitsOn s key slots committed i
 abbrev pub Admits : Subscriptions → ConsumerKey → ℕ → ℕ → Type 0
 Admits t key committed i = AdmitsAt (find (is_on key) t.subs) key t.slots committed i
 
--- MESSAGE: the consumer holds the position, which was sent once more, and has one permit less
-abbrev pub sent_one : Consumer → Consumer
-sent_one c = record c { sent = c.sent + 1 }
+-- MESSAGE: the consumer holds the position, which was sent once more, and got as many messages more as its entry has
+abbrev pub sent_more : ℕ → Consumer → Consumer
+sent_more n c = record c { sent = c.sent + n }
 
-abbrev pub sent_on : ConsumerKey → ℕ → Subscription → Subscription
-sent_on key i s = record s {
-  consumers = first_changed (is_consumer key) (λ c. sent_one c) s.consumers;
+abbrev pub sent_on : ConsumerKey → ℕ → ℕ → Subscription → Subscription
+sent_on key n i s = record s {
+  consumers = first_changed (is_consumer key) (sent_more n) s.consumers;
   deliveries = map.insert s.deliveries i (sent_to key (map.get s.deliveries i));
 }
 
 abbrev pub sent : Subscriptions → ConsumerKey → ℕ → Subscriptions
-sent t key i = record t { subs = first_changed (is_on key) (sent_on key i) t.subs }
+sent t key i = record t { subs = first_changed (is_on key) (sent_on key (slice_index t.messages i) i) t.subs }
 
 -- how often a position was sent before on the consumer's subscription
 abbrev pub times_at : Option Subscription → ℕ → ℕ

@@ -1,6 +1,6 @@
 ghost use Rattle.std.specs.Prelude.{◌≡◌, ◌-◌, ◌^◌, ◌≤◌, ◌<◌, ℕ, OnOk, OnErr, Some, true, false, max};
 ghost use Rattle.subscriptions.specs.Quiet.{has_permit_of};
-ghost use Rattle.subscriptions.specs.Steps.{IsLearnt, IsLooked, granted_to, is_past, learnt_to, learnt_of, sent_one, has_permit};
+ghost use Rattle.subscriptions.specs.Steps.{IsLearnt, IsLooked, granted_to, is_past, learnt_to, learnt_of, sent_more, has_permit};
 
 use holds::ConsumerKey;
 use permits::{Gauge, Grant, TooManyPermits};
@@ -40,7 +40,7 @@ impl<G: Gauge> Model for Consumer<G> {
 
     ghost Value = { State };
 
-    ghost view = { λ c. record { key = c.key; granted = G.known c.gauge; sent = G.taken c.gauge; word = G.word c.gauge; looks = G.looks c.gauge } };
+    ghost view = { λ c. record { key = c.key; granted = G.known c.gauge; sent = G.sent c.gauge; word = G.word c.gauge; looks = G.looks c.gauge } };
 }
 
 impl<G: Gauge> Drop for Consumer<G> {
@@ -51,10 +51,10 @@ impl<G: Gauge> Drop for Consumer<G> {
 }
 
 impl<G: Gauge> Consumer<G> {
-    /// A consumer with these permits, none of which is known or taken so far, and for which it wasn't looked.
+    /// A consumer with these permits, none of which is known so far, and to which nothing was sent, and for which it wasn't looked.
     pub(crate) fn new(key: ConsumerKey, gauge: G) -> Consumer<G>
         requires none_known { G.known gauge ≡ 0 }
-        requires none_taken { G.taken gauge ≡ 0 }
+        requires none_sent { G.sent gauge ≡ 0 }
         requires none_looked { G.looks gauge ≡ 0 }
         ensures { result ≡ record { key = key; granted = 0; sent = 0; word = G.word gauge; looks = 0 } }
     {
@@ -95,13 +95,15 @@ impl<G: Gauge> Consumer<G> {
         self.look()
     }
 
-    /// A permit that is left is taken.
-    pub(crate) fn take(&mut self)
-        requires { has_permit (Some self.old) ≡ true }
-        ensures learnt { IsLearnt (λ n. learnt_to n (sent_one self.old)) self.new }
-        ensures exact { G.exact → self.new ≡ sent_one self.old }
+    /// It has a permit left, and takes those of an entry of so many messages.
+    pub(crate) fn take(&mut self, messages: u32)
+        requires some { 0 < messages }
+        requires few { messages ≤ 1048576 }
+        requires permit { has_permit (Some self.old) ≡ true }
+        ensures learnt { IsLearnt (λ n. learnt_to n (sent_more messages self.old)) self.new }
+        ensures exact { G.exact → self.new ≡ sent_more messages self.old }
     {
-        let is_taken = self.gauge.take();
+        let is_taken = self.gauge.take(messages);
         prove!(is_taken);
     }
 }

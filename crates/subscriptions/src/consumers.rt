@@ -5,7 +5,7 @@ ghost use Rattle.holds.specs.declared.consumer.ConsumerKey.{ConsumerKey as Key};
 ghost use Rattle.subscriptions.specs.State.{Consumer as TheConsumer};
 ghost use Rattle.subscriptions.specs.Directory.{place_in, place_before, numbered};
 ghost use Rattle.subscriptions.specs.Quiet.{has_permits};
-ghost use Rattle.subscriptions.specs.Steps.{is_consumer, first_changed, granted_to, is_past, learnt_to, IsLearnt, IsLooked, HaveLearnt, HaveLooked, has_permit, has_some, sent_one};
+ghost use Rattle.subscriptions.specs.Steps.{is_consumer, first_changed, granted_to, is_past, learnt_to, IsLearnt, IsLooked, HaveLearnt, HaveLooked, has_permit, has_some, sent_more};
 
 use crate::consumer::Consumer;
 use crate::directory::Directory;
@@ -99,18 +99,20 @@ impl<G: Gauge> Consumers<G> {
         have_permit(&mut self.list, who)
     }
 
-    /// A consumer that has a permit left takes one.
-    pub(crate) fn take(&mut self, key: ConsumerKey)
-        requires { has_permit (find (is_consumer key) self.old) ≡ true }
-        ensures learnt { IsLearnt (λ n. first_changed (is_consumer key) (learnt_to n) (first_changed (is_consumer key) (λ c. sent_one c) self.old)) self.new }
-        ensures exact { G.exact → self.new ≡ first_changed (is_consumer key) (λ c. sent_one c) self.old }
+    /// A consumer that has a permit left takes those of an entry of so many messages.
+    pub(crate) fn take(&mut self, key: ConsumerKey, messages: u32)
+        requires some { 0 < messages }
+        requires few { messages ≤ 1048576 }
+        requires permit { has_permit (find (is_consumer key) self.old) ≡ true }
+        ensures learnt { IsLearnt (λ n. first_changed (is_consumer key) (learnt_to n) (first_changed (is_consumer key) (sent_more messages) self.old)) self.new }
+        ensures exact { G.exact → self.new ≡ first_changed (is_consumer key) (sent_more messages) self.old }
     {
         let Some(place) = self.place_of(key) else {
             unreachable!()
         };
         self.places.remember(key);
         let consumer = &mut self.list[place];
-        consumer.take();
+        consumer.take(messages);
     }
 
     /// Puts a consumer behind the others. A refusal changes nothing.

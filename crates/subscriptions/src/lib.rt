@@ -10,7 +10,7 @@ mod consumer;
 mod consumers;
 mod directory;
 mod dispatch;
-mod hash_slots;
+mod entry_marks;
 mod hint;
 mod hints;
 mod initial_position;
@@ -24,7 +24,7 @@ mod summary;
 mod table;
 
 pub use consumer::{Mode, Refusal};
-pub use hash_slots::HashSlots;
+pub use entry_marks::EntryMarks;
 pub use initial_position::InitialPosition;
 pub use laws::{
     counts_are_forgotten, deliveries_are_committed, learning_admits, picked_is_open, stays_sound,

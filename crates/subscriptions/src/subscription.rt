@@ -7,7 +7,7 @@ ghost use Rattle.std.specs.FinMap as map;
 ghost use Rattle.holds.specs.Backlog.{IsOpenAt, attached};
 ghost use Rattle.holds.specs.Deliveries.{times, given_back, same_key};
 ghost use Rattle.holds.specs.declared.consumer.Consumer.{Consumer as TheSeat};
-ghost use Rattle.subscriptions.specs.Steps.{is_consumer, is_on, first_changed, first_standing, same_mode, is_exclusive, is_failover, serves_many, is_shared_mode, is_key_shared, attach_refusals, refuses_ranges, attached_to, made, opened_one, granted_to, granted_on, is_past, learnt_to, learnt_on, IsLearnt, IsLooked, HasLearntOn, HaveLooked, HasLookedOn, acked_on, acked_through_on, has_permit, AdmitsBy, sent_one, sent_on, left_on, detached_on, is_asked_back, redelivered_on};
+ghost use Rattle.subscriptions.specs.Steps.{is_consumer, is_on, first_changed, first_standing, same_mode, is_exclusive, is_failover, serves_many, is_shared_mode, is_key_shared, attach_refusals, refuses_ranges, attached_to, made, opened_one, granted_to, granted_on, is_past, learnt_to, learnt_on, IsLearnt, IsLooked, HasLearntOn, HaveLooked, HasLookedOn, acked_on, acked_through_on, has_permit, AdmitsBy, sent_on, left_on, detached_on, is_asked_back, redelivered_on};
 ghost use Rattle.subscriptions.specs.Dispatching.{mode_of, seats_of, keys};
 ghost use Rattle.subscriptions.specs.Hints.{IsPassed};
 ghost use Rattle.subscriptions.specs.Freeing.{freed_among};
@@ -19,7 +19,7 @@ use crate::backlog::Backlog;
 use crate::consumer::{Consumer, Mode, Refusal};
 use crate::consumers::Consumers;
 use crate::dispatch::Dispatch;
-use crate::hash_slots::HashSlots;
+use crate::entry_marks::EntryMarks;
 use crate::progress::{Progress, lowered};
 use crate::status::SubscriptionStatus;
 use cursor::Cursor;
@@ -149,7 +149,7 @@ impl<G: Gauge> Subscription<G> {
     ) -> Result<(), AllocError>
         requires allowed { first_standing (attach_refusals mode seat.ranges self.old) ≡ None }
         requires none_known { G.known gauge ≡ 0 }
-        requires none_taken { G.taken gauge ≡ 0 }
+        requires none_sent { G.sent gauge ≡ 0 }
         requires none_looked { G.looks gauge ≡ 0 }
         ensures ok { OnOk result (self.new ≡ attached_to mode seat (G.word gauge) self.old) }
         ensures err { OnErr result (self.new ≡ self.old) }
@@ -222,17 +222,17 @@ impl<G: Gauge> Subscription<G> {
     pub(crate) fn pick(
         &mut self,
         key: ConsumerKey,
-        slots: &HashSlots,
+        marks: &EntryMarks,
         committed: u64,
         from: u64,
     ) -> Option<u64>
         requires fits { committed ≤ 2 ^ 62 }
-        requires known { committed ≤ length slots.now }
+        requires known { committed ≤ length marks.now.slots }
         requires there { is_on key self.old ≡ true }
-        requires passed { IsPassed (attached key self.old.seats) self.old.acked self.old.deliveries slots.now from }
+        requires passed { IsPassed (attached key self.old.seats) self.old.acked self.old.deliveries marks.now.slots from }
         ensures same { self.new ≡ self.old }
-        ensures some { IfSome result (AdmitsBy self.old.mode key self.old slots.now (IsOpenAt committed self.old.acked self.old.deliveries)) }
-        ensures none { IfNone result ((i : ℕ) → AdmitsBy self.old.mode key self.old slots.now (IsOpenAt committed self.old.acked self.old.deliveries) i → ⊥) }
+        ensures some { IfSome result (AdmitsBy self.old.mode key self.old marks.now.slots (IsOpenAt committed self.old.acked self.old.deliveries)) }
+        ensures none { IfNone result ((i : ℕ) → AdmitsBy self.old.mode key self.old marks.now.slots (IsOpenAt committed self.old.acked self.old.deliveries) i → ⊥) }
     {
         let Some(place) = self.consumers.place_of(key) else {
             unreachable!()
@@ -240,7 +240,7 @@ impl<G: Gauge> Subscription<G> {
         let first = self.progress.settle(committed);
         let backlog = Backlog {
             progress: &self.progress,
-            slots,
+            marks,
             committed,
             first,
         };
@@ -290,25 +290,28 @@ impl<G: Gauge> Subscription<G> {
         is_key_shared(self.dispatch.mode())
     }
 
-    /// The consumer gets a position that it may get, and the answer is how often that was sent
+    /// The consumer gets a position that it may get, with so many messages, and the answer is how often that was sent
     /// before. A refusal changes nothing.
     pub(crate) fn send(
         &mut self,
         key: ConsumerKey,
         position: u64,
         committed: u64,
+        messages: u32,
     ) -> Result<u32, AllocError>
         requires fits { committed ≤ 2 ^ 62 }
+        requires some { 0 < messages }
+        requires few { messages ≤ 1048576 }
         requires permit { has_permit (find (is_consumer key) self.old.consumers) ≡ true }
         requires is_open { IsOpenAt committed self.old.acked self.old.deliveries position }
-        ensures ok { OnOk result (IsLearnt (λ n. learnt_on key n (sent_on key position self.old)) self.new) }
-        ensures exact { G.exact → OnOk result (self.new ≡ sent_on key position self.old) }
+        ensures ok { OnOk result (IsLearnt (λ n. learnt_on key n (sent_on key messages position self.old)) self.new) }
+        ensures exact { G.exact → OnOk result (self.new ≡ sent_on key messages position self.old) }
         ensures before { IfOk result (λ before. before ≡ times self.old.deliveries position) }
         ensures err { OnErr result (self.new ≡ self.old) }
     {
         let before = self.progress.sent_before(position);
         self.progress.hold(position, key, committed)?;
-        self.consumers.take(key);
+        self.consumers.take(key, messages);
         Ok(before)
     }
 

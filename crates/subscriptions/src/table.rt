@@ -5,7 +5,7 @@ ghost use Rattle.std.specs.List.{AllByRecursion, AllZip, IsDistinct, find};
 ghost use Rattle.std.specs.Str.{bytes_eq};
 ghost use Rattle.records.specs.declared.kept_cursor.KeptCursor.{KeptCursor};
 ghost use Rattle.records.specs.declared.record.Record.TheVariants.{Acknowledged as acknowledged_change, Made as made_of};
-ghost use Rattle.subscriptions.specs.Steps.{none_yet, opened_one, opened_all, first_changed, is_on, is_named, has_consumer, first_standing, making_refusals, subscribe_refusals, attach_refusals, refuses_ranges, attached_to, attached, attached_at, start_of, made, granted, granted_on, grants_too_many, learnt, learnt_on, IsLearnt, IsLooked, HasLearnt, HasLearntOn, HasLookedOn, has_permit_at, acknowledged, acked_on, acknowledged_through, acked_through_on, is_shared, unsubscribe_refusals, unsubscribed, Admits, AdmitsAt, AdmitsOn, sent, sent_on, sent_before, times_at, left, left_on, detached, detached_on, redelivered, redelivered_on, shares, is_among_many, settled, slotted, forgotten};
+ghost use Rattle.subscriptions.specs.Steps.{none_yet, opened_one, opened_all, first_changed, is_on, is_named, has_consumer, first_standing, making_refusals, subscribe_refusals, attach_refusals, refuses_ranges, attached_to, attached, attached_at, start_of, made, granted, granted_on, grants_too_many, learnt, learnt_on, IsLearnt, IsLooked, HasLearnt, HasLearntOn, HasLookedOn, has_permit_at, acknowledged, acked_on, acknowledged_through, acked_through_on, is_shared, unsubscribe_refusals, unsubscribed, Admits, AdmitsAt, AdmitsOn, sent, sent_on, sent_before, times_at, left, left_on, detached, detached_on, redelivered, redelivered_on, shares, is_among_many, settled, marked, forgotten};
 ghost use Rattle.std.specs.Option.{option_copied};
 ghost use Rattle.subscriptions.specs.Hints.{AreHintsOf, AreHintsOn};
 ghost use Rattle.subscriptions.specs.Quiet.{IsQuiet};
@@ -15,7 +15,7 @@ ghost use Rattle.holds.specs.declared.consumer.ConsumerKey.{ConsumerKey as Key};
 
 use crate::consumer::{Mode, Refusal};
 use crate::directory::Directory;
-use crate::hash_slots::HashSlots;
+use crate::entry_marks::EntryMarks;
 use crate::hint::Hint;
 use crate::hints::Hints;
 use crate::initial_position::InitialPosition;
@@ -47,7 +47,7 @@ pub struct Subscriptions<G: Gauge> {
     alloc: Global,
     subs: Vec<Subscription<G>>,
     changes: Vec<Record>,
-    slots: HashSlots,
+    marks: EntryMarks,
     hints: Vec<Hints>,
     directory: Directory,
     quiet: Quiet,
@@ -68,9 +68,9 @@ impl<G: Gauge> Model for Subscriptions<G> {
     ghost use Rattle.subscriptions.specs.Directory.{ArePlaces};
     ghost use Rattle.subscriptions.specs.Quiet.{AreQuiet};
 
-    ghost view = { λ t. record { subs = t.subs.items; changes = t.changes.items; slots = t.slots } };
+    ghost view = { λ t. record { subs = t.subs.items; changes = t.changes.items; slots = t.marks.slots; messages = t.marks.messages } };
 
-    ghost invariant = { λ t. HasLimits (record { subs = t.subs.items; changes = t.changes.items; slots = t.slots }) × AreHints (record { subs = t.subs.items; changes = t.changes.items; slots = t.slots }) t.hints.items × ArePlaces t.subs.items t.directory × AreQuiet t.subs.items t.quiet };
+    ghost invariant = { λ t. HasLimits (record { subs = t.subs.items; changes = t.changes.items; slots = t.marks.slots; messages = t.marks.messages }) × AreHints (record { subs = t.subs.items; changes = t.changes.items; slots = t.marks.slots; messages = t.marks.messages }) t.hints.items × ArePlaces t.subs.items t.directory × AreQuiet t.subs.items t.quiet };
 }
 
 impl<G: Gauge> Subscriptions<G> {
@@ -82,29 +82,29 @@ impl<G: Gauge> Subscriptions<G> {
             alloc,
             subs: Vec::new(alloc),
             changes: Vec::new(alloc),
-            slots: HashSlots::new(alloc),
+            marks: EntryMarks::new(alloc),
             hints: Vec::new(alloc),
             directory: Directory::new(alloc),
             quiet: Quiet::new(),
         }
     }
 
-    /// The subscriptions of a topic that was opened, with these durable ones, and the slots of its entries.
+    /// The subscriptions of a topic that was opened, with these durable ones, and the slots and counts of its entries.
     pub fn opened(
         alloc: Global,
         kept: Vec<KeptCursor>,
-        slots: HashSlots,
+        marks: EntryMarks,
     ) -> Result<Subscriptions<G>, AllocError>
         requires few { length kept.items ≤ 64 }
         requires distinct { IsDistinct bytes_eq (each (λ (c : KeptCursor). c.name) kept.items) }
-        ensures { IfOk result (λ t. t ≡ slotted (opened_all (each (λ (c : KeptCursor). (c.name, c.acked)) kept.items)) slots) }
+        ensures { IfOk result (λ t. t ≡ marked (opened_all (each (λ (c : KeptCursor). (c.name, c.acked)) kept.items)) marks.slots marks.messages) }
     {
         let hints = without_hints(alloc, kept.len())?;
         Ok(Subscriptions {
             alloc,
             subs: open_all(alloc, kept)?,
             changes: Vec::new(alloc),
-            slots,
+            marks,
             hints,
             directory: Directory::new(alloc),
             quiet: Quiet::new(),
@@ -184,7 +184,7 @@ impl<G: Gauge> Subscriptions<G> {
         requires fits { committed ≤ 2 ^ 62 }
         requires allowed { first_standing (subscribe_refusals self.old name.now mode seat.ranges) ≡ None }
         requires none_known { G.known gauge ≡ 0 }
-        requires none_taken { G.taken gauge ≡ 0 }
+        requires none_sent { G.sent gauge ≡ 0 }
         requires none_looked { G.looks gauge ≡ 0 }
         ensures ok { OnOk result (self.new ≡ attached self.old name.now mode seat (G.word gauge) (start_of initial first committed)) }
         ensures err { OnErr result (self.new ≡ self.old) }
@@ -226,7 +226,7 @@ impl<G: Gauge> Subscriptions<G> {
         requires absent { position (is_named name.now) self.old.subs ≡ None }
         requires allowed { first_standing (subscribe_refusals self.old name.now mode seat.ranges) ≡ None }
         requires none_known { G.known gauge ≡ 0 }
-        requires none_taken { G.taken gauge ≡ 0 }
+        requires none_sent { G.sent gauge ≡ 0 }
         requires none_looked { G.looks gauge ≡ 0 }
         ensures ok { OnOk result (self.new ≡ attached self.old name.now mode seat (G.word gauge) start) }
         ensures err { OnErr result (self.new ≡ self.old) }
@@ -256,8 +256,7 @@ impl<G: Gauge> Subscriptions<G> {
         Ok(())
     }
 
-    /// ACK: the positions are acknowledged, with one change for each. An unknown consumer changes
-    /// nothing, and neither does a refusal.
+    /// ACK: the positions are acknowledged, with one change for each. An unknown consumer changes nothing, and neither does a refusal.
     pub fn acknowledge(&mut self, key: ConsumerKey, positions: &[u64]) -> Result<(), AllocError>
         requires fits { All (λ p. p < 2 ^ 62) positions.now }
         requires room { length self.old.changes + length positions.now ≤ 65536 }
@@ -277,8 +276,7 @@ impl<G: Gauge> Subscriptions<G> {
         Ok(())
     }
 
-    /// ACK of all positions up to one: they are acknowledged, with one change. An unknown consumer
-    /// changes nothing, and neither does a refusal.
+    /// ACK of all positions up to one: they are acknowledged, with one change. An unknown consumer changes nothing, and neither does a refusal.
     pub fn acknowledge_through(&mut self, key: ConsumerKey, position: u64) -> Result<(), AllocError>
         requires fits { position < 2 ^ 62 }
         requires room { length self.old.changes + 1 ≤ 65536 }
@@ -311,8 +309,7 @@ impl<G: Gauge> Subscriptions<G> {
         None
     }
 
-    /// UNSUBSCRIBE: the consumer's subscription goes, with the consumer and one change. An unknown
-    /// consumer changes nothing, and neither does a refusal.
+    /// UNSUBSCRIBE: the consumer's subscription goes, with the consumer and one change. An unknown consumer changes nothing, and neither does a refusal.
     pub fn unsubscribe(&mut self, key: ConsumerKey) -> Result<(), AllocError>
         requires { first_standing (unsubscribe_refusals self.old key) ≡ None }
         ensures ok { OnOk result (self.new ≡ unsubscribed self.old key) }
@@ -380,7 +377,7 @@ impl<G: Gauge> Subscriptions<G> {
         let sub = &mut self.subs[place];
         let hints = &self.hints[place];
         let from = hints.beginning(key);
-        let picked = sub.pick(key, &self.slots, committed, from);
+        let picked = sub.pick(key, &self.marks, committed, from);
         if sub.is_key_shared() {
             let below = picked.unwrap_or(committed);
             let hints = &mut self.hints[place];
@@ -419,7 +416,7 @@ impl<G: Gauge> Subscriptions<G> {
         self.quiet.is_noted(who, committed)
     }
 
-    /// MESSAGE: the consumer holds a position that it may get, and has one permit less. The answer
+    /// MESSAGE: the consumer holds a position that it may get, and got as many messages more as its entry has. The answer
     /// is how often that was sent before. A refusal changes nothing.
     pub fn send(
         &mut self,
@@ -428,6 +425,7 @@ impl<G: Gauge> Subscriptions<G> {
         committed: u64,
     ) -> Result<u32, AllocError>
         requires fits { committed ≤ 2 ^ 62 }
+        requires known { committed ≤ length self.old.messages }
         requires admitted { Admits self.old key committed position }
         ensures ok { OnOk result (IsLearnt (learnt (sent self.old key position) key) self.new) }
         ensures exact { G.exact → OnOk result (self.new ≡ sent self.old key position) }
@@ -438,7 +436,8 @@ impl<G: Gauge> Subscriptions<G> {
             unreachable!()
         };
         let sub = &mut self.subs[place];
-        let before = sub.send(key, position, committed)?;
+        let messages = self.marks.messages(position);
+        let before = sub.send(key, position, committed, messages)?;
         self.quiet.forget(key.session);
         Ok(before)
     }
@@ -452,8 +451,7 @@ impl<G: Gauge> Subscriptions<G> {
         self.quiet.clear();
     }
 
-    /// CLOSE_CONSUMER: the consumer goes, and what it holds is free. An unknown consumer changes
-    /// nothing. Takes no memory.
+    /// CLOSE_CONSUMER: the consumer goes, and what it holds is free. An unknown consumer changes nothing. Takes no memory.
     pub fn detach(&mut self, key: ConsumerKey)
         ensures { self.new ≡ detached self.old key }
     {
@@ -493,12 +491,14 @@ impl<G: Gauge> Subscriptions<G> {
         is_among_many(self.subs.as_slice(), self.directory.of(key))
     }
 
-    /// The slot of a further entry. A refusal changes nothing.
-    pub fn add_slot(&mut self, slot: u16) -> Result<(), AllocError>
-        ensures ok { OnOk result (self.new ≡ slotted self.old (slot ∷ [])) }
+    /// The slot of a further entry, and how many messages it has. A refusal changes nothing.
+    pub fn add_mark(&mut self, slot: u16, messages: u32) -> Result<(), AllocError>
+        requires some { 0 < messages }
+        requires few { messages ≤ 1048576 }
+        ensures ok { OnOk result (self.new ≡ marked self.old (slot ∷ []) (messages ∷ [])) }
         ensures err { OnErr result (self.new ≡ self.old) }
     {
-        self.slots.push(slot)?;
+        self.marks.push(slot, messages)?;
         Ok(())
     }
 
@@ -515,12 +515,12 @@ impl<G: Gauge> Subscriptions<G> {
         Some(least_mark(self.subs.as_slice(), most))
     }
 
-    /// The slots of positions below this one take no memory from now on. Takes none.
+    /// The slots and counts of entries of positions below this one take no memory from now on. Takes none.
     pub fn forget_below(&mut self, position: u64)
         requires { position ≤ length self.old.slots }
         ensures { self.new ≡ forgotten self.old position }
     {
-        if self.slots.forget_below(position) {
+        if self.marks.forget_below(position) {
             clear_all(&mut self.hints);
         }
     }
@@ -535,8 +535,7 @@ impl<G: Gauge> Subscriptions<G> {
 }
 
 impl<G: Grant> Subscriptions<G> {
-    /// FLOW: the consumer has so many permits more, unless it would have more than 2^62 in all. An
-    /// unknown consumer changes nothing.
+    /// FLOW: the consumer has so many permits more, unless it would have more than 2^62 in all. An unknown consumer changes nothing.
     pub fn grant(&mut self, key: ConsumerKey, permits: u64) -> Result<(), TooManyPermits>
         ensures ok { OnOk result ((grants_too_many self.old key permits ≡ false) × (self.new ≡ granted self.old key permits)) }
         ensures err { OnErr result ((grants_too_many self.old key permits ≡ true) × (self.new ≡ self.old)) }
@@ -575,7 +574,7 @@ fn new_subscription<G: Gauge>(
 ) -> Result<Subscription<G>, AllocError>
     requires fits { start ≤ 2 ^ 62 }
     requires none_known { G.known gauge ≡ 0 }
-    requires none_taken { G.taken gauge ≡ 0 }
+    requires none_sent { G.sent gauge ≡ 0 }
     requires none_looked { G.looks gauge ≡ 0 }
     requires allowed { refuses_ranges mode [] seat.ranges ≡ false }
     ensures { IfOk result (λ s. s ≡ attached_to mode seat (G.word gauge) (made name.now mode start)) }

@@ -46,6 +46,21 @@ pub(crate) fn key(word: &str) -> Result<ConsumerKey, Error> {
     })
 }
 
+/// The slot of an entry, and how many messages it has: one, but for a number behind an "x".
+pub(crate) fn mark(word: &str) -> Result<(u16, u32), Error>
+    ensures some { IfOk result (λ mark. 0 < mark.1) }
+    ensures few { IfOk result (λ mark. mark.1 ≤ 1048576) }
+{
+    let Some((slot, messages)) = word.split_once('x') else {
+        return Ok((word.parse()?, 1));
+    };
+    let messages: u32 = messages.parse()?;
+    if messages == 0 || messages > 1_048_576 {
+        bail!("no entry has so many messages: {word}");
+    }
+    Ok((slot.parse()?, messages))
+}
+
 pub(crate) fn mode(word: &str) -> Result<Mode, Error> {
     match word {
         "Exclusive" => Ok(Mode::Exclusive),

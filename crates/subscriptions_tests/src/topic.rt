@@ -26,15 +26,15 @@ impl Topic {
     }
 }
 
-/// Adds so many entries of slot 0, so that each committed one has a slot. What stands behind them nobody gets.
+/// Adds so many entries of one message and slot 0, so that each committed one is known. What stands behind them nobody gets.
 pub(crate) fn add_entries<G: Gauge>(
     subs: &mut Subscriptions<G>,
     count: u32,
 ) -> Result<(), AllocError>
-    ensures { OnOk result (count ≤ length subs.new.slots) }
+    ensures { OnOk result ((count ≤ length subs.new.slots) × (count ≤ length subs.new.messages)) }
 {
     for i in 0..count {
-        subs.add_slot(0)?;
+        subs.add_mark(0, 1)?;
     }
     Ok(())
 }
@@ -89,10 +89,11 @@ fn refusal(topic: &Topic, asked: &[&str]) -> Result<String, Error> {
     Ok(format!(in topic.alloc; "{refusal:?}")?)
 }
 
-/// The entries that follow have these slots.
-fn add_slots<G: Gauge>(subs: &mut Subscriptions<G>, slots: &[&str]) -> Result<(), Error> {
-    for slot in slots {
-        subs.add_slot(slot.parse()?)?;
+/// The entries that follow have these slots and numbers of messages.
+fn add_marks<G: Gauge>(subs: &mut Subscriptions<G>, marks: &[&str]) -> Result<(), Error> {
+    for mark in marks {
+        let (slot, messages) = reading::mark(mark)?;
+        subs.add_mark(slot, messages)?;
     }
     Ok(())
 }
@@ -131,7 +132,7 @@ fn counted(topic: &mut Topic, word: &str, asked: &[&str]) -> Result<String, Erro
 
 fn changed(topic: &mut Topic, word: &str, asked: &[&str]) -> Result<String, Error> {
     match word {
-        "slots" => add_slots(&mut topic.subs, asked)?,
+        "slots" => add_marks(&mut topic.subs, asked)?,
         _ => *topic = Topic::new(topic.alloc),
     }
     Ok(String::from_str(topic.alloc, "done")?)

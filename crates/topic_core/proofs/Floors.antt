@@ -21,10 +21,13 @@ use Rattle.subscriptions.specs.State.{Subscription, Subscriptions}
 use Rattle.subscriptions.specs.Soundness.{HasLimits}
 use Rattle.subscriptions.specs.Steps.{is_named, is_on}
 use Rattle.subscriptions.specs.Trimming.{IsPast}
-use Rattle.subscriptions.proofs.Fronts.{behind_copies, past_lower}
+use Rattle.subscriptions.proofs.Fronts.{past_lower}
 use Rattle.subscriptions.proofs.Kept.{acked_found, after_parts}
 use Rattle.subscriptions.proofs.Limits.{picked}
-use Rattle.topic_core.specs.Slots.{slot_of_entry, slots_of}
+use Rattle.subscriptions.specs.Marks.{Marks, marks_in}
+use Rattle.topic_core.specs.Slots.{slot_of_entry}
+use Rattle.topic_core.specs.Messages.{messages_of_entry, marks_of}
+use Rattle.topic_core.proofs.Slotted.{known_of, known_trimmed}
 use Rattle.topic_core.specs.State.{Topic, Doubt, floor, floor_of, opened, entries_of, changes_of, entries_in_doubt, changes_in_doubt}
 use Rattle.topic_core.specs.Soundness.{HasFloor, IsAcknowledged}
 use Rattle.topic_core.specs.Flush.{IsPassed, IsTrimPoint, handed_on, finished, taken_back, failed}
@@ -53,12 +56,6 @@ trimmed_same l b =
     let base : max l.base b ≡ max l.base (max l.base b) = omega arith in
     let gone : b - l.base ≡ max l.base b - l.base = omega arith in
     (λ i. record { base = base i; entries = drop (gone i) l.entries })
-
-pub slots_trimmed : (l : Ledger) (b : ℕ) → replicate (max l.base b) 0 ++ drop (max l.base b) (slots_of l) ≡ slots_of (trimmed b l)
-slots_trimmed l b = ap (λ (s : List ℕ). replicate (max l.base b) 0 ++ s)
-    (behind_copies (max l.base b) l.base 0 (map slot_of_entry l.entries) (omega arith)
-    ∙ ap (λ (n : ℕ). drop n (map slot_of_entry l.entries)) (let same : max l.base b - l.base ≡ b - l.base = omega arith in same)
-    ∙ drop-map slot_of_entry (b - l.base) l.entries)
 
 -- ---- positions below a lower one
 
@@ -229,27 +226,34 @@ module _ (t : Topic) (b : ℕ) (few : entries_of t.doubt ≤ length t.waiting) (
     doubted = have_lower (max t.ledger.base b) (floor t) (changed t) (omega (arith, low, f.rises)) is.doubted;
   }
 
-  -- the slots that are forgotten are those of what is gone
-  pub finished_slots : t.subs.slots ≡ slots_of (lengthened t.ledger t.waiting) → (finished t b).subs.slots ≡ slots_of (lengthened (finished t b).ledger (finished t b).waiting)
-  finished_slots is =
+  -- the marks that are forgotten are those of what is gone
+  finished_known : (gone : ℕ) (of : List ℕ → ℕ) (known : List ℕ) → known ≡ known_of gone of (lengthened t.ledger t.waiting)
+      → replicate (max t.ledger.base b) gone ++ drop (max t.ledger.base b) known ≡ known_of gone of (lengthened (finished t b).ledger (finished t b).waiting)
+  finished_known gone of known is =
       let n = entries_of t.doubt in
       let whole : lengthened t.ledger t.waiting ≡ lengthened (longer t) (drop n t.waiting) =
       ap (λ (z : Entries). lengthened t.ledger z) (sym (take-append-drop n t.waiting)) ∙ sym (lengthened_both t.ledger (entries_in_doubt t) (drop n t.waiting)) in
       let within : b ≤ end_of (longer t) = omega (arith, longer_end, low, f.committed) in
-      ap (λ (s : List ℕ). replicate (max t.ledger.base b) 0 ++ drop (max t.ledger.base b) s) (is ∙ ap (λ (l : Ledger). slots_of l) whole)
-      ∙ slots_trimmed (lengthened (longer t) (drop n t.waiting)) b
-      ∙ ap (λ (l : Ledger). slots_of l) (sym (trimmed_lengthened (longer t) b (drop n t.waiting) within))
+      ap (λ (s : List ℕ). replicate (max t.ledger.base b) gone ++ drop (max t.ledger.base b) s) (is ∙ ap (λ (l : Ledger). known_of gone of l) whole)
+      ∙ known_trimmed gone of (lengthened (longer t) (drop n t.waiting)) b
+      ∙ ap (λ (l : Ledger). known_of gone of l) (sym (trimmed_lengthened (longer t) b (drop n t.waiting) within))
+
+  pub finished_marks : marks_in t.subs ≡ marks_of (lengthened t.ledger t.waiting) → marks_in (finished t b).subs ≡ marks_of (lengthened (finished t b).ledger (finished t b).waiting)
+  finished_marks is =
+      let slots = finished_known 0 slot_of_entry t.subs.slots (ap (λ (m : Marks). m.slots) is) in
+      let messages = finished_known 1 messages_of_entry t.subs.messages (ap (λ (m : Marks). m.messages) is) in
+      (λ i. record { slots = slots i; messages = messages i })
 
 -- ---- a topic that was opened
 
-pub opened_floor : (n : ℕ) (ledger : Ledger) (slots : List ℕ) (kept : Kept) → HasFloor (opened n ledger slots kept)
-opened_floor n ledger slots kept = record { counted = refl; rises = omega arith; committed = omega arith; made = tt; beside = tt }
+pub opened_floor : (n : ℕ) (ledger : Ledger) (marks : Marks) (kept : Kept) → HasFloor (opened n ledger marks kept)
+opened_floor n ledger marks kept = record { counted = refl; rises = omega arith; committed = omega arith; made = tt; beside = tt }
 
-pub opened_acknowledged : (n : ℕ) (ledger : Ledger) (slots : List ℕ) (kept : Kept) → HaveBelow ledger.base kept → IsAcknowledged (opened n ledger slots kept)
-opened_acknowledged n ledger slots kept have = record { rises = omega arith; durable = have; doubted = have }
+pub opened_acknowledged : (n : ℕ) (ledger : Ledger) (marks : Marks) (kept : Kept) → HaveBelow ledger.base kept → IsAcknowledged (opened n ledger marks kept)
+opened_acknowledged n ledger marks kept have = record { rises = omega arith; durable = have; doubted = have }
 
-pub reopened_acknowledged : (t : Topic) (ledger : Ledger) (slots : List ℕ) (kept : Kept) → HaveBelow ledger.base kept → IsAcknowledged (reopened t ledger slots kept)
-reopened_acknowledged t ledger slots kept have = record { rises = omega arith; durable = have; doubted = have }
+pub reopened_acknowledged : (t : Topic) (ledger : Ledger) (marks : Marks) (kept : Kept) → HaveBelow ledger.base kept → IsAcknowledged (reopened t ledger marks kept)
+reopened_acknowledged t ledger marks kept have = record { rises = omega arith; durable = have; doubted = have }
 
 -- whatever a crash leaves is acknowledged below its first entry
 pub left_below : (t : Topic) (ledger : Ledger) (kept : Kept) → IsAcknowledged t → IsLeft t ledger kept → HaveBelow ledger.base kept

@@ -19,17 +19,17 @@ use Rattle.topic_core.proofs.States.{closed_gone, all_back}
 use Rattle.topic_core.specs.Flush.{has_no_flush, is_idle, handed_on, finished, taken_back, flushed, FlushStep, FlushIn, FlushEnds}
 
 -- two cores whose parts that a flush changes agree
-alike : (t : Topic) (c : ℕ) (l l' : Ledger) (k k' : Kept) (w w' : List (List ℕ)) (ch ch' : List Record) (sl : List ℕ) (qs qs' : List SessionReplies) (ps ps' : List Producer) (d d' : Option Doubt) → l ≡ l' → k ≡ k' → w ≡ w' → ch ≡ ch' → qs ≡ qs' → ps ≡ ps' → d ≡ d'
-    → (let a : Topic = record t { committed = c; ledger = l; kept = k; waiting = w; subs = record t.subs { changes = ch; slots = sl }; queues = qs; producers = ps; doubt = d } in
-    let b : Topic = record t { committed = c; ledger = l'; kept = k'; waiting = w'; subs = record t.subs { changes = ch'; slots = sl }; queues = qs'; producers = ps'; doubt = d' } in a ≡ b)
-alike t c l l' k k' w w' ch ch' sl qs qs' ps ps' d d' el ek ew ech eqs eps ed =
-    ap (λ (x : Ledger). let a : Topic = record t { committed = c; ledger = x; kept = k; waiting = w; subs = record t.subs { changes = ch; slots = sl }; queues = qs; producers = ps; doubt = d } in a) el
-    ∙ ap (λ (x : Kept). let a : Topic = record t { committed = c; ledger = l'; kept = x; waiting = w; subs = record t.subs { changes = ch; slots = sl }; queues = qs; producers = ps; doubt = d } in a) ek
-    ∙ ap (λ (x : List (List ℕ)). let a : Topic = record t { committed = c; ledger = l'; kept = k'; waiting = x; subs = record t.subs { changes = ch; slots = sl }; queues = qs; producers = ps; doubt = d } in a) ew
-    ∙ ap (λ (x : List Record). let a : Topic = record t { committed = c; ledger = l'; kept = k'; waiting = w'; subs = record t.subs { changes = x; slots = sl }; queues = qs; producers = ps; doubt = d } in a) ech
-    ∙ ap (λ (x : List SessionReplies). let a : Topic = record t { committed = c; ledger = l'; kept = k'; waiting = w'; subs = record t.subs { changes = ch'; slots = sl }; queues = x; producers = ps; doubt = d } in a) eqs
-    ∙ ap (λ (x : List Producer). let a : Topic = record t { committed = c; ledger = l'; kept = k'; waiting = w'; subs = record t.subs { changes = ch'; slots = sl }; queues = qs'; producers = x; doubt = d } in a) eps
-    ∙ ap (λ (x : Option Doubt). let a : Topic = record t { committed = c; ledger = l'; kept = k'; waiting = w'; subs = record t.subs { changes = ch'; slots = sl }; queues = qs'; producers = ps'; doubt = x } in a) ed
+alike : (t : Topic) (c : ℕ) (l l' : Ledger) (k k' : Kept) (w w' : List (List ℕ)) (ch ch' : List Record) (sl ms : List ℕ) (qs qs' : List SessionReplies) (ps ps' : List Producer) (d d' : Option Doubt) → l ≡ l' → k ≡ k' → w ≡ w' → ch ≡ ch' → qs ≡ qs' → ps ≡ ps' → d ≡ d'
+    → (let a : Topic = record t { committed = c; ledger = l; kept = k; waiting = w; subs = record t.subs { changes = ch; slots = sl; messages = ms }; queues = qs; producers = ps; doubt = d } in
+    let b : Topic = record t { committed = c; ledger = l'; kept = k'; waiting = w'; subs = record t.subs { changes = ch'; slots = sl; messages = ms }; queues = qs'; producers = ps'; doubt = d' } in a ≡ b)
+alike t c l l' k k' w w' ch ch' sl ms qs qs' ps ps' d d' el ek ew ech eqs eps ed =
+    ap (λ (x : Ledger). let a : Topic = record t { committed = c; ledger = x; kept = k; waiting = w; subs = record t.subs { changes = ch; slots = sl; messages = ms }; queues = qs; producers = ps; doubt = d } in a) el
+    ∙ ap (λ (x : Kept). let a : Topic = record t { committed = c; ledger = l'; kept = x; waiting = w; subs = record t.subs { changes = ch; slots = sl; messages = ms }; queues = qs; producers = ps; doubt = d } in a) ek
+    ∙ ap (λ (x : List (List ℕ)). let a : Topic = record t { committed = c; ledger = l'; kept = k'; waiting = x; subs = record t.subs { changes = ch; slots = sl; messages = ms }; queues = qs; producers = ps; doubt = d } in a) ew
+    ∙ ap (λ (x : List Record). let a : Topic = record t { committed = c; ledger = l'; kept = k'; waiting = w'; subs = record t.subs { changes = x; slots = sl; messages = ms }; queues = qs; producers = ps; doubt = d } in a) ech
+    ∙ ap (λ (x : List SessionReplies). let a : Topic = record t { committed = c; ledger = l'; kept = k'; waiting = w'; subs = record t.subs { changes = ch'; slots = sl; messages = ms }; queues = x; producers = ps; doubt = d } in a) eqs
+    ∙ ap (λ (x : List Producer). let a : Topic = record t { committed = c; ledger = l'; kept = k'; waiting = w'; subs = record t.subs { changes = ch'; slots = sl; messages = ms }; queues = qs'; producers = x; doubt = d } in a) eps
+    ∙ ap (λ (x : Option Doubt). let a : Topic = record t { committed = c; ledger = l'; kept = k'; waiting = w'; subs = record t.subs { changes = ch'; slots = sl; messages = ms }; queues = qs'; producers = ps'; doubt = x } in a) ed
 
 -- all replies of a session, handed on and made due
 due-handed_on : (q : SessionReplies) → make_due (hand_on q) ≡ make_all_due q
@@ -45,7 +45,7 @@ all-due (q ∷ qs) = ap (λ x. x ∷ map (λ y. make_due y) (map (λ y. hand_on 
 pub finished-handed_on : (t : Topic) (limit trim : ℕ) → finished (handed_on t limit) trim ≡ flushed t trim
 finished-handed_on t limit trim =
     alike t (t.committed + length t.waiting) _ (trimmed trim (lengthened t.ledger t.waiting)) _ (after_all t.subs.changes t.kept) (drop (length t.waiting) t.waiting) [] (drop (length t.subs.changes) t.subs.changes) []
-    (replicate (max t.ledger.base trim) 0 ++ drop (max t.ledger.base trim) t.subs.slots) _ _ _ _ None None
+    (replicate (max t.ledger.base trim) 0 ++ drop (max t.ledger.base trim) t.subs.slots) (replicate (max t.ledger.base trim) 1 ++ drop (max t.ledger.base trim) t.subs.messages) _ _ _ _ None None
     (ap (λ (x : List (List ℕ)). trimmed trim (lengthened t.ledger x)) (take_all (length t.waiting) t.waiting (omega arith))) (ap (λ (x : List Record). after_all x t.kept) (take_all (length t.subs.changes) t.subs.changes (omega arith)))
     (drop_all (length t.waiting) t.waiting (omega arith)) (drop_all (length t.subs.changes) t.subs.changes (omega arith)) (all-due t.queues) (closed_gone t.producers) refl
 
@@ -58,7 +58,7 @@ same-queues [] none = refl
 same-queues (q ∷ qs) none = ap (λ x. x ∷ map (λ y. take_back y) (map (λ y. hand_on y) qs)) (same-queue q none.0) ∙ ap (λ xs. q ∷ xs) (same-queues qs none.1)
 
 pub taken_back-handed_on : (t : Topic) (limit : ℕ) → IsSound t → t.doubt ≡ None → taken_back (handed_on t limit) ≡ t
-taken_back-handed_on t limit sound none = alike t t.committed t.ledger t.ledger t.kept t.kept t.waiting t.waiting t.subs.changes t.subs.changes t.subs.slots _ _ _ _ None t.doubt refl refl refl refl (same-queues t.queues (sound.sure none)) (all_back t.producers (sound.closing none)) (sym none)
+taken_back-handed_on t limit sound none = alike t t.committed t.ledger t.ledger t.kept t.kept t.waiting t.waiting t.subs.changes t.subs.changes t.subs.slots t.subs.messages _ _ _ _ None t.doubt refl refl refl refl (same-queues t.queues (sound.sure none)) (all_back t.producers (sound.closing none)) (sym none)
 
 -- nothing waits: a flush has nothing to change
 pub and_first : (a b : Bool) → (a && b) ≡ true → a ≡ true

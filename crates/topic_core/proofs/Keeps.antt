@@ -13,6 +13,7 @@ use Rattle.gated_log.specs.declared.read_error.ReadError.TheVariants as read
 use Rattle.std.specs.List.{find, list_all}
 use Rattle.std.proofs.lemmas.Bool.{eqb-true}
 use Rattle.records.specs.declared.record.Record.TheVariants.{Made}
+use Rattle.subscriptions.specs.Marks.{Marks, marks_in}
 use Rattle.subscriptions.specs.declared.consumer.Mode.{Mode}
 use Rattle.commands.specs.declared.consuming.Ack.{Ack}
 use Rattle.commands.specs.declared.server_error.ServerError.{ServerError}
@@ -39,7 +40,8 @@ use Rattle.managed_ledger.specs.Entries.{Ledger, end_of, lengthened}
 use Rattle.managed_ledger.specs.Trims.{end_lengthened, entry_within, lengthened_both}
 use Rattle.records.specs.Floors.{HaveBelow}
 use Rattle.topic_core.specs.Slots.{slot_of_entry, slots_of}
-use Rattle.topic_core.proofs.Slotted.{length_slots, slots_lengthened, slots_none}
+use Rattle.topic_core.specs.Messages.{messages_of_entry, messages_of, marks_of}
+use Rattle.topic_core.proofs.Slotted.{known_of, known_lengthened, are_marks, marks_none}
 use Rattle.topic_core.specs.State.{Topic, opened, floor, entries_of, changes_of, entries_in_doubt, changes_in_doubt}
 use Rattle.topic_core.specs.Soundness.{IsSound, AreReceipts, IsSoundTopic}
 use Rattle.topic_core.specs.Steps.{TopicStep, Outcome, Collects, GrantStep, outcome_of, refused_or, first_standing, producer_refusals, send_refusals, bytes_of, subscribe_refusal, close_refusals, unsubscribe_refusal, ack_refusals, ack_accepted, detach_refusals, asked_back, has_consumer, key_of, seat_of, start_of, granted, grants_too_many, learnt, HasLearnt, left}
@@ -50,8 +52,8 @@ use Rattle.topic_core.proofs.Openings.{sound-opened, receipts-opened, sound-reop
 use Rattle.topic_core.specs.Laws.{IsFlushed, IsAdmitted}
 use Rattle.topic_core.proofs.Sends.{takes_entry, sound-accepted, receipts-accepted}
 use Rattle.topic_core.proofs.Collects.{sound-collected, receipts-collected, sound-left, receipts-left}
-use Rattle.topic_core.proofs.Subscribing.{sound-subs, receipts-subs, sound-subscribed, receipts-subscribed, kept-subscribed, accepts, sound-acked, receipts-acked, kept-acked, first-acked, slots-attached, slots-acked}
-use Rattle.topic_core.proofs.Floors.{adds_none, same_acknowledged, handed_on_acknowledged, taken_back_acknowledged, failed_acknowledged, trimmed_end, finished_acknowledged, finished_slots, opened_acknowledged, reopened_acknowledged, left_below, left_end, trimmed_at_base}
+use Rattle.topic_core.proofs.Subscribing.{sound-subs, receipts-subs, sound-subscribed, receipts-subscribed, kept-subscribed, accepts, sound-acked, receipts-acked, kept-acked, first-acked, marks-attached, marks-acked}
+use Rattle.topic_core.proofs.Floors.{adds_none, same_acknowledged, handed_on_acknowledged, taken_back_acknowledged, failed_acknowledged, trimmed_end, finished_acknowledged, finished_marks, opened_acknowledged, reopened_acknowledged, left_below, left_end, trimmed_at_base}
 use Rattle.topic_core.proofs.States.{AreKeptBack, all_opened}
 use Rattle.topic_core.proofs.Meeting.{met}
 use Rattle.topic_core.proofs.Closings.{sound-producers, receipts-producers, close-works, sound-closing, receipts-closing, sound-unsubscribed, receipts-unsubscribed, kept-unsubscribed, changes-unsubscribed}
@@ -74,8 +76,8 @@ pub record Stays (old new : Topic) : Type 0 where
   pub ledger : new.ledger ≡ old.ledger
   pub durable : new.kept ≡ old.kept
   pub doubt : new.doubt ≡ old.doubt
-  -- where each entry had its slot, each has
-  pub slots : (ledger : Ledger) → old.subs.slots ≡ slots_of (lengthened ledger old.waiting) → new.subs.slots ≡ slots_of (lengthened ledger new.waiting)
+  -- where each entry had its marks, each has
+  pub marks : (ledger : Ledger) → marks_in old.subs ≡ marks_of (lengthened ledger old.waiting) → marks_in new.subs ≡ marks_of (lengthened ledger new.waiting)
 
 abbrev pub Keeps : Topic → Topic → Type 0
 Keeps old new = IsSound old → AreReceipts old → Stays old new
@@ -86,9 +88,9 @@ framed t new = record t { waiting = new.waiting; accepted = new.accepted; handed
 
 stays : (t new : Topic) → new ≡ framed t new → IsSound new → AreReceipts new → ((kept : Kept) → IsKept t.committed kept t.subs → IsKept t.committed kept new.subs)
     → entries_in_doubt new ≡ entries_in_doubt t
-    → changes_in_doubt new ≡ changes_in_doubt t → ((ledger : Ledger) → t.subs.slots ≡ slots_of (lengthened ledger t.waiting) → new.subs.slots ≡ slots_of (lengthened ledger new.waiting))
+    → changes_in_doubt new ≡ changes_in_doubt t → ((ledger : Ledger) → marks_in t.subs ≡ marks_of (lengthened ledger t.waiting) → marks_in new.subs ≡ marks_of (lengthened ledger new.waiting))
     → Stays t new
-stays t new frame sound receipts kept entries changes slots = record {
+stays t new frame sound receipts kept entries changes marks = record {
   sound = sound;
   receipts = receipts;
   committed = ap (λ (x : Topic). x.committed) frame;
@@ -100,7 +102,7 @@ stays t new frame sound receipts kept entries changes slots = record {
   ledger = ap (λ (x : Topic). x.ledger) frame;
   durable = ap (λ (x : Topic). x.kept) frame;
   doubt = ap (λ (x : Topic). x.doubt) frame;
-  slots = slots;
+  marks = marks;
 }
 
 still : (t : Topic) → Keeps t t
@@ -129,26 +131,33 @@ changes-acked : (t : Topic) (who : ℕ) (ack : Ack) → changes_of t.doubt ≤ l
 changes-acked t who ack low None = first-acked (changes_of t.doubt) ack.ack_type t.subs _ _ low
 changes-acked t who ack low (Some request) = first-acked (changes_of t.doubt) ack.ack_type t.subs _ _ low
 
-slots-answered : (t : Topic) (who : ℕ) (ack : Ack) (ledger : Ledger) → t.subs.slots ≡ slots_of (lengthened ledger t.waiting)
-    → (request : Option ℕ) → (ack_accepted t who ack request).topic.subs.slots ≡ slots_of (lengthened ledger (ack_accepted t who ack request).topic.waiting)
-slots-answered t who ack ledger is None = slots-acked ack.ack_type t.subs _ _ ∙ is
-slots-answered t who ack ledger is (Some request) = slots-acked ack.ack_type t.subs _ _ ∙ is
+marks-answered : (t : Topic) (who : ℕ) (ack : Ack) (ledger : Ledger) → marks_in t.subs ≡ marks_of (lengthened ledger t.waiting)
+    → (request : Option ℕ) → marks_in (ack_accepted t who ack request).topic.subs ≡ marks_of (lengthened ledger (ack_accepted t who ack request).topic.waiting)
+marks-answered t who ack ledger is None = marks-acked ack.ack_type t.subs _ _ ∙ is
+marks-answered t who ack ledger is (Some request) = marks-acked ack.ack_type t.subs _ _ ∙ is
 
--- the slot of an accepted entry comes last
-slots-accepted : (t : Topic) (ledger : Ledger) (entry : List ℕ) → t.subs.slots ≡ slots_of (lengthened ledger t.waiting)
-    → t.subs.slots ++ slot_of_entry entry ∷ [] ≡ slots_of (lengthened ledger (t.waiting ++ entry ∷ []))
-slots-accepted t ledger entry is =
-    ap (λ (slots : List ℕ). slots ++ slot_of_entry entry ∷ []) is
-    ∙ sym (slots_lengthened (lengthened ledger t.waiting) (entry ∷ []))
-    ∙ ap (λ (l : Ledger). slots_of l) (lengthened_both ledger t.waiting (entry ∷ []))
+-- what is known of an accepted entry comes last
+known-accepted : (gone : ℕ) (of : List ℕ → ℕ) (known : List ℕ) (ledger : Ledger) (waiting : List (List ℕ)) (entry : List ℕ) → known ≡ known_of gone of (lengthened ledger waiting)
+    → known ++ of entry ∷ [] ≡ known_of gone of (lengthened ledger (waiting ++ entry ∷ []))
+known-accepted gone of known ledger waiting entry is =
+    ap (λ (l : List ℕ). l ++ of entry ∷ []) is
+    ∙ sym (known_lengthened gone of (lengthened ledger waiting) (entry ∷ []))
+    ∙ ap (λ (l : Ledger). known_of gone of l) (lengthened_both ledger waiting (entry ∷ []))
+
+marks-accepted : (t : Topic) (ledger : Ledger) (entry : List ℕ) → marks_in t.subs ≡ marks_of (lengthened ledger t.waiting)
+    → marks_in (subscriptions.marked t.subs (slot_of_entry entry ∷ []) (messages_of_entry entry ∷ [])) ≡ marks_of (lengthened ledger (t.waiting ++ entry ∷ []))
+marks-accepted t ledger entry is =
+    let slots = known-accepted 0 slot_of_entry t.subs.slots ledger t.waiting entry (ap (λ (m : Marks). m.slots) is) in
+    let messages = known-accepted 1 messages_of_entry t.subs.messages ledger t.waiting entry (ap (λ (m : Marks). m.messages) is) in
+    (λ i. record { slots = slots i; messages = messages i })
 
 -- the subscriptions alone change, and add no change
 with-subs : (t : Topic) (subs : Subscriptions) → (AreSound t.subs → AreSound subs) → (IsCommitted t.committed t.subs → IsCommitted t.committed subs)
     → ((kept : Kept) → IsKept t.committed kept t.subs → IsKept t.committed kept subs)
-    → subs.changes ≡ t.subs.changes → subs.slots ≡ t.subs.slots → Keeps t (record t { subs = subs })
-with-subs t subs sound-to sent-to kept changes slots sound are = stays t _ refl
-    (sound-subs t subs sound (sound-to sound.subs) (sent-to sound.sent) (adds_none (floor t) t.subs subs changes) slots) (receipts-subs t subs are)
-    kept refl (ap (λ (cs : List Record). take (changes_of t.doubt) cs) changes) (λ ledger is. slots ∙ is)
+    → subs.changes ≡ t.subs.changes → marks_in subs ≡ marks_in t.subs → Keeps t (record t { subs = subs })
+with-subs t subs sound-to sent-to kept changes marks sound are = stays t _ refl
+    (sound-subs t subs sound (sound-to sound.subs) (sent-to sound.sent) (adds_none (floor t) t.subs subs changes) marks) (receipts-subs t subs are)
+    kept refl (ap (λ (cs : List Record). take (changes_of t.doubt) cs) changes) (λ ledger is. marks ∙ is)
 
 pub detached-keeps : (t : Topic) (key : ConsumerKey) → Keeps t (record t { subs = subscriptions.detached t.subs key })
 detached-keeps t key = with-subs t _ (λ s. each_sound.detach t.subs key s) (λ s. each_committed.detach t.committed t.subs key s) (λ kept is. are_kept.detach t.committed kept t.subs key is) refl refl
@@ -168,17 +177,17 @@ outcome-keeps t who (command.Producer id request name) word = either-keeps t (fi
 outcome-keeps t who (command.Send send) word = either-keeps t (first_standing (send_refusals t who send)) _ _ (λ none sound are. let fits = takes_entry t who send none in stays t _ refl
     (sound-accepted t who send.producer_id send.sequence_id (bytes_of send.entry) sound fits.0 fits.1 fits.2 fits.3)
     (receipts-accepted t who send.producer_id send.sequence_id (bytes_of send.entry) sound are)
-    (λ kept is. are_kept.slot t.committed kept t.subs (slot_of_entry (bytes_of send.entry) ∷ []) is)
+    (λ kept is. are_kept.mark t.committed kept t.subs (slot_of_entry (bytes_of send.entry) ∷ []) (messages_of_entry (bytes_of send.entry) ∷ []) is)
     (take-append-le (entries_of t.doubt) t.waiting (bytes_of send.entry ∷ []) (omega (arith, sound.promises))) refl
-    (λ ledger is. slots-accepted t ledger (bytes_of send.entry) is))
+    (λ ledger is. marks-accepted t ledger (bytes_of send.entry) is))
 outcome-keeps t who (command.Subscribe s) word = either-keeps t (subscribe_refusal t s) _ _ (λ none sound are.
     let start = subscriptions.start_of (start_of s.initial) (floor t) t.committed in
     stays t _ refl (sound-subscribed t who s word sound none) (receipts-subscribed t who s word sound none are) (λ kept is. kept-subscribed t who s word sound none kept is)
-    refl (doubt-attached t s.subscription s.mode (seat_of who s) word start sound.changes) (λ ledger is. slots-attached t.subs s.subscription s.mode (seat_of who s) word start ∙ is))
+    refl (doubt-attached t s.subscription s.mode (seat_of who s) word start sound.changes) (λ ledger is. marks-attached t.subs s.subscription s.mode (seat_of who s) word start ∙ is))
 outcome-keeps t who (command.Ack ack) word =
     either-keeps t (first_standing (ack_refusals t who ack)) _ _ (λ none sound are. let fits = accepts t who ack none in stays t _ (frame-acked t who ack ack.request_id)
     (sound-acked t who ack sound ack.request_id fits) (receipts-acked t who ack sound ack.request_id fits are) (λ kept is. kept-acked t who ack sound ack.request_id fits kept is)
-    (entries-acked t who ack ack.request_id) (changes-acked t who ack sound.changes ack.request_id) (λ ledger is. slots-answered t who ack ledger is ack.request_id))
+    (entries-acked t who ack ack.request_id) (changes-acked t who ack sound.changes ack.request_id) (λ ledger is. marks-answered t who ack ledger is ack.request_id))
 outcome-keeps t who (command.CloseProducer close) word = either-keeps t (first_standing (close_refusals t who close)) _ _ (λ none sound are.
     stays t _ refl (sound-closing t who close sound (close-works t who close none)) (receipts-closing t who close sound are) (λ kept is. is) refl refl (λ ledger is. is))
 outcome-keeps t who (command.Unsubscribe u) word = either-keeps t (unsubscribe_refusal t who u) _ _ (λ none sound are.
@@ -207,7 +216,7 @@ stays-sound old new stays sound = record {
   receipts = stays.receipts;
   counted = ap (λ (l : Ledger). end_of l) stays.ledger ∙ sound.counted ∙ sym stays.committed;
   kept = let P : Kept → Type 0 = λ k. IsKept new.committed k new.subs in subst P (sym stays.durable) (subst (λ c. IsKept c old.kept new.subs) (sym stays.committed) (stays.kept old.kept sound.kept));
-  slots = stays.slots old.ledger sound.slots ∙ ap (λ (l : Ledger). slots_of (lengthened l new.waiting)) (sym stays.ledger);
+  marks = stays.marks old.ledger sound.marks ∙ ap (λ (l : Ledger). marks_of (lengthened l new.waiting)) (sym stays.ledger);
   acknowledged = same_acknowledged old new stays.ledger stays.durable stays.doubt stays.changes sound.acknowledged;
 }
 
@@ -227,7 +236,7 @@ pub look-keeps : (t : Topic) (who : ℕ) (new : Topic) → HasLearnt who t new �
 look-keeps t who new h =
     to t new (record t { subs = new.subs }) h.same
     (with-subs t new.subs (λ s. each_sound.look t.subs new.subs who h.subs s) (λ s. each_committed.look t.committed t.subs new.subs who h.subs s)
-    (λ kept is. are_kept.look t.committed kept t.subs new.subs who h.subs is) (ap (λ (s : Subscriptions). s.changes) h.subs.same) (ap (λ (s : Subscriptions). s.slots) h.subs.same))
+    (λ kept is. are_kept.look t.committed kept t.subs new.subs who h.subs is) (ap (λ (s : Subscriptions). s.changes) h.subs.same) (ap (λ (s : Subscriptions). marks_in s) h.subs.same))
 
 pub look-sound : (t : Topic) (who : ℕ) (new : Topic) → HasLearnt who t new → IsSoundTopic t → IsSoundTopic new
 look-sound t who new h sound = stays-sound t new (look-keeps t who new h sound.state sound.receipts) sound
@@ -297,7 +306,7 @@ finished-sound old trim low sound =
       receipts = receipts-finished old sound.state trim sound.receipts;
       counted = trimmed_end old trim few sound.state.trims low;
       kept = kept-finished old trim sound.kept;
-      slots = finished_slots old trim few sound.state.trims low sound.slots;
+      marks = finished_marks old trim few sound.state.trims low sound.marks;
       acknowledged = finished_acknowledged old trim few sound.state.trims low sound.acknowledged;
     }
 
@@ -307,7 +316,7 @@ taken_back-sound old sound = record {
   receipts = receipts-taken_back old sound.state sound.receipts;
   counted = sound.counted;
   kept = sound.kept;
-  slots = sound.slots;
+  marks = sound.marks;
   acknowledged = taken_back_acknowledged old sound.acknowledged;
 }
 
@@ -317,7 +326,7 @@ failed-sound old sound = record {
   receipts = receipts-failed old sound.state sound.receipts;
   counted = sound.counted;
   kept = sound.kept;
-  slots = sound.slots;
+  marks = sound.marks;
   acknowledged = failed_acknowledged old sound.acknowledged;
 }
 
@@ -328,7 +337,7 @@ handed_on-sound old trim point sound = record {
   receipts = receipts-handed_on old sound.state trim sound.receipts;
   counted = sound.counted;
   kept = sound.kept;
-  slots = sound.slots;
+  marks = sound.marks;
   acknowledged = handed_on_acknowledged old sound.kept sound.state.trims sound.acknowledged trim point;
 }
 
@@ -393,25 +402,25 @@ left-fits old ledger kept sound is =
 pub crash-sound : (old new : Topic) → TopicCrash old new → IsSoundTopic old → IsSoundTopic new
 crash-sound old new crash sound =
     let fits = left-fits old new.ledger new.kept sound crash.left in
-    along new (opened old.per_ledger new.ledger (slots_of new.ledger) new.kept) crash.again (record {
-      state = sound-opened old.per_ledger new.ledger (slots_of new.ledger) new.kept sound.state.numbered fits.few (length_slots new.ledger) fits.durable;
-      receipts = receipts-opened old.per_ledger new.ledger (slots_of new.ledger) new.kept;
+    along new (opened old.per_ledger new.ledger (marks_of new.ledger) new.kept) crash.again (record {
+      state = sound-opened old.per_ledger new.ledger (marks_of new.ledger) new.kept sound.state.numbered fits.few (are_marks new.ledger) fits.durable;
+      receipts = receipts-opened old.per_ledger new.ledger (marks_of new.ledger) new.kept;
       counted = refl;
-      kept = are_kept.slot (end_of new.ledger) new.kept (subscriptions.opened new.kept) (slots_of new.ledger) (are_kept.opened (end_of new.ledger) new.kept fits.durable);
-      slots = slots_none new.ledger;
-      acknowledged = opened_acknowledged old.per_ledger new.ledger (slots_of new.ledger) new.kept fits.below;
+      kept = are_kept.mark (end_of new.ledger) new.kept (subscriptions.opened new.kept) (slots_of new.ledger) (messages_of new.ledger) (are_kept.opened (end_of new.ledger) new.kept fits.durable);
+      marks = marks_none new.ledger;
+      acknowledged = opened_acknowledged old.per_ledger new.ledger (marks_of new.ledger) new.kept fits.below;
     })
 
 reopen-ends-sound : (old : Topic) (result : Result (Unit {0}) Refusal) (new : Topic) → old.failed ≡ true → ReopenEnds old result new → IsSoundTopic old → IsSoundTopic new
 reopen-ends-sound old (Ok done) new was h sound =
     let fits = left-fits old new.ledger new.kept sound h.0 in
-    along new (reopened old new.ledger (slots_of new.ledger) new.kept) h.1 (record {
-      state = sound-reopened old new.ledger (slots_of new.ledger) new.kept sound.state was fits.more fits.few (length_slots new.ledger) fits.durable;
-      receipts = receipts-reopened old new.ledger (slots_of new.ledger) new.kept sound.state sound.receipts was fits.more;
+    along new (reopened old new.ledger (marks_of new.ledger) new.kept) h.1 (record {
+      state = sound-reopened old new.ledger (marks_of new.ledger) new.kept sound.state was fits.more fits.few (are_marks new.ledger) fits.durable;
+      receipts = receipts-reopened old new.ledger (marks_of new.ledger) new.kept sound.state sound.receipts was fits.more;
       counted = refl;
-      kept = are_kept.slot (end_of new.ledger) new.kept (subscriptions.opened new.kept) (slots_of new.ledger) (are_kept.opened (end_of new.ledger) new.kept fits.durable);
-      slots = slots_none new.ledger;
-      acknowledged = reopened_acknowledged old new.ledger (slots_of new.ledger) new.kept fits.below;
+      kept = are_kept.mark (end_of new.ledger) new.kept (subscriptions.opened new.kept) (slots_of new.ledger) (messages_of new.ledger) (are_kept.opened (end_of new.ledger) new.kept fits.durable);
+      marks = marks_none new.ledger;
+      acknowledged = reopened_acknowledged old new.ledger (marks_of new.ledger) new.kept fits.below;
     })
 reopen-ends-sound old (Err refusal.NoMemory) new was h sound = along new old h sound
 reopen-ends-sound old (Err refusal.Device) new was h sound = along new old h sound

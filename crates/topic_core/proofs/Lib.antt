@@ -1,6 +1,7 @@
 pub mod Ids
 pub mod Meeting
 pub mod LastEntries
+pub mod Counting
 pub mod Slotted
 pub mod Floors
 pub mod Queues

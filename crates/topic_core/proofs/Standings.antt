@@ -19,10 +19,11 @@ use Rattle.records.specs.declared.record.Record.{Record}
 use Rattle.records.specs.Maps.{Kept}
 use Rattle.records.specs.Records.{AreFormed, after_all}
 use Rattle.holds.specs.declared.consumer.ConsumerKey.{ConsumerKey}
+use Rattle.subscriptions.specs.Marks.{marks_in}
 use Rattle.subscriptions.specs.Laws.{IsKept}
 use Rattle.subscriptions.proofs.Durable.{are_kept, formed_take, formed_longer}
-use Rattle.topic_core.specs.Slots.{slots_of}
-use Rattle.topic_core.proofs.Slotted.{slots_none}
+use Rattle.topic_core.specs.Messages.{marks_of}
+use Rattle.topic_core.proofs.Slotted.{marks_none}
 use Rattle.topic_core.specs.State.{Topic, floor, floor_of, entries_of, changes_of, entries_in_doubt, changes_in_doubt}
 use Rattle.topic_core.specs.Soundness.{IsSound, HasFloor, IsAcknowledged, IsSoundTopic}
 use Rattle.topic_core.specs.Flush.{IsTrimPoint, IsFlush, has_no_flush, handed_on, finished, taken_back, failed, flushed, FinishStep, FlushStep, FlushIn}
@@ -33,7 +34,7 @@ use Rattle.subscriptions.specs.Steps as subscriptions
 use Rattle.subscriptions.specs.Steps.{IsLearnt}
 use Rattle.topic_core.specs.Steps.{key_of, learnt, HasLearnt, left}
 use Rattle.topic_core.specs.Dispatch.{sent}
-use Rattle.topic_core.proofs.Floors.{trimmed_at, trimmed_same, starts_lower, have_lower, same_acknowledged, handed_on_acknowledged, taken_back_acknowledged, failed_acknowledged, point_rises, trimmed_end, finished_acknowledged, finished_slots, reopened_acknowledged, left_end}
+use Rattle.topic_core.proofs.Floors.{trimmed_at, trimmed_same, starts_lower, have_lower, same_acknowledged, handed_on_acknowledged, taken_back_acknowledged, failed_acknowledged, point_rises, trimmed_end, finished_acknowledged, finished_marks, reopened_acknowledged, left_end}
 use Rattle.topic_core.proofs.Keeps.{Stays, kept-finished, finished-sound, handed_on-sound, step-keeps, grant-keeps, look-keeps, dispatch-keeps, collect-keeps, leave-keeps}
 use Rattle.topic_core.specs.Standing.{Phase, Before, Written, Lost, phase_after, phase_then, resting, IsFor, Match, Holds, Standing, GoesOn}
 use Rattle.permits.specs.Ends.{Seen}
@@ -83,12 +84,12 @@ taken_for t batch sound works entries changes point =
 
 module _ (stands : ℕ → Image → Ledger → Kept → Type 0) where
   -- a store that is settled with what is committed holds the topic
-  pub standing_before : (t : Topic) (v : StoreView) (d : Disk) → AreLaws stands v → Match Before t v → end_of t.ledger ≡ t.committed → t.subs.slots ≡ slots_of (lengthened t.ledger t.waiting) → IsAcknowledged t → Settled v d t.ledger t.kept → Standing stands Before t v d
-  standing_before t v d laws m counted slots acknowledged x = record {
+  pub standing_before : (t : Topic) (v : StoreView) (d : Disk) → AreLaws stands v → Match Before t v → end_of t.ledger ≡ t.committed → marks_in t.subs ≡ marks_of (lengthened t.ledger t.waiting) → IsAcknowledged t → Settled v d t.ledger t.kept → Standing stands Before t v d
+  standing_before t v d laws m counted marks acknowledged x = record {
     matched = m;
     honest = x.settled.honest;
     counted = counted;
-    slots = slots;
+    marks = marks;
     acknowledged = acknowledged;
     left = λ c may. record { ledger = t.ledger; kept = t.kept; is_left = inl (refl, refl); stands = laws.stands c t.ledger t.kept (x.settled.left c may) };
     holds = x;
@@ -152,7 +153,7 @@ module _ (stands : ℕ → Image → Ledger → Kept → Type 0) where
     matched = match_goes_on phase old new v go h.matched;
     honest = h.honest;
     counted = ap (λ (l : Ledger). end_of l) go.ledger ∙ h.counted ∙ sym go.committed;
-    slots = go.slots old.ledger h.slots ∙ ap (λ (l : Ledger). slots_of (lengthened l new.waiting)) (sym go.ledger);
+    marks = go.marks old.ledger h.marks ∙ ap (λ (l : Ledger). marks_of (lengthened l new.waiting)) (sym go.ledger);
     acknowledged = same_acknowledged old new go.ledger go.durable go.doubt go.changes h.acknowledged;
     left = λ c may. stands_like (stands v.topic) (IsLeft old) (IsLeft new) c (λ l k is. left_like _ _ _ _ _ _ _ _ _ _ (sym go.ledger) (sym go.durable) (sym go.entries) (sym go.changes) (sym (floor_goes_on old new go)) l k is) (h.left c may);
     holds = holds_goes_on phase old new v d go h.holds;
@@ -165,7 +166,7 @@ module _ (stands : ℕ → Image → Ledger → Kept → Type 0) where
 
   pub standing_handed_on : (t : Topic) (limit : ℕ) (v : StoreView) (d : Disk) → AreLaws stands v → HasFloor t → IsTrimPoint t limit → Standing stands Before t v d → Standing stands Before (handed_on t limit) v d
   standing_handed_on t limit v d laws floored point h =
-      standing_before (handed_on t limit) v d laws (match_handed_on t limit v h.matched) h.counted h.slots (handed_on_acknowledged t h.matched.kept floored h.acknowledged limit point) h.holds
+      standing_before (handed_on t limit) v d laws (match_handed_on t limit v h.matched) h.counted h.marks (handed_on_acknowledged t h.matched.kept floored h.acknowledged limit point) h.holds
 
   -- ---- Write
 
@@ -241,7 +242,7 @@ module _ (stands : ℕ → Image → Ledger → Kept → Type 0) where
         matched = written_match v w r h.matched remembers;
         honest = counted.honest h.honest;
         counted = h.counted;
-        slots = h.slots;
+        marks = h.marks;
         acknowledged = h.acknowledged;
         left = λ c may. subst (λ t. StandsFor (stands t) (IsLeft on) c) (sym topic) (left_is c (within.any_moment.now c may).own);
         holds = holds_after r ok none;
@@ -275,15 +276,15 @@ module _ (stands : ℕ → Image → Ledger → Kept → Type 0) where
           let trim = min base (floor on) in
           let low : trim ≤ floor on = omega arith in
           let same : base ≡ trim = omega (arith, h.matched.remembers.within) in
-          standing_before (finished on trim) v d laws (finished_match base v h.matched) (trimmed_end on trim fits floored low) (finished_slots on trim fits floored low h.slots)
+          standing_before (finished on trim) v d laws (finished_match base v h.matched) (trimmed_end on trim fits floored low) (finished_marks on trim fits floored low h.marks)
           (finished_acknowledged on trim fits floored low h.acknowledged) (subst (λ (b : ℕ). Settled v d (trimmed b (longer on)) (changed on)) same h.holds)
 
       taken_back_standing : Standing stands Before on v d → Standing stands Before (taken_back on) v d
-      taken_back_standing h = standing_before (taken_back on) v d laws (taken_back_match v h.matched) h.counted h.slots (taken_back_acknowledged on h.acknowledged) h.holds
+      taken_back_standing h = standing_before (taken_back on) v d laws (taken_back_match v h.matched) h.counted h.marks (taken_back_acknowledged on h.acknowledged) h.holds
 
       failed_standing : Standing stands Lost on v d → Standing stands Lost (failed on) v d
       failed_standing h =
-          record { matched = failed_match v h.matched; honest = h.honest; counted = h.counted; slots = h.slots; acknowledged = failed_acknowledged on h.acknowledged; left = λ c may. h.left c may; holds = tt }
+          record { matched = failed_match v h.matched; honest = h.honest; counted = h.counted; marks = h.marks; acknowledged = failed_acknowledged on h.acknowledged; left = λ c may. h.left c may; holds = tt }
 
       pub finish_standing : (written : Result ℕ WriteError) (result : Result ℕ WriteError) (t2 : Topic) → FinishStep on written result t2 → Standing stands (phase_after written) on v d → Standing stands (resting t2.failed) t2 v d
       finish_standing (Ok base) result t2 f h =
@@ -322,10 +323,10 @@ module _ (t : Topic) (sound : IsSound t) (works : t.failed ≡ false) (some : ha
 
 -- ---- an opening
 
-pub reopened_standing : (stands : ℕ → Image → Ledger → Kept → Type 0) (t t2 : Topic) (v : StoreView) (d : Disk) (ledger : Ledger) (kept : Kept) → AreLaws stands v → t2 ≡ reopened t ledger (slots_of ledger) kept → Match Before t2 v → HaveBelow ledger.base kept → Settled v d ledger kept → Standing stands Before t2 v d
+pub reopened_standing : (stands : ℕ → Image → Ledger → Kept → Type 0) (t t2 : Topic) (v : StoreView) (d : Disk) (ledger : Ledger) (kept : Kept) → AreLaws stands v → t2 ≡ reopened t ledger (marks_of ledger) kept → Match Before t2 v → HaveBelow ledger.base kept → Settled v d ledger kept → Standing stands Before t2 v d
 reopened_standing stands t t2 v d ledger kept laws core m below x =
     subst (λ (k : Topic). Match Before k v → Standing stands Before k v d) (sym core)
-    (λ m2. standing_before stands (reopened t ledger (slots_of ledger) kept) v d laws m2 refl (slots_none ledger) (reopened_acknowledged t ledger (slots_of ledger) kept below) x) m
+    (λ m2. standing_before stands (reopened t ledger (marks_of ledger) kept) v d laws m2 refl (marks_none ledger) (reopened_acknowledged t ledger (marks_of ledger) kept below) x) m
 
 -- what was left has as many entries at least
 pub left_more : (t : Topic) (ledger : Ledger) (kept : Kept) → HasFloor t → IsLeft t ledger kept → end_of t.ledger ≤ end_of ledger
@@ -356,7 +357,7 @@ goes_on old new stays = record {
   changes = stays.changes;
   per_ledger = stays.per_ledger;
   kept = λ kept is. subst (λ n. IsKept n kept new.subs) (sym stays.committed) (stays.kept kept is);
-  slots = stays.slots;
+  marks = stays.marks;
 }
 
 -- so far as GoesOn says nothing of permits, no bound is asked for
@@ -371,7 +372,7 @@ known-goes_on t who id known = record {
   changes = refl;
   per_ledger = refl;
   kept = λ kept is. are_kept.learn t.committed kept t.subs (key_of who id) known is;
-  slots = λ ledger is. is;
+  marks = λ ledger is. is;
 }
 
 pub is_learnt-goes_on : (t new : Topic) (who id : ℕ) → IsLearnt (learnt t who id) new → GoesOn t new
@@ -388,14 +389,14 @@ given_goes_on t key i n = record {
   changes = refl;
   per_ledger = refl;
   kept = λ kept is. are_kept.learn t.committed kept (subscriptions.sent t.subs key i) key n (are_kept.send t.committed kept t.subs key i is);
-  slots = λ ledger is. is;
+  marks = λ ledger is. is;
 }
 
 pub given-goes_on : (t : Topic) (key : ConsumerKey) (i : ℕ) (subs : Subscriptions) → IsLearnt (subscriptions.learnt (subscriptions.sent t.subs key i) key) subs → GoesOn t (record t { subs = subs })
 given-goes_on t key i subs l = subst (λ (s : Subscriptions). GoesOn t (record t { subs = s })) (sym l.same) (given_goes_on t key i l.seen)
 
 pub same_goes_on : (t : Topic) → GoesOn t t
-same_goes_on t = record { committed = refl; ledger = refl; durable = refl; failed = refl; doubt = refl; entries = refl; changes = refl; per_ledger = refl; kept = λ kept is. is; slots = λ ledger is. is }
+same_goes_on t = record { committed = refl; ledger = refl; durable = refl; failed = refl; doubt = refl; entries = refl; changes = refl; per_ledger = refl; kept = λ kept is. is; marks = λ ledger is. is }
 
 looked_goes_on : (t : Topic) (who : ℕ) (subs : Subscriptions) → subscriptions.HasLearnt who t.subs subs → GoesOn t (record t { subs = subs })
 looked_goes_on t who subs h = record {
@@ -408,7 +409,7 @@ looked_goes_on t who subs h = record {
   changes = ap (λ (s : Subscriptions). take (changes_of t.doubt) s.changes) h.same;
   per_ledger = refl;
   kept = λ kept is. are_kept.look t.committed kept t.subs subs who h is;
-  slots = λ ledger is. ap (λ (s : Subscriptions). s.slots) h.same ∙ is;
+  marks = λ ledger is. ap (λ (s : Subscriptions). marks_in s) h.same ∙ is;
 }
 
 pub looked-goes_on : (t new : Topic) (who : ℕ) → HasLearnt who t new → GoesOn t new

@@ -1,5 +1,5 @@
 -- What a crash leaves of a topic, and what an opening makes of a failed one.
-use Rattle.std.specs.Prelude.{◌≡◌, ℕ, ◌<◌, Bool, true, false, Result, Ok, Err, List}
+use Rattle.std.specs.Prelude.{◌≡◌, ℕ, ◌<◌, Bool, true, false, Result, Ok, Err}
 use Rattle.disk.specs.declared.file_id.FileId.TheVariants.{Segment}
 use Rattle.disk.specs.Disk.{Image}
 use Rattle.gated_log.specs.declared.refusal.Refusal.{Refusal}
@@ -7,8 +7,9 @@ use Rattle.gated_log.specs.declared.refusal.Refusal.TheVariants as refusal
 use Rattle.managed_ledger.specs.Entries.{Ledger, end_of, lengthened}
 use Rattle.records.specs.Maps.{Kept}
 use Rattle.records.specs.Records.{after_all}
+use Rattle.subscriptions.specs.Marks.{Marks}
 use Rattle.topic_stores.specs.Writing as stores
-use Rattle.topic_core.specs.Slots.{slots_of}
+use Rattle.topic_core.specs.Messages.{marks_of}
 use Rattle.topic_core.specs.State.{Topic, opened, floor, entries_in_doubt, changes_in_doubt}
 
 -- the ledger with all entries in doubt, and the durable subscriptions with all changes in doubt
@@ -26,15 +27,15 @@ IsLeft old ledger kept = stores.IsLeft old.ledger old.kept (entries_in_doubt old
 -- what a crash leaves of a topic: its ledger and its durable subscriptions, just opened
 pub record TopicCrash (old new : Topic) : Type 0 where
   pub left : IsLeft old new.ledger new.kept
-  pub again : new ≡ opened old.per_ledger new.ledger (slots_of new.ledger) new.kept
+  pub again : new ≡ opened old.per_ledger new.ledger (marks_of new.ledger) new.kept
 
 -- a failed topic that was opened again: what it owes and what it counted stay
-abbrev pub reopened : Topic → Ledger → List ℕ → Kept → Topic
-reopened t ledger slots kept = record (opened t.per_ledger ledger slots kept) { accepted = t.accepted; handed = t.handed; queues = t.queues }
+abbrev pub reopened : Topic → Ledger → Marks → Kept → Topic
+reopened t ledger marks kept = record (opened t.per_ledger ledger marks kept) { accepted = t.accepted; handed = t.handed; queues = t.queues }
 
 -- the opening of a failed topic: a crash's outcome, or it is refused and the topic stays as it was
 abbrev pub ReopenEnds : Topic → Result (Unit {0}) Refusal → Topic → Type 0
-ReopenEnds old (Ok done) new = IsLeft old new.ledger new.kept × (new ≡ reopened old new.ledger (slots_of new.ledger) new.kept)
+ReopenEnds old (Ok done) new = IsLeft old new.ledger new.kept × (new ≡ reopened old new.ledger (marks_of new.ledger) new.kept)
 ReopenEnds old (Err refusal.NoMemory) new = new ≡ old
 ReopenEnds old (Err refusal.Device) new = new ≡ old
 ReopenEnds old (Err (refusal.Damaged file offset)) new = ⊥

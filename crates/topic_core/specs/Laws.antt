@@ -1,5 +1,5 @@
 -- What holds of every step of a topic.
-use Rattle.std.specs.Prelude.{◌≡◌, ℕ, ◌+◌, ◌<◌, ◌≤◌, ◌^◌, ◌↔◌, true, false, Option, None, Some, Result, Ok, List, [], ◌∷◌, ◌++◌, length, filter, IsTrue, IsSomeAnd}
+use Rattle.std.specs.Prelude.{◌≡◌, ℕ, ◌+◌, ◌<◌, ◌≤◌, ◌^◌, ◌↔◌, true, false, Option, None, Some, Result, Ok, List, [], ◌∷◌, ◌++◌, length, filter, slice_index, IsTrue, IsSomeAnd}
 use Rattle.std.specs.List.{find}
 use Rattle.ids.specs.Ids.{message_id_at, Names}
 use Rattle.ids.specs.declared.message_id.MessageIdData.{MessageIdData}
@@ -24,11 +24,12 @@ use Rattle.topic_core.specs.declared.command.Answer.TheVariants.{Now, Later, Not
 use Rattle.reply_queues.specs.Replies.{is_receipt, due_to, pending_to}
 use Rattle.topic_core.specs.declared.dispatch.Outgoing.{Outgoing}
 use Rattle.topic_core.specs.Slots.{slot_of_entry}
+use Rattle.topic_core.specs.Messages.{messages_of_entry}
 use Rattle.topic_core.specs.State.{Topic, receipts_due}
 use Rattle.records.specs.Maps.{Kept}
 use Rattle.topic_core.specs.Soundness.{IsSound, AreReceipts, IsSoundTopic}
 use Rattle.topic_core.specs.Steps.{TopicStep, Collects, GrantStep, Fits, bytes_of, has_consumer, key_of, learnt, HasLearnt, is_open, is_committed, position_at, left}
-use Rattle.topic_core.specs.Dispatch.{DispatchStep, Admits}
+use Rattle.topic_core.specs.Dispatch.{DispatchStep, Admits, IsSent}
 use Rattle.topic_core.specs.Flush.{FlushStep, TakeStep, FinishStep, IsTrimPoint, handed_on}
 use Rattle.topic_core.specs.Crashes.{IsLeft, TopicCrash, ReopenStep}
 use Rattle.permits.specs.Ends.{Seen}
@@ -99,6 +100,11 @@ abbrev pub MessagesGoToTheirRanges : Type 0
 MessagesGoToTheirRanges = (old : Topic) (who id : ℕ) (outgoing : Outgoing) (new : Topic) → IsSoundTopic old → DispatchStep old who id (Ok (Some outgoing)) new
     → (s : Subscription) → find (is_on (key_of who id)) old.subs.subs ≡ Some s → s.mode ≡ KeyShared
     → IsSomeAnd (attached (key_of who id) s.seats) (λ seat. IsTrue (in_ranges seat.ranges (slot_of_entry outgoing.entry)))
+
+-- a message counts for its consumer as many messages as the entry has that goes out
+abbrev pub MessagesAreCounted : Type 0
+MessagesAreCounted = (old : Topic) (who id : ℕ) (outgoing : Outgoing) (new : Topic) → IsSoundTopic old → DispatchStep old who id (Ok (Some outgoing)) new
+    → (i : ℕ) × IsSent old (key_of who id) i outgoing new × (slice_index old.subs.messages i ≡ messages_of_entry outgoing.entry)
 
 -- an id of an ACK is that of a committed entry exactly where it names a committed position, and that is the one acknowledged
 abbrev pub IdsArePositions : Type 0

@@ -1,4 +1,5 @@
 pub mod Slots
+pub mod Messages
 pub mod State
 pub mod Recent
 pub mod Soundness

@@ -5,12 +5,13 @@ use Rattle.managed_ledger.specs.Entries.{Ledger, end_of, lengthened, trimmed}
 use Rattle.records.specs.Floors.{StartFrom}
 use Rattle.records.specs.Maps.{Kept}
 use Rattle.subscriptions.specs.Laws.{IsKept}
+use Rattle.subscriptions.specs.Marks.{marks_in}
 use Rattle.topic_stores.specs.declared.batch.Batch.{Batch}
 use Rattle.topic_stores.specs.declared.error.WriteError.{WriteError}
 use Rattle.topic_stores.specs.declared.error.WriteError.TheVariants.{Device, NoMemory}
 use Rattle.topic_stores.specs.Views.{StoreView, Settled}
 use Rattle.topic_stores.specs.Writing.{StandsFor}
-use Rattle.topic_core.specs.Slots.{slots_of}
+use Rattle.topic_core.specs.Messages.{marks_of}
 use Rattle.topic_core.specs.State.{Topic, floor, entries_of, entries_in_doubt, changes_in_doubt}
 use Rattle.topic_core.specs.Flush.{awaits}
 use Rattle.topic_core.specs.Crashes.{IsLeft, longer, changed}
@@ -95,19 +96,19 @@ Holds (Written base) core v disk = Settled v disk (trimmed base (longer core)) (
 Holds Lost core v disk = Unit {0}
 
 -- Topic, store and device hold a topic together, in this phase. Whatever a crash now leaves stands for what a crash leaves of the
--- topic. Each entry has its slot, and what a trim took or may take is acknowledged.
+-- topic. Each entry has its marks, and what a trim took or may take is acknowledged.
 pub record Standing (files_stand : ℕ → Image → Ledger → Kept → Type 0) (phase : Phase) (core : Topic) (v : StoreView) (disk : Disk) : Type 0 where
   pub matched : Match phase core v
   pub honest : disk.honest
   pub counted : end_of core.ledger ≡ core.committed
-  pub slots : core.subs.slots ≡ slots_of (lengthened core.ledger core.waiting)
+  pub marks : marks_in core.subs ≡ marks_of (lengthened core.ledger core.waiting)
   pub acknowledged : IsAcknowledged core
   pub left : (files : Image) → disk.may_leave files → StandsFor (files_stand v.topic) (IsLeft core) files
   pub holds : Holds phase core v disk
 
 -- Store and device that go with the old core go with the new one: the same entries are committed, it works or has failed as
 -- before, the same is in doubt, and the subscriptions are what the changes make of the same durable ones. A ledger id has as
--- many entry ids as before, and where each entry had its slot, each has.
+-- many entry ids as before, and where each entry had its marks, each has.
 pub record GoesOn (old new : Topic) : Type 0 where
   pub committed : new.committed ≡ old.committed
   pub ledger : new.ledger ≡ old.ledger
@@ -118,4 +119,4 @@ pub record GoesOn (old new : Topic) : Type 0 where
   pub changes : changes_in_doubt new ≡ changes_in_doubt old
   pub kept : (kept : Kept) → IsKept old.committed kept old.subs → IsKept new.committed kept new.subs
   pub per_ledger : new.per_ledger ≡ old.per_ledger
-  pub slots : (ledger : Ledger) → old.subs.slots ≡ slots_of (lengthened ledger old.waiting) → new.subs.slots ≡ slots_of (lengthened ledger new.waiting)
+  pub marks : (ledger : Ledger) → marks_in old.subs ≡ marks_of (lengthened ledger old.waiting) → marks_in new.subs ≡ marks_of (lengthened ledger new.waiting)

@@ -3,6 +3,7 @@ use Rattle.std.specs.Prelude.{◌≡◌, ℕ, ◌+◌, Bool, false, Option, Some
 use Rattle.std.specs.FinMap as map
 use Rattle.managed_ledger.specs.Entries.{Ledger, end_of, whole}
 use Rattle.subscriptions.specs.State.{Subscriptions}
+use Rattle.subscriptions.specs.Marks.{Marks, no_marks}
 use Rattle.subscriptions.specs.Steps as subscriptions
 use Rattle.records.specs.declared.record.Record.{Record}
 use Rattle.records.specs.Maps.{Kept}
@@ -34,9 +35,9 @@ pub record CountsStay (old new : Topic) : Type 0 where
   pub accepted : new.accepted ≡ old.accepted
   pub handed : new.handed ≡ old.handed
 
--- a topic that was opened over these committed entries, with these slots, and these durable subscriptions, and that nothing happened to since
-abbrev pub opened : ℕ → Ledger → List ℕ → Kept → Topic
-opened per_ledger ledger slots kept = record {
+-- a topic that was opened over these committed entries, with these marks, and these durable subscriptions, and that nothing happened to since
+abbrev pub opened : ℕ → Ledger → Marks → Kept → Topic
+opened per_ledger ledger marks kept = record {
   per_ledger = per_ledger;
   committed = end_of ledger;
   ledger = ledger;
@@ -45,7 +46,7 @@ opened per_ledger ledger slots kept = record {
   accepted = 0;
   handed = 0;
   producers = [];
-  subs = subscriptions.slotted (subscriptions.opened kept) slots;
+  subs = subscriptions.marked (subscriptions.opened kept) marks.slots marks.messages;
   queues = [];
   doubt = None;
   failed = false;
@@ -53,7 +54,7 @@ opened per_ledger ledger slots kept = record {
 
 -- a topic that was just made
 abbrev pub just_made : ℕ → Topic
-just_made per_ledger = opened per_ledger (whole []) [] map.empty
+just_made per_ledger = opened per_ledger (whole []) no_marks map.empty
 
 -- how many of the waiting entries and of the changes a flush handed on
 abbrev pub entries_of : Option Doubt → ℕ

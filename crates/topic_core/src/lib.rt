@@ -18,6 +18,7 @@ mod found_entries;
 mod id_counts;
 mod laws;
 mod making;
+mod messages;
 mod name_counts;
 mod opening;
 mod producer;
@@ -36,7 +37,7 @@ pub use command::{Answer, PlainEntry, Send, SentEntry, Subscribe, TopicCommand};
 pub use dispatch::{AtHand, Outgoing};
 pub use laws::{
     answers_are_no_receipts, answers_fit, commands_hand_out_nothing, entries_are_published,
-    flushes_commit, flushes_keep, ids_are_positions, messages_are_admitted,
+    flushes_commit, flushes_keep, ids_are_positions, messages_are_admitted, messages_are_counted,
     messages_go_to_their_ranges, receipts_are_covered, stays_sound, topics_go_on,
 };
 pub use permits::TooManyPermits;

@@ -4,6 +4,7 @@ ghost use Rattle.std.specs.FinMap as map;
 ghost use Rattle.disk.specs.Disk.{Kept as Counted, Failed};
 ghost use Rattle.disk.specs.Areas.{OfTopic, Within};
 ghost use Rattle.managed_ledger.specs.Entries.{whole};
+ghost use Rattle.subscriptions.specs.Marks.{no_marks};
 ghost use Rattle.topic_stores.specs.Views.{Settled};
 ghost use Rattle.topic_core.specs.State.{opened};
 ghost use Rattle.topic_core.specs.Standing.{Match, resting};
@@ -29,7 +30,7 @@ impl<G: Gauge> TopicCore<G> {
         per_ledger: u32,
     ) -> Result<(TopicCore<G>, T), DeviceError>
         requires numbered { 0 < per_ledger }
-        ensures fresh { IfOk result (λ o. o.0 ≡ opened per_ledger (whole []) [] map.empty) }
+        ensures fresh { IfOk result (λ o. o.0 ≡ opened per_ledger (whole []) no_marks map.empty) }
         ensures settled { (S.disk shelf.old).honest → IfOk result (λ o. Settled (T.view o.1) (S.disk shelf.new) (whole []) map.empty) }
         ensures matched { IfOk result (λ o. Match (resting false) o.0 (T.view o.1)) }
         ensures topic { IfOk result (λ o. (T.view o.1).topic ≡ topic) }

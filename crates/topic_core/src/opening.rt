@@ -4,10 +4,11 @@ ghost use Rattle.disk.specs.Disk.{Same, Leaves, Kept as Counted, Failed};
 ghost use Rattle.disk.specs.Areas.{Agree, OfTopic, Within};
 ghost use Rattle.gated_log.specs.declared.refusal.Refusal.TheVariants.{Device, NoMemory};
 ghost use Rattle.managed_ledger.specs.Entries.{end_of};
-ghost use Rattle.subscriptions.specs.Steps.{slotted, opened as opened_subscriptions};
+ghost use Rattle.subscriptions.specs.Steps.{marked, opened as opened_subscriptions};
 ghost use Rattle.subscriptions.specs.Laws.{AreDurable};
 ghost use Rattle.topic_stores.specs.Views.{Settled};
 ghost use Rattle.topic_stores.specs.Writing.{StandsFor};
+ghost use Rattle.topic_core.specs.Messages.{marks_of, messages_of};
 ghost use Rattle.topic_core.specs.Slots.{slots_of};
 ghost use Rattle.topic_core.specs.State.{CountsStay, opened};
 ghost use Rattle.topic_core.specs.Crashes.{IsLeft, IsShorter, ReopenStep, reopened};
@@ -23,12 +24,12 @@ use gated_log::Refusal;
 use permits::Gauge;
 use reply_queues::ReplyQueues;
 use std::alloc::Global;
-use subscriptions::{HashSlots, Subscriptions};
+use subscriptions::{EntryMarks, Subscriptions};
 use topic_stores::TopicStore;
 
 impl<G: Gauge> TopicCore<G> {
     /// Opens the store of a topic, where a ledger id has so many entry ids, and the topic over it. Each file is synced once and
-    /// read once: the slots of the entries are known from that pass. The first fault is told, and nothing is written.
+    /// read once: the slots of the entries, and how many messages they have, are known from that pass. The first fault is told, and nothing is written.
     pub fn open<T: TopicStore, S: Shelf>(
         alloc: Global,
         shelf: &mut S,
@@ -36,7 +37,7 @@ impl<G: Gauge> TopicCore<G> {
         per_ledger: u32,
     ) -> Result<(TopicCore<G>, T), Refusal>
         requires numbered { 0 < per_ledger }
-        ensures opened { IfOk result (λ o. (end_of o.0.ledger ≡ (T.view o.1).count) × (o.0 ≡ opened per_ledger o.0.ledger (slots_of o.0.ledger) (T.view o.1).kept)) }
+        ensures opened { IfOk result (λ o. (end_of o.0.ledger ≡ (T.view o.1).count) × (o.0 ≡ opened per_ledger o.0.ledger (marks_of o.0.ledger) (T.view o.1).kept)) }
         ensures settled { (S.disk shelf.old).honest → IfOk result (λ o. Settled (T.view o.1) (S.disk shelf.new) o.0.ledger (T.view o.1).kept) }
         ensures matched { IfOk result (λ o. Match (resting false) o.0 (T.view o.1)) }
         ensures few { IfOk result (λ o. (T.view o.1).count ≤ 2 ^ 62) }
@@ -90,7 +91,7 @@ impl<G: Gauge> TopicCore<G> {
 
         // Whatever the files hold: what a failed topic finds is what they stand for, or the first fault in them is told.
         ensures found { (S.disk shelf.old).honest → self.old.failed ≡ true →
-            OnOk result (T.stands (T.view stores.old).topic (S.disk shelf.old).seen self.new.ledger self.new.kept × (self.new ≡ reopened self.old self.new.ledger (slots_of self.new.ledger) self.new.kept)) }
+            OnOk result (T.stands (T.view stores.old).topic (S.disk shelf.old).seen self.new.ledger self.new.kept × (self.new ≡ reopened self.old self.new.ledger (marks_of self.new.ledger) self.new.kept)) }
         ensures told { (S.disk shelf.old).honest →
             IfErr result (λ e. (e ≡ NoMemory) ⊎ ((e ≡ Device) ⊎ (T.faulty (T.view stores.old).topic (S.disk shelf.old).seen e ⊎ IsShorter T.stands (T.view stores.old).topic self.old (S.disk shelf.old).seen e))) }
 
@@ -104,7 +105,7 @@ impl<G: Gauge> TopicCore<G> {
         ensures counts { CountsStay self.old self.new }
         ensures works { self.old.failed ≡ false → self.new ≡ self.old }
         // Whatever the device does, the entries of a topic that was opened again are as many as the store remembers.
-        ensures again { self.old.failed ≡ true → OnOk result (self.new ≡ reopened self.old self.new.ledger (slots_of self.new.ledger) self.new.kept) }
+        ensures again { self.old.failed ≡ true → OnOk result (self.new ≡ reopened self.old self.new.ledger (marks_of self.new.ledger) self.new.kept) }
         ensures as_many { self.old.failed ≡ true → OnOk result (self.new.committed ≡ (T.view stores.new).count) }
         ensures refused { IsErr result → (self.new ≡ self.old) × (stores.new ≡ stores.old) }
         ensures cause { IsErrOf result Device → Failed (S.disk shelf.old) (S.disk shelf.new) }
@@ -133,9 +134,9 @@ impl<G: Gauge> TopicCore<G> {
         requires few { (T.view again.stores).count ≤ 2 ^ 62 }
         requires works { (T.view again.stores).failed ≡ false }
         requires numbered { (T.view again.stores).per_ledger ≡ self.old.per_ledger }
-        requires added { (end_of again.durable.ledger ≡ (T.view again.stores).count) × (again.subs ≡ slotted (opened_subscriptions (T.view again.stores).kept) (slots_of again.durable.ledger)) × (again.durable.kept ≡ (T.view again.stores).kept) × (again.durable.ledger.base ≡ (T.view again.stores).base) }
+        requires added { (end_of again.durable.ledger ≡ (T.view again.stores).count) × (again.subs ≡ marked (opened_subscriptions (T.view again.stores).kept) (slots_of again.durable.ledger) (messages_of again.durable.ledger)) × (again.durable.kept ≡ (T.view again.stores).kept) × (again.durable.ledger.base ≡ (T.view again.stores).base) }
         requires durable { AreDurable (T.view again.stores).kept }
-        ensures again { self.new ≡ reopened self.old again.durable.ledger (slots_of again.durable.ledger) (T.view again.stores).kept }
+        ensures again { self.new ≡ reopened self.old again.durable.ledger (marks_of again.durable.ledger) (T.view again.stores).kept }
         ensures matched { Match (resting false) self.new (T.view again.stores) }
         ensures stores { result ≡ again.stores }
     {
@@ -157,7 +158,7 @@ impl<G: Gauge> TopicCore<G> {
     }
 }
 
-/// A store that was opened: the subscriptions with the slots of all entries, and what is durable.
+/// A store that was opened: the subscriptions with the marks of all entries, and what is durable.
 #[derive(Drop)]
 struct Opened<G: Gauge, T> {
     stores: T,
@@ -165,14 +166,14 @@ struct Opened<G: Gauge, T> {
     durable: Durable,
 }
 
-/// Opens the store of a topic, whose entries are known by their slots from the same pass.
+/// Opens the store of a topic, whose entries are known by their marks from the same pass.
 fn open_stores<G: Gauge, T: TopicStore, S: Shelf>(
     alloc: Global,
     shelf: &mut S,
     topic: u16,
     per_ledger: u32,
 ) -> Result<Opened<G, T>, Refusal>
-    ensures added { IfOk result (λ t. (end_of t.durable.ledger ≡ (T.view t.stores).count) × (t.subs ≡ slotted (opened_subscriptions (T.view t.stores).kept) (slots_of t.durable.ledger)) × (t.durable.kept ≡ (T.view t.stores).kept) × (t.durable.ledger.base ≡ (T.view t.stores).base)) }
+    ensures added { IfOk result (λ t. (end_of t.durable.ledger ≡ (T.view t.stores).count) × (t.subs ≡ marked (opened_subscriptions (T.view t.stores).kept) (slots_of t.durable.ledger) (messages_of t.durable.ledger)) × (t.durable.kept ≡ (T.view t.stores).kept) × (t.durable.ledger.base ≡ (T.view t.stores).base)) }
     ensures durable { IfOk result (λ t. AreDurable (T.view t.stores).kept) }
     ensures settled { (S.disk shelf.old).honest → IfOk result (λ t. Settled (T.view t.stores) (S.disk shelf.new) t.durable.ledger (T.view t.stores).kept) }
     ensures refused { (S.disk shelf.old).honest → IfErr result (λ e. (e ≡ NoMemory) ⊎ ((e ≡ Device) ⊎ T.faulty topic (S.disk shelf.old).seen e)) }
@@ -186,15 +187,15 @@ fn open_stores<G: Gauge, T: TopicStore, S: Shelf>(
     ensures kept { Counted (S.disk shelf.old) (S.disk shelf.new) }
 {
     let entries = FoundEntries {
-        slots: HashSlots::new(alloc),
+        marks: EntryMarks::new(alloc),
         durable: Durable::none(),
     };
     let (stores, entries) = T::open(alloc, shelf, topic, per_ledger, entries)?;
-    let FoundEntries { mut slots, durable } = entries;
+    let FoundEntries { mut marks, durable } = entries;
     let base = stores.base();
     // The proof reads here that there are numbers for them.
     let _ = stores.len();
-    slots.put_before(base);
+    marks.put_before(base);
     let cursors = stores.kept()?;
     let found = Found {
         durable,
@@ -202,7 +203,7 @@ fn open_stores<G: Gauge, T: TopicStore, S: Shelf>(
         cursors,
     };
     let durable = Durable::of(&found);
-    let subs = Subscriptions::opened(alloc, found.cursors, slots)?;
+    let subs = Subscriptions::opened(alloc, found.cursors, marks)?;
     Ok(Opened {
         stores,
         subs,

@@ -1,16 +1,17 @@
 ghost use Rattle.std.specs.Prelude.{◌≡◌, ◌+◌, ◌^◌, ◌<◌, ◌≤◌, ◌&&◌, ℕ, true, false, None, length, IfOk, IfSome, OnOk, OnErr, sum_by};
 ghost use Rattle.std.specs.Str.{bytes_eq};
-ghost use Rattle.std.specs.Result.{is_ok};
 ghost use Rattle.commands.specs.Metadata.{entry_of};
 ghost use Rattle.subscriptions.specs.Statuses.{AreStatuses};
+ghost use Rattle.topic_core.specs.Messages.{is_counted, messages_of_entry};
 ghost use Rattle.topic_core.specs.Slots.{slot_of_entry};
 ghost use Rattle.topic_core.specs.State.{Topic, floor, next_position};
 ghost use Rattle.reply_queues.specs.Replies.{is_receipt};
-ghost use Rattle.topic_core.specs.Steps.{Meets, TopicStep, LentBy, Collects, Fits, first_standing, producer_refusals, send_refusals, limit_refusals, has_room, producer_outcome, send_outcome, has_producer, has_open_producer, has_name, is_single_message, accepted, receipt, key_of, left};
+ghost use Rattle.topic_core.specs.Steps.{Meets, TopicStep, LentBy, Collects, Fits, first_standing, producer_refusals, send_refusals, limit_refusals, has_room, producer_outcome, send_outcome, has_producer, has_open_producer, has_name, is_plain_entry, accepted, receipt, key_of, left};
 ghost use Rattle.topic_core.specs.Soundness.{IsSound};
 ghost use Rattle.topic_core.specs.Standing.{GoesOn};
 
 use crate::command::{Answer, PlainEntry, Send, SentEntry, TopicCommand};
+use crate::messages::messages_of_meta;
 use crate::producers::Producers;
 use crate::recent::Recent;
 use crate::slots::slot_of_meta;
@@ -18,6 +19,7 @@ use bytes::Bytes;
 use commands::{MessageMeta, Reply, ReplyText, ServerError, Text};
 use holds::ConsumerKey;
 use ids::to_id;
+use managed_ledger::has_message_count;
 use permits::{Fresh, Gauge, Granter};
 use reply_queues::ReplyQueues;
 use std::alloc::{AllocError, Global};
@@ -183,7 +185,7 @@ impl<G: Gauge> TopicCore<G> {
         if len > LONGEST_ENTRY {
             return Some(ServerError::NotAllowedError);
         }
-        if !is_single_message(send.num_messages, &entry.metadata) {
+        if !is_plain_entry(&entry.metadata) {
             return Some(ServerError::NotAllowedError);
         }
         if self.is_failed() {
@@ -243,7 +245,6 @@ impl<G: Gauge> TopicCore<G> {
         let Send {
             producer_id,
             sequence_id,
-            num_messages: _,
             entry,
         } = send;
         let SentEntry::Plain(entry) = entry else {
@@ -251,12 +252,13 @@ impl<G: Gauge> TopicCore<G> {
         };
         let PlainEntry { bytes, metadata } = entry;
         let slot = slot_of_meta(&metadata);
+        let messages = messages_of_meta(&metadata);
         drop(metadata);
-        self.accept(who, producer_id, sequence_id, bytes, slot)?;
+        self.accept(who, producer_id, sequence_id, bytes, slot, messages)?;
         Ok(Answer::Later)
     }
 
-    /// The entry waits, with its slot, and the receipt for its position awaits a flush.
+    /// The entry waits, with its slot and how many messages it has, and the receipt for its position awaits a flush.
     fn accept(
         &mut self,
         who: u64,
@@ -264,10 +266,14 @@ impl<G: Gauge> TopicCore<G> {
         sequence_id: u64,
         entry: Bytes,
         slot: u16,
+        messages: u32,
     ) -> Result<(), AllocError>
         requires works { self.old.failed ≡ false }
-        requires readable { is_ok (entry_of entry) ≡ true }
+        requires readable { is_counted (entry_of entry) ≡ true }
         requires slotted { slot ≡ slot_of_entry entry }
+        requires counted { messages ≡ messages_of_entry entry }
+        requires some { 0 < messages }
+        requires few { messages ≤ 1048576 }
         requires short { length entry ≤ 1048576 }
         requires room { first_standing (limit_refusals self.old (length entry)) ≡ None }
         ensures ok { OnOk result (self.new ≡ accepted self.old who producer_id sequence_id entry) }
@@ -283,7 +289,7 @@ impl<G: Gauge> TopicCore<G> {
             message_id,
         };
         let made = self.queues.push(who, receipt)?;
-        if let Err(error) = self.subs.add_slot(slot) {
+        if let Err(error) = self.subs.add_mark(slot, messages) {
             self.queues.drop_last(who, made);
             return Err(error);
         }
@@ -360,14 +366,11 @@ pub(crate) fn key_of(session: u64, id: u64) -> ConsumerKey
     ConsumerKey { session, id }
 }
 
-/// Whether an entry is one message, neither compressed nor delayed.
-fn is_single_message(num_messages: i32, metadata: &MessageMeta) -> bool
-    ensures { result ≡ is_single_message num_messages metadata.now }
+/// Whether an entry is neither compressed nor delayed, with as many messages as an entry may have.
+fn is_plain_entry(metadata: &MessageMeta) -> bool
+    ensures { result ≡ is_plain_entry metadata.now }
 {
-    metadata.compression == 0
-        && metadata.deliver_at_time.is_none()
-        && num_messages == 1
-        && metadata.num_messages_in_batch == 1
+    metadata.compression == 0 && metadata.deliver_at_time.is_none() && has_message_count(metadata)
 }
 
 fn is_receipt(reply: &Reply) -> bool

@@ -175,7 +175,6 @@ fn send(alloc: Global, sequence_id: u64) -> Result<TopicCommand, AllocError> {
     Ok(TopicCommand::Send(Send {
         producer_id: 1,
         sequence_id,
-        num_messages: 1,
         entry: SentEntry::Plain(PlainEntry { bytes, metadata }),
     }))
 }

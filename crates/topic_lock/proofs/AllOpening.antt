@@ -15,7 +15,8 @@ use Rattle.records.specs.Floors.{HaveBelow}
 use Rattle.records.specs.Maps.{Kept}
 use Rattle.topic_stores.specs.declared.store.TopicStore.{Ghosts as StoreMembers}
 use Rattle.topic_stores.specs.Views.{StoreView, Settled as Holding, AreLaws}
-use Rattle.topic_core.specs.Slots.{slots_of}
+use Rattle.subscriptions.specs.Marks.{no_marks}
+use Rattle.topic_core.specs.Messages.{marks_of}
 use Rattle.topic_core.specs.State.{Topic, opened}
 use Rattle.topic_core.specs.Standing.{Before, Match, Standing}
 use Rattle.topic_core.proofs.Standings.{reopened_standing}
@@ -28,21 +29,21 @@ use Rattle.topic_lock.specs.declared.part.OpenPart.{OpenPart}
 use Rattle.topic_lock.specs.Opening.{IsOpened, IsCatalogOpened, OnlyReads, AreHonest, AreNumbered, AreOnlyRead, AllOnlyRead, AreOpened, FilesStand, OneFailed, IsTopicFault}
 
 -- a topic over a store that was just opened
-module _ (stands : ℕ → Image → Ledger → Kept → Type 0) (n : ℕ) (t : Topic) (v : StoreView) (as_opened : t ≡ opened n t.ledger (slots_of t.ledger) v.kept) where
+module _ (stands : ℕ → Image → Ledger → Kept → Type 0) (n : ℕ) (t : Topic) (v : StoreView) (as_opened : t ≡ opened n t.ledger (marks_of t.ledger) v.kept) where
   is_kept : t.kept ≡ v.kept
   is_kept = ap (λ (x : Topic). x.kept) as_opened
 
   -- it stands on its store
   pub opened_standing : (d : Disk) → AreLaws stands v → ((files : Image) (ledger : Ledger) (kept : Kept) → stands v.topic files ledger kept → HaveBelow ledger.base kept) → Holding v d t.ledger v.kept → Match Before t v → Standing stands Before t v d
   opened_standing d laws below hold matched =
-      reopened_standing stands (opened n (whole []) [] finite.empty) t v d t.ledger v.kept laws as_opened matched (below d.seen t.ledger v.kept (laws.stands d.seen t.ledger v.kept hold.settled.now)) hold
+      reopened_standing stands (opened n (whole []) no_marks finite.empty) t v d t.ledger v.kept laws as_opened matched (below d.seen t.ledger v.kept (laws.stands d.seen t.ledger v.kept hold.settled.now)) hold
 
   -- the files stood for what it has
   pub opened_found : (number : ℕ) (before d : Disk) → AreLaws stands v → v.topic ≡ number → Same before.seen d.seen → Holding v d t.ledger v.kept → IsOpened stands n number before.seen t
   opened_found number before d laws is same hold = record {
     stands = subst (λ (i : Image). stands number i t.ledger t.kept) same
         (subst (λ m. stands m d.seen t.ledger t.kept) is (subst (λ k. stands v.topic d.seen t.ledger k) (sym is_kept) (laws.stands d.seen t.ledger v.kept hold.settled.now)));
-    opened = as_opened ∙ ap (λ k. opened n t.ledger (slots_of t.ledger) k) (sym is_kept);
+    opened = as_opened ∙ ap (λ k. opened n t.ledger (marks_of t.ledger) k) (sym is_kept);
   }
 
 -- ---- lists

@@ -7,7 +7,7 @@ use Rattle.gated_log.specs.declared.refusal.Refusal.{Refusal}
 use Rattle.managed_ledger.specs.Entries.{Ledger}
 use Rattle.records.specs.Maps.{Kept}
 use Rattle.topic_stores.specs.declared.store.TopicStore.{Ghosts as StoreMembers}
-use Rattle.topic_core.specs.Slots.{slots_of}
+use Rattle.topic_core.specs.Messages.{marks_of}
 use Rattle.topic_core.specs.Standing.{Before, Standing}
 use Rattle.topic_core.specs.State.{Topic, opened}
 use Rattle.catalog.specs.Names.{Names}
@@ -20,7 +20,7 @@ use Rattle.topic_lock.specs.declared.part.OpenPart.{OpenPart}
 -- the topic has what the files of its number stand for, and nothing happened to it since
 pub record IsOpened (files_stand : ℕ → Image → Ledger → Kept → Type 0) (per_ledger number : ℕ) (files : Image) (t : Topic) : Type 0 where
   pub stands : files_stand number files t.ledger t.kept
-  pub opened : t ≡ opened per_ledger t.ledger (slots_of t.ledger) t.kept
+  pub opened : t ≡ opened per_ledger t.ledger (marks_of t.ledger) t.kept
 
 -- An opening wrote nothing to a device. What reads give stays, but of a file of this area where the device failed.
 pub record OnlyReads (lost : Type 0) (own : Area) (old new : Disk) : Type 0 where

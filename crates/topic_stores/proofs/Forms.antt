@@ -1,21 +1,33 @@
 -- What a batch has is of its form: its entries, and its changes, also beside a longer ledger.
-use Rattle.std.proofs.Common.{◌≡◌, ℕ, ◌+◌, ◌≤◌, Result, Ok, Err, List, [], ◌∷◌, length, refl, sym, subst, ◌∙◌, arith}
+use Rattle.std.proofs.Common.{◌≡◌, ℕ, true, ◌+◌, ◌≤◌, Result, Ok, Err, List, [], ◌∷◌, length, refl, sym, subst, ◌∙◌, arith}
 use Rattle.std.proofs.Math.Logic.{∥∥₁_elim, ∥∥₁_map}
-use Rattle.std.specs.Coded.{le_prop}
+use Rattle.std.specs.Coded.{Coded-set, coded_bool, le_prop}
 use mathlib.Core.HLevel.{⊥_prop}
 use Rattle.commands.specs.declared.fault.CommandFault.{CommandFault}
 use Rattle.commands.specs.declared.metadata.MessageMeta.{MessageMeta}
 use Rattle.commands.specs.Metadata.{entry_of}
-use Rattle.managed_ledger.specs.Entries.{Entries, Ledger, IsEntry, AreEntries, end_of, lengthened}
+use Rattle.managed_ledger.specs.Entries.{Entries, Ledger, is_message_count, IsEntry, AreEntries, end_of, lengthened}
 use Rattle.managed_ledger.specs.Trims.{end_lengthened}
 use Rattle.records.specs.declared.record.Record.{Record}
 use Rattle.records.specs.declared.record.Record.TheVariants.{Made, Removed, Acknowledged, AcknowledgedThrough, AcknowledgedRange}
 use Rattle.records.specs.Maps.{Kept}
 use Rattle.records.specs.Records.{IsFormed, AreFormed, after}
 
+-- the metadata that was read says how many messages the entry has
+is_counted : (entry : List ℕ) (meta : MessageMeta) → entry_of entry ≡ Ok meta → IsEntry entry → is_message_count meta.num_messages_in_batch ≡ true
+is_counted entry meta is x =
+    let read = sym x.readable ∙ is in
+    let same : x.meta ≡ meta = cc in
+    subst (λ (m : MessageMeta). is_message_count m.num_messages_in_batch ≡ true) same x.counted
+
 -- an entry that is known to be one is one
 is_entry : (entry : List ℕ) (read : Result MessageMeta CommandFault) → entry_of entry ≡ read → ∥ IsEntry entry ∥₁ → IsEntry entry
-is_entry entry (Ok meta) is h = record { meta = meta; no_longer = ∥∥₁_elim h le_prop (λ x. x.no_longer); readable = is }
+is_entry entry (Ok meta) is h = record {
+  meta = meta;
+  no_longer = ∥∥₁_elim h le_prop (λ x. x.no_longer);
+  readable = is;
+  counted = ∥∥₁_elim h (Coded-set coded_bool _ _) (is_counted entry meta is);
+}
 is_entry entry (Err why) is h = absurd (∥∥₁_elim h ⊥_prop (λ x. let e = sym x.readable ∙ is in cc))
 
 pub are_entries : (entries : Entries) → ∥ AreEntries entries ∥₁ → AreEntries entries

@@ -5,8 +5,8 @@ ghost use Rattle.managed_ledger.specs.Entries.{AreEntries};
 use bytes::Bytes;
 use records::Record;
 
-/// What a flush writes: entries, each with metadata that can be read, and changes of subscriptions; and below which position the
-/// ledger may be trimmed then. It has no more than may wait for a flush.
+/// What a flush writes: entries, each with metadata that can be read and says how many messages it has, and changes of
+/// subscriptions; and below which position the ledger may be trimmed then. It has no more than may wait for a flush.
 #[derive(Drop)]
 pub struct Batch {
     pub entries: Vec<Bytes>,

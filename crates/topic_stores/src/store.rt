@@ -161,7 +161,7 @@ pub trait TopicStore: Drop {
 
     ghost laid_local: { (t : ℕ) (a b : Image) (counts : List ℕ) → Agree (OfTopic t) a b → laid t a counts → laid t b counts };
 
-    // Files stand for one ledger, each entry with metadata that can be read, and one map of subscriptions.
+    // Files stand for one ledger, each entry with metadata that can be read and a number of messages, and one map of subscriptions.
     ghost stands_one: { (t : ℕ) (files : Image) (one other : Ledger) (k j : Kept) → end_of one ≤ 2 ^ 62 → stands t files one k → stands t files other j → (one ≡ other) × (k ≡ j) };
 
     // Files have one first fault, and where they stand for entries and subscriptions they have none.

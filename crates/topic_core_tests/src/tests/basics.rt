@@ -11,8 +11,8 @@ use std::test::Fail;
 use topic_core::{
     FileStores, TopicCore, TopicStore, answers_are_no_receipts, answers_fit,
     commands_hand_out_nothing, entries_are_published, flushes_commit, flushes_keep,
-    ids_are_positions, messages_are_admitted, messages_go_to_their_ranges, receipts_are_covered,
-    stays_sound, topics_go_on,
+    ids_are_positions, messages_are_admitted, messages_are_counted, messages_go_to_their_ranges,
+    receipts_are_covered, stays_sound, topics_go_on,
 };
 
 // How many entries of a new topic a flush commits, and one behind it.
@@ -203,6 +203,7 @@ fn call_laws_of_answers() {
 // What is said of messages, ids and receipts.
 fn call_laws_of_messages() {
     messages_are_admitted();
+    messages_are_counted();
     messages_go_to_their_ranges();
     ids_are_positions();
     receipts_are_covered();

@@ -22,10 +22,10 @@ fn seat(alloc: Global, key: ConsumerKey) -> Seat {
 
 /// Adds so many entries of slot 0, so that each committed one has a slot.
 fn add_entries<G: Gauge>(subs: &mut Subscriptions<G>, count: u32) -> Result<(), AllocError>
-    ensures { OnOk result (count ≤ length subs.new.slots) }
+    ensures { OnOk result ((count ≤ length subs.new.slots) × (count ≤ length subs.new.messages)) }
 {
     for i in 0..count {
-        subs.add_slot(0)?;
+        subs.add_mark(0, 1)?;
     }
     Ok(())
 }
@@ -63,7 +63,7 @@ fn subscribe<G: Gauge>(
     gauge: G,
 ) -> Result<bool, AllocError>
     requires none_known { G.known gauge ≡ 0 }
-    requires none_taken { G.taken gauge ≡ 0 }
+    requires none_sent { G.sent gauge ≡ 0 }
     requires none_looked { G.looks gauge ≡ 0 }
 {
     let seat = seat(alloc, key);
@@ -93,7 +93,7 @@ struct Watched<'a> {
 impl<'a> Watched<'a> {
     fn new(closed: &'a Cell<u32>) -> Self
         ensures known { result.permits.granted ≡ 0 }
-        ensures taken { result.permits.taken ≡ 0 }
+        ensures sent { result.permits.sent ≡ 0 }
     {
         Self {
             permits: PlainGauge::new(),
@@ -107,7 +107,7 @@ impl<'a> Gauge for Watched<'a> {
 
     ghost use Rattle.std.specs.Prelude.{None};
 
-    ghost taken = { λ w. w.permits.taken };
+    ghost sent = { λ w. w.permits.sent };
 
     ghost known = { λ w. w.permits.granted };
 
@@ -121,8 +121,8 @@ impl<'a> Gauge for Watched<'a> {
 
     ghost looks = { λ w. 0 };
 
-    fn count(&self) -> u64 {
-        self.permits.count()
+    fn sent(&self) -> u64 {
+        self.permits.sent()
     }
 
     fn left(&self) -> u64 {
@@ -137,8 +137,8 @@ impl<'a> Gauge for Watched<'a> {
         self.permits.look()
     }
 
-    fn take(&mut self) -> bool {
-        self.permits.take()
+    fn take(&mut self, messages: u32) -> bool {
+        self.permits.take(messages)
     }
 
     fn close(&mut self) {

@@ -5,7 +5,7 @@ ghost use Rattle.disk.specs.Disk.{Leaves, Kept, Failed};
 ghost use Rattle.gated_log.specs.declared.refusal.Refusal.TheVariants.{Device, NoMemory};
 ghost use Rattle.topic_core.specs.Crashes.{reopened, IsShorter};
 ghost use Rattle.topic_core.specs.Standing.{Phase, Standing, phase_then};
-ghost use Rattle.topic_core.specs.Slots.{slots_of};
+ghost use Rattle.topic_core.specs.Messages.{marks_of};
 ghost use Rattle.topic_core.specs.State.{CountsStay};
 
 use crate::counted::CountedTopic;
@@ -65,7 +65,7 @@ impl<K: Tallies> CountedTopic<K> {
         stores: &mut CountedStores<T, S, K>,
     ) -> Reopened
         ensures about { result.topic ≡ self.old.number }
-        ensures again { self.old.core.failed ≡ true → OnOk result.said (self.new.core ≡ reopened self.old.core self.new.core.ledger (slots_of self.new.core.ledger) self.new.core.kept) }
+        ensures again { self.old.core.failed ≡ true → OnOk result.said (self.new.core ≡ reopened self.old.core self.new.core.ledger (marks_of self.new.core.ledger) self.new.core.kept) }
         ensures as_many { self.old.core.failed ≡ true → OnOk result.said (self.new.core.committed ≡ (T.view stores.new.stores).count) }
         // What a failed topic finds is what the files stand for, or the first fault in them is told, or that it counts otherwise.
         ensures found { (S.disk stores.old.shelf).honest → self.old.core.failed ≡ true →

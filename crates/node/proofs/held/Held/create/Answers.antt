@@ -1,7 +1,7 @@
 use Rattle.std.proofs.Common.{◌≡◌, [], refl, sym, ap, subst, ◌∙◌}
 use Rattle.std.specs.FinMap as map
 use Rattle.managed_ledger.specs.Entries.{whole}
-use Rattle.topic_core.specs.Slots.{slots_of}
+use Rattle.topic_core.specs.Messages.{marks_of}
 use Rattle.topic_core.specs.State.{Topic, opened}
 use Rattle.topic_stores.specs.Views.{Settled}
 use Rattle.node.proofs.Opening.{opened_standing, rests_so}
@@ -20,5 +20,5 @@ returns-clause-stands g c = λ honest.
     let none = (e.matched.remembers).kept in
     let kept_none = none ∙ ap (λ (t : Topic). t.kept) is in
     rests_so c.at_rest.result core store d c.at_rest.ensures
-    (opened_standing stands n core v (subst (λ k. core ≡ opened n core.ledger (slots_of core.ledger) k) (sym kept_none) (subst (λ (t : Topic). t ≡ opened n t.ledger (slots_of t.ledger) map.empty) (sym is) refl)) d (g.met.T.TopicStore.laws store) g.met.T.TopicStore.stands_below
+    (opened_standing stands n core v (subst (λ k. core ≡ opened n core.ledger (marks_of core.ledger) k) (sym kept_none) (subst (λ (t : Topic). t ≡ opened n t.ledger (marks_of t.ledger) map.empty) (sym is) refl)) d (g.met.T.TopicStore.laws store) g.met.T.TopicStore.stands_below
     (subst (λ (t : Topic). Settled v d t.ledger v.kept) (sym is) (subst (λ k. Settled v d (whole []) k) (sym kept_none) (e.settled honest))) e.matched)

@@ -1,4 +1,4 @@
-use Rattle.std.proofs.Common.{ap, subst, arith}
+use Rattle.std.proofs.Common.{subst, arith}
 use Rattle.cursor.specs.Positions.{Has}
 use Rattle.subscriptions.specs.Progress.{State}
 use Rattle.subscriptions.proofs.Fronts.{past_joined}

@@ -12,14 +12,14 @@ use Rattle.subscriptions.proofs.table.Subscriptions.attach.Goals as goal
 
 pub attach-requires-clause-allowed : goal.attach-requires-clause-allowed
 attach-requires-clause-allowed g c =
-    let t : Subscriptions = record { subs = c.self.inside.subs.items; changes = c.self.inside.changes.items; slots = c.self.inside.slots } in
+    let t : Subscriptions = record { subs = c.self.inside.subs.items; changes = c.self.inside.changes.items; slots = c.self.inside.marks.slots; messages = c.self.inside.marks.messages } in
     let at : position (is_named c.args.name.now) c.self.inside.subs.items ≡ Some c.in-Some.place = search rules in
     allowed_some t c.args.name.now c.args.mode c.args.seat.ranges c.in-Some.place c.index_mut-sub.result.now at c.index_mut-sub.ensures.value
     (ap (λ (x : Subscriptions). first_standing (subscribe_refusals x c.args.name.now c.args.mode c.args.seat.ranges)) c.self.view_is ∙ c.requires.allowed)
 
 pub invariant_of-self-in-Ok : goal.invariant_of-self-in-Ok
 invariant_of-self-in-Ok g c =
-    let t : Subscriptions = record { subs = c.self.inside.subs.items; changes = c.self.inside.changes.items; slots = c.self.inside.slots } in
+    let t : Subscriptions = record { subs = c.self.inside.subs.items; changes = c.self.inside.changes.items; slots = c.self.inside.marks.slots; messages = c.self.inside.marks.messages } in
     let at : position (is_named c.args.name.now) c.self.inside.subs.items ≡ Some c.in-Some.place = search rules in
     let low = (is_place (is_named c.args.name.now) c.self.inside.subs.items c.in-Some.place c.index_mut-sub.result.now at).within in
     let new : set c.self.inside.subs.items c.in-Some.place c.attach.new.self ≡ first_changed (is_named c.args.name.now) (attached_to c.args.mode c.args.seat (g.G.Gauge.word c.args.gauge)) c.self.inside.subs.items =
@@ -33,7 +33,7 @@ invariant_of-self-in-Ok g c =
 
 pub returns-in-Ok-clause-ok : goal.returns-in-Ok-clause-ok
 returns-in-Ok-clause-ok g c =
-    let t : Subscriptions = record { subs = c.self.inside.subs.items; changes = c.self.inside.changes.items; slots = c.self.inside.slots } in
+    let t : Subscriptions = record { subs = c.self.inside.subs.items; changes = c.self.inside.changes.items; slots = c.self.inside.marks.slots; messages = c.self.inside.marks.messages } in
     let at : position (is_named c.args.name.now) c.self.inside.subs.items ≡ Some c.in-Some.place = search rules in
     let start = start_of c.args.initial c.args.first c.args.committed in
     attaches_some t c.args.name.now c.args.mode c.args.seat (g.G.Gauge.word c.args.gauge) start c.in-Some.place c.index_mut-sub.result.now c.attach.new.self at c.index_mut-sub.ensures.value c.in-Ok.ensures.ok

@@ -12,13 +12,13 @@ use Rattle.subscriptions.proofs.table.Subscriptions.detach.Goals as goal
 
 pub returns-in_default : goal.returns-in_default
 returns-in_default g c =
-    let t : Subscriptions = record { subs = c.self.inside.subs.items; changes = c.self.inside.changes.items; slots = c.self.inside.slots } in
+    let t : Subscriptions = record { subs = c.self.inside.subs.items; changes = c.self.inside.changes.items; slots = c.self.inside.marks.slots; messages = c.self.inside.marks.messages } in
     let at : position (is_on c.args.key) c.self.inside.subs.items ≡ None = search rules in
     subst (λ (x : Subscriptions). x ≡ detached x c.args.key) c.self.view_is (stays_at t c.args.key (detached_on c.args.key) at)
 
 pub invariant_of-self : goal.invariant_of-self
 invariant_of-self g c =
-    let t : Subscriptions = record { subs = c.self.inside.subs.items; changes = c.self.inside.changes.items; slots = c.self.inside.slots } in
+    let t : Subscriptions = record { subs = c.self.inside.subs.items; changes = c.self.inside.changes.items; slots = c.self.inside.marks.slots; messages = c.self.inside.marks.messages } in
     let at : position (is_on c.args.key) c.self.inside.subs.items ≡ Some c.in-Some.place = search rules in
     let new : set c.self.inside.subs.items c.in-Some.place c.detach.new.self ≡ first_changed (is_on c.args.key) (detached_on c.args.key) c.self.inside.subs.items =
     changes (is_on c.args.key) (detached_on c.args.key) c.self.inside.subs.items c.in-Some.place c.index_mut-sub.result.now c.detach.new.self at c.index_mut-sub.ensures.value c.detach.ensures in
@@ -31,7 +31,7 @@ invariant_of-self g c =
 
 pub returns : goal.returns
 returns g c =
-    let t : Subscriptions = record { subs = c.self.inside.subs.items; changes = c.self.inside.changes.items; slots = c.self.inside.slots } in
+    let t : Subscriptions = record { subs = c.self.inside.subs.items; changes = c.self.inside.changes.items; slots = c.self.inside.marks.slots; messages = c.self.inside.marks.messages } in
     let at : position (is_on c.args.key) c.self.inside.subs.items ≡ Some c.in-Some.place = search rules in
     changes_at t c.args.key (detached_on c.args.key) c.in-Some.place c.index_mut-sub.result.now c.detach.new.self at c.index_mut-sub.ensures.value c.detach.ensures
     ∙ ap (λ (x : Subscriptions). detached x c.args.key) c.self.view_is

@@ -12,13 +12,13 @@ use Rattle.subscriptions.proofs.table.Subscriptions.grant.Goals as goal
 
 pub returns-in_default-clause-ok : goal.returns-in_default-clause-ok
 returns-in_default-clause-ok g c =
-    let t : Subscriptions = record { subs = c.self.inside.subs.items; changes = c.self.inside.changes.items; slots = c.self.inside.slots } in
+    let t : Subscriptions = record { subs = c.self.inside.subs.items; changes = c.self.inside.changes.items; slots = c.self.inside.marks.slots; messages = c.self.inside.marks.messages } in
     let at : position (is_on c.args.key) c.self.inside.subs.items ≡ None = search rules in
     subst (λ (x : Subscriptions). (grants_too_many x c.args.key c.args.permits ≡ false) × (x ≡ granted x c.args.key c.args.permits)) c.self.view_is (grants_none t c.args.key c.args.permits at)
 
 pub invariant_of-self-2 : goal.invariant_of-self-2
 invariant_of-self-2 g c =
-    let t : Subscriptions = record { subs = c.self.inside.subs.items; changes = c.self.inside.changes.items; slots = c.self.inside.slots } in
+    let t : Subscriptions = record { subs = c.self.inside.subs.items; changes = c.self.inside.changes.items; slots = c.self.inside.marks.slots; messages = c.self.inside.marks.messages } in
     let at : position (is_on c.args.key) c.self.inside.subs.items ≡ Some c.in-Some.place = search rules in
     let new : set c.self.inside.subs.items c.in-Some.place c.grant.new.self ≡ first_changed (is_on c.args.key) (granted_on c.args.key c.args.permits) c.self.inside.subs.items =
     changes (is_on c.args.key) (granted_on c.args.key c.args.permits) c.self.inside.subs.items c.in-Some.place c.index_mut-sub.result.now c.grant.new.self at c.index_mut-sub.ensures.value c.in_ok-grant.ensures.ok.1 in
@@ -26,7 +26,7 @@ invariant_of-self-2 g c =
 
 pub returns-clause-ok : goal.returns-clause-ok
 returns-clause-ok g c =
-    let t : Subscriptions = record { subs = c.self.inside.subs.items; changes = c.self.inside.changes.items; slots = c.self.inside.slots } in
+    let t : Subscriptions = record { subs = c.self.inside.subs.items; changes = c.self.inside.changes.items; slots = c.self.inside.marks.slots; messages = c.self.inside.marks.messages } in
     let at : position (is_on c.args.key) c.self.inside.subs.items ≡ Some c.in-Some.place = search rules in (
       ap (λ (x : Subscriptions). grants_too_many x c.args.key c.args.permits) (sym c.self.view_is)
           ∙ grants_at t c.args.key c.args.permits c.in-Some.place c.index_mut-sub.result.now false at c.index_mut-sub.ensures.value c.in_ok-grant.ensures.ok.0,
@@ -36,7 +36,7 @@ returns-clause-ok g c =
 
 pub returns-in_err-grant-clause-err : goal.returns-in_err-grant-clause-err
 returns-in_err-grant-clause-err g c =
-    let t : Subscriptions = record { subs = c.self.inside.subs.items; changes = c.self.inside.changes.items; slots = c.self.inside.slots } in
+    let t : Subscriptions = record { subs = c.self.inside.subs.items; changes = c.self.inside.changes.items; slots = c.self.inside.marks.slots; messages = c.self.inside.marks.messages } in
     let at : position (is_on c.args.key) c.self.inside.subs.items ≡ Some c.in-Some.place = search rules in
     let same : set c.self.inside.subs.items c.in-Some.place c.grant.new.self ≡ c.self.inside.subs.items =
     ap (set c.self.inside.subs.items c.in-Some.place) c.in_err-grant.ensures.err.1 ∙ same_at (is_on c.args.key) c.self.inside.subs.items c.in-Some.place c.index_mut-sub.result.now c.index_mut-sub.ensures.value in

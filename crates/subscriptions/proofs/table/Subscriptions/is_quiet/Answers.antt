@@ -8,7 +8,7 @@ use Rattle.subscriptions.proofs.table.Subscriptions.is_quiet.Goals as goal
 
 pub invariant_of-self : goal.invariant_of-self
 invariant_of-self g c =
-    let t : Subscriptions = record { subs = c.self.inside.subs.items; changes = c.self.inside.changes.items; slots = c.self.inside.slots } in
+    let t : Subscriptions = record { subs = c.self.inside.subs.items; changes = c.self.inside.changes.items; slots = c.self.inside.marks.slots; messages = c.self.inside.marks.messages } in
     let subs = c.may_serve-is_served.new.subs.items in (
       limits_looked c.args.who t subs c.may_serve-is_served.ensures.learnt c.self.invariant.0,
       hints_looked c.args.who t subs c.self.inside.hints.items c.may_serve-is_served.ensures.learnt c.self.invariant.1,
@@ -18,7 +18,7 @@ invariant_of-self g c =
 
 pub invariant_of-self-2 : goal.invariant_of-self-2
 invariant_of-self-2 g c =
-    let t : Subscriptions = record { subs = c.self.inside.subs.items; changes = c.self.inside.changes.items; slots = c.self.inside.slots } in
+    let t : Subscriptions = record { subs = c.self.inside.subs.items; changes = c.self.inside.changes.items; slots = c.self.inside.marks.slots; messages = c.self.inside.marks.messages } in
     let subs = c.may_serve-is_served.new.subs.items in (
       limits_looked c.args.who t subs c.may_serve-is_served.ensures.learnt c.self.invariant.0,
       hints_looked c.args.who t subs c.self.inside.hints.items c.may_serve-is_served.ensures.learnt c.self.invariant.1,
@@ -28,14 +28,14 @@ invariant_of-self-2 g c =
 
 pub returns-then-is_served-clause-learnt : goal.returns-then-is_served-clause-learnt
 returns-then-is_served-clause-learnt g c =
-    let t : Subscriptions = record { subs = c.self.inside.subs.items; changes = c.self.inside.changes.items; slots = c.self.inside.slots } in
+    let t : Subscriptions = record { subs = c.self.inside.subs.items; changes = c.self.inside.changes.items; slots = c.self.inside.marks.slots; messages = c.self.inside.marks.messages } in
     let subs = c.may_serve-is_served.new.subs.items in
     let found : HasLearnt c.args.who t (record t { subs = subs }) = record { subs = c.may_serve-is_served.ensures.learnt; same = refl } in
     subst (λ (x : Subscriptions). HasLearnt c.args.who x (record t { subs = subs })) c.self.view_is found
 
 pub returns-clause-learnt : goal.returns-clause-learnt
 returns-clause-learnt g c =
-    let t : Subscriptions = record { subs = c.self.inside.subs.items; changes = c.self.inside.changes.items; slots = c.self.inside.slots } in
+    let t : Subscriptions = record { subs = c.self.inside.subs.items; changes = c.self.inside.changes.items; slots = c.self.inside.marks.slots; messages = c.self.inside.marks.messages } in
     let subs = c.may_serve-is_served.new.subs.items in
     let found : HasLearnt c.args.who t (record t { subs = subs }) = record { subs = c.may_serve-is_served.ensures.learnt; same = refl } in
     subst (λ (x : Subscriptions). HasLearnt c.args.who x (record t { subs = subs })) c.self.view_is found
@@ -47,6 +47,6 @@ returns-clause-looked g c = λ _.
 
 pub returns-clause-none : goal.returns-clause-none
 returns-clause-none g c = λ _ id i a.
-    let t : Subscriptions = record { subs = c.self.inside.subs.items; changes = c.self.inside.changes.items; slots = c.self.inside.slots } in
+    let t : Subscriptions = record { subs = c.self.inside.subs.items; changes = c.self.inside.changes.items; slots = c.self.inside.marks.slots; messages = c.self.inside.marks.messages } in
     let subs = c.may_serve-is_served.new.subs.items in
     quiet_admits (record t { subs = subs }) (record { session = c.args.who; id = id }) c.args.committed i (c.may_serve-is_served.ensures.quiet c.if-is_served.false) a

@@ -15,7 +15,7 @@ use Rattle.subscriptions.proofs.table.Subscriptions.make.Goals as goal
 
 pub invariant_of-self-2 : goal.invariant_of-self-2
 invariant_of-self-2 g c =
-    let t : Subscriptions = record { subs = c.self.inside.subs.items; changes = c.self.inside.changes.items; slots = c.self.inside.slots } in
+    let t : Subscriptions = record { subs = c.self.inside.subs.items; changes = c.self.inside.changes.items; slots = c.self.inside.marks.slots; messages = c.self.inside.marks.messages } in
     let at : position (is_named c.args.name.now) t.subs ≡ None = ap (λ (x : Subscriptions). position (is_named c.args.name.now) x.subs) c.self.view_is ∙ c.requires.absent in
     let sub : c.in_ok-sub.sub ≡ attached_to c.args.mode c.args.seat (g.G.Gauge.word c.args.gauge) (made c.args.name.now c.args.mode c.args.start) = search rules in
     let subs : c.push-2.new.self.items ≡ c.self.inside.subs.items ++ c.in_ok-sub.sub ∷ [] = search rules in
@@ -35,7 +35,7 @@ invariant_of-self-2 g c =
 
 pub returns-clause-ok : goal.returns-clause-ok
 returns-clause-ok g c =
-    let t : Subscriptions = record { subs = c.self.inside.subs.items; changes = c.self.inside.changes.items; slots = c.self.inside.slots } in
+    let t : Subscriptions = record { subs = c.self.inside.subs.items; changes = c.self.inside.changes.items; slots = c.self.inside.marks.slots; messages = c.self.inside.marks.messages } in
     let at : position (is_named c.args.name.now) t.subs ≡ None = ap (λ (x : Subscriptions). position (is_named c.args.name.now) x.subs) c.self.view_is ∙ c.requires.absent in
     let sub : c.in_ok-sub.sub ≡ attached_to c.args.mode c.args.seat (g.G.Gauge.word c.args.gauge) (made c.args.name.now c.args.mode c.args.start) = search rules in
     let subs : c.push-2.new.self.items ≡ c.self.inside.subs.items ++ c.in_ok-sub.sub ∷ [] = search rules in

@@ -12,19 +12,19 @@ use Rattle.subscriptions.proofs.table.Subscriptions.pick_permitted.Goals as goal
 
 pub returns-in_default-clause-none : goal.returns-in_default-clause-none
 returns-in_default-clause-none g c = λ i a.
-    let t : Subscriptions = record { subs = c.self.inside.subs.items; changes = c.self.inside.changes.items; slots = c.self.inside.slots } in
+    let t : Subscriptions = record { subs = c.self.inside.subs.items; changes = c.self.inside.changes.items; slots = c.self.inside.marks.slots; messages = c.self.inside.marks.messages } in
     let at : position (is_on c.args.key) c.self.inside.subs.items ≡ None = search rules in
     admits_none t c.args.key c.args.committed i at (subst (λ (x : Subscriptions). Admits x c.args.key c.args.committed i) (sym c.self.view_is) a)
 
 pub pick-picked-requires-clause-there : goal.pick-picked-requires-clause-there
 pick-picked-requires-clause-there g c =
-    let t : Subscriptions = record { subs = c.self.inside.subs.items; changes = c.self.inside.changes.items; slots = c.self.inside.slots } in
+    let t : Subscriptions = record { subs = c.self.inside.subs.items; changes = c.self.inside.changes.items; slots = c.self.inside.marks.slots; messages = c.self.inside.marks.messages } in
     let at : position (is_on c.args.key) c.self.inside.subs.items ≡ Some c.in-Some.place = search rules in
     stands t c.args.key c.in-Some.place c.index_mut-sub.result.now at c.index_mut-sub.ensures.value
 
 pub pick-picked-requires-clause-passed : goal.pick-picked-requires-clause-passed
 pick-picked-requires-clause-passed g c =
-    let t : Subscriptions = record { subs = c.self.inside.subs.items; changes = c.self.inside.changes.items; slots = c.self.inside.slots } in
+    let t : Subscriptions = record { subs = c.self.inside.subs.items; changes = c.self.inside.changes.items; slots = c.self.inside.marks.slots; messages = c.self.inside.marks.messages } in
     let at : position (is_on c.args.key) c.self.inside.subs.items ≡ Some c.in-Some.place = search rules in
     let low = (is_place (is_on c.args.key) c.self.inside.subs.items c.in-Some.place c.index_mut-sub.result.now at).within in
     let known = hints_at t.slots t.subs c.self.inside.hints.items c.in-Some.place c.index_mut-sub.result.now c.index-hints.result.now c.self.invariant.1.each_one low c.index_mut-sub.ensures.value c.index-hints.ensures in
@@ -32,7 +32,7 @@ pick-picked-requires-clause-passed g c =
 
 pub invariant_of-self : goal.invariant_of-self
 invariant_of-self g c =
-    let t : Subscriptions = record { subs = c.self.inside.subs.items; changes = c.self.inside.changes.items; slots = c.self.inside.slots } in
+    let t : Subscriptions = record { subs = c.self.inside.subs.items; changes = c.self.inside.changes.items; slots = c.self.inside.marks.slots; messages = c.self.inside.marks.messages } in
     let at : position (is_on c.args.key) c.self.inside.subs.items ≡ Some c.in-Some.place = search rules in
     let same : set c.self.inside.subs.items c.in-Some.place c.pick-picked.new.self ≡ c.self.inside.subs.items =
     ap (set c.self.inside.subs.items c.in-Some.place) c.pick-picked.ensures.same ∙ same_at (is_on c.args.key) c.self.inside.subs.items c.in-Some.place c.index_mut-sub.result.now c.index_mut-sub.ensures.value in
@@ -51,7 +51,7 @@ invariant_of-self g c =
 
 pub returns-then-is_key_shared-clause-some : goal.returns-then-is_key_shared-clause-some
 returns-then-is_key_shared-clause-some g c =
-    let t : Subscriptions = record { subs = c.self.inside.subs.items; changes = c.self.inside.changes.items; slots = c.self.inside.slots } in
+    let t : Subscriptions = record { subs = c.self.inside.subs.items; changes = c.self.inside.changes.items; slots = c.self.inside.marks.slots; messages = c.self.inside.marks.messages } in
     let at : position (is_on c.args.key) c.self.inside.subs.items ≡ Some c.in-Some.place = search rules in
     let permit : has_permit (find (is_consumer c.args.key) c.index_mut-sub.result.now.consumers) ≡ true = permit_found t c.args.key c.in-Some.place c.index_mut-sub.result.now at c.index_mut-sub.ensures.value (subst (λ (x : Subscriptions). has_permit_at c.args.key (find (is_on c.args.key) x.subs) ≡ true) (sym c.self.view_is) c.requires.permit) in
     subst (λ (x : Subscriptions). IfSome c.pick-picked.result (Admits x c.args.key c.args.committed)) c.self.view_is
@@ -59,14 +59,14 @@ returns-then-is_key_shared-clause-some g c =
 
 pub returns-then-is_key_shared-clause-none : goal.returns-then-is_key_shared-clause-none
 returns-then-is_key_shared-clause-none g c =
-    let t : Subscriptions = record { subs = c.self.inside.subs.items; changes = c.self.inside.changes.items; slots = c.self.inside.slots } in
+    let t : Subscriptions = record { subs = c.self.inside.subs.items; changes = c.self.inside.changes.items; slots = c.self.inside.marks.slots; messages = c.self.inside.marks.messages } in
     let at : position (is_on c.args.key) c.self.inside.subs.items ≡ Some c.in-Some.place = search rules in
     subst (λ (x : Subscriptions). IfNone c.pick-picked.result ((i : ℕ) → Admits x c.args.key c.args.committed i → ⊥)) c.self.view_is
     (picks_none t c.args.key c.args.committed c.in-Some.place c.index_mut-sub.result.now c.pick-picked.result at c.index_mut-sub.ensures.value c.pick-picked.ensures.none)
 
 pub returns-else-is_key_shared-clause-some : goal.returns-else-is_key_shared-clause-some
 returns-else-is_key_shared-clause-some g c =
-    let t : Subscriptions = record { subs = c.self.inside.subs.items; changes = c.self.inside.changes.items; slots = c.self.inside.slots } in
+    let t : Subscriptions = record { subs = c.self.inside.subs.items; changes = c.self.inside.changes.items; slots = c.self.inside.marks.slots; messages = c.self.inside.marks.messages } in
     let at : position (is_on c.args.key) c.self.inside.subs.items ≡ Some c.in-Some.place = search rules in
     let permit : has_permit (find (is_consumer c.args.key) c.index_mut-sub.result.now.consumers) ≡ true = permit_found t c.args.key c.in-Some.place c.index_mut-sub.result.now at c.index_mut-sub.ensures.value (subst (λ (x : Subscriptions). has_permit_at c.args.key (find (is_on c.args.key) x.subs) ≡ true) (sym c.self.view_is) c.requires.permit) in
     subst (λ (x : Subscriptions). IfSome c.pick-picked.result (Admits x c.args.key c.args.committed)) c.self.view_is
@@ -74,7 +74,7 @@ returns-else-is_key_shared-clause-some g c =
 
 pub returns-else-is_key_shared-clause-none : goal.returns-else-is_key_shared-clause-none
 returns-else-is_key_shared-clause-none g c =
-    let t : Subscriptions = record { subs = c.self.inside.subs.items; changes = c.self.inside.changes.items; slots = c.self.inside.slots } in
+    let t : Subscriptions = record { subs = c.self.inside.subs.items; changes = c.self.inside.changes.items; slots = c.self.inside.marks.slots; messages = c.self.inside.marks.messages } in
     let at : position (is_on c.args.key) c.self.inside.subs.items ≡ Some c.in-Some.place = search rules in
     subst (λ (x : Subscriptions). IfNone c.pick-picked.result ((i : ℕ) → Admits x c.args.key c.args.committed i → ⊥)) c.self.view_is
     (picks_none t c.args.key c.args.committed c.in-Some.place c.index_mut-sub.result.now c.pick-picked.result at c.index_mut-sub.ensures.value c.pick-picked.ensures.none)

@@ -13,13 +13,13 @@ use Rattle.subscriptions.proofs.table.Subscriptions.redeliver.Goals as goal
 
 pub returns-in_default : goal.returns-in_default
 returns-in_default g c =
-    let t : Subscriptions = record { subs = c.self.inside.subs.items; changes = c.self.inside.changes.items; slots = c.self.inside.slots } in
+    let t : Subscriptions = record { subs = c.self.inside.subs.items; changes = c.self.inside.changes.items; slots = c.self.inside.marks.slots; messages = c.self.inside.marks.messages } in
     let at : position (is_on c.args.key) c.self.inside.subs.items ≡ None = search rules in
     subst (λ (x : Subscriptions). x ≡ redelivered x c.args.key (option_copied c.args.asked)) c.self.view_is (stays_at t c.args.key (redelivered_on c.args.key (option_copied c.args.asked)) at)
 
 pub invariant_of-self : goal.invariant_of-self
 invariant_of-self g c =
-    let t : Subscriptions = record { subs = c.self.inside.subs.items; changes = c.self.inside.changes.items; slots = c.self.inside.slots } in
+    let t : Subscriptions = record { subs = c.self.inside.subs.items; changes = c.self.inside.changes.items; slots = c.self.inside.marks.slots; messages = c.self.inside.marks.messages } in
     let at : position (is_on c.args.key) c.self.inside.subs.items ≡ Some c.in-Some.place = search rules in
     let new : set c.self.inside.subs.items c.in-Some.place c.redeliver.new.self ≡ first_changed (is_on c.args.key) (redelivered_on c.args.key (option_copied c.args.asked)) c.self.inside.subs.items =
     changes (is_on c.args.key) (redelivered_on c.args.key (option_copied c.args.asked)) c.self.inside.subs.items c.in-Some.place c.index_mut-sub.result.now c.redeliver.new.self at c.index_mut-sub.ensures.value c.redeliver.ensures in
@@ -33,7 +33,7 @@ invariant_of-self g c =
 
 pub returns : goal.returns
 returns g c =
-    let t : Subscriptions = record { subs = c.self.inside.subs.items; changes = c.self.inside.changes.items; slots = c.self.inside.slots } in
+    let t : Subscriptions = record { subs = c.self.inside.subs.items; changes = c.self.inside.changes.items; slots = c.self.inside.marks.slots; messages = c.self.inside.marks.messages } in
     let at : position (is_on c.args.key) c.self.inside.subs.items ≡ Some c.in-Some.place = search rules in
     changes_at t c.args.key (redelivered_on c.args.key (option_copied c.args.asked)) c.in-Some.place c.index_mut-sub.result.now c.redeliver.new.self at c.index_mut-sub.ensures.value c.redeliver.ensures
     ∙ ap (λ (x : Subscriptions). redelivered x c.args.key (option_copied c.args.asked)) c.self.view_is

@@ -2,7 +2,7 @@ use Rattle.std.proofs.Common.{◌≡◌, ◌≤◌, ◌^◌, true, false, refl, 
 use Rattle.disk.specs.declared.file_id.FileId.TheVariants.{Segment}
 use Rattle.gated_log.specs.declared.refusal.Refusal.TheVariants.{Damaged}
 use Rattle.managed_ledger.specs.Entries.{end_of}
-use Rattle.topic_core.specs.Slots.{slots_of}
+use Rattle.topic_core.specs.Messages.{marks_of}
 use Rattle.topic_core.specs.State.{Topic}
 use Rattle.topic_core.specs.Soundness.{HasFloor}
 use Rattle.topic_core.specs.Crashes.{IsLeft, ReopenIn, reopened}
@@ -52,7 +52,7 @@ returns-clause-step g c = λ phase h.
     let left = again_left g.T.TopicStore.stands v v1 d0 d1 c.topic-topic.result again.durable.ledger (g.met.T.TopicStore.laws again.stores) (of.settled h.honest) of.topic c.topic-topic.ensures (of.seen h.honest (λ is. cc))
     g.met.T.TopicStore.stands_one t few (h.left d0.seen (g.met.S.Shelf.lawful c.args.shelf.now h.honest).leaves_seen) in
     subst (λ b. ReopenIn b t (Ok tt) c.restart.new.self) (sym was)
-    (subst (λ (k : Topic). IsLeft t k.ledger k.kept × (k ≡ reopened t k.ledger (slots_of k.ledger) k.kept)) (sym c.restart.ensures.again) (left, refl))
+    (subst (λ (k : Topic). IsLeft t k.ledger k.kept × (k ≡ reopened t k.ledger (marks_of k.ledger) k.kept)) (sym c.restart.ensures.again) (left, refl))
 
 pub returns-clause-standing : goal.returns-clause-standing
 returns-clause-standing g c = λ phase h.

@@ -1,6 +1,0 @@
-use Rattle.std.proofs.Common.{sym}
-use Rattle.subscriptions.proofs.Fronts.{before_all}
-use Rattle.subscriptions.proofs.hash_slots.HashSlots.put_before.Goals as goal
-
-pub returns : goal.returns
-returns c = before_all c.args.count c.self.inside.from c.self.inside.kept.items c.args.self.now (sym c.self.view_is)
