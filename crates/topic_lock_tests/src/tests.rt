@@ -8,13 +8,14 @@ ghost use Rattle.std.specs.Prelude.{◌≡◌, IfOk, length};
 
 use catalog::{Catalog, EntriesPerLedger};
 use commands::ReplyText;
+use disk::Shelf;
 use disk_mem::MemShelf;
 use gated_log::Refusal;
 use std::alloc::{AllocError, Global};
 use std::sync::Wait;
 use std::sync::atomic::{AtomicBool, Ordering};
 use std::thread;
-use topic_core::FileStores;
+use topic_core::{FileStores, TopicStore};
 use topic_lock::{Devices, FlushFault, Flusher, Place, SharedBroker, Tallies, TopicParts, Totals};
 
 // How long a thread waits for another one, in turns.
@@ -71,10 +72,11 @@ fn url(alloc: Global) -> Result<ReplyText, AllocError> {
 }
 
 // A flush of the first topic, once it is there, as its flusher makes it. Where it commits nothing since memory was refused or the device
-// failed, so it says.
-fn flush_first<'a, K: Tallies, R: Wait>(
+// failed, so it says. Over any stores and devices, as all that a port's turn goes through here: the prover compares types part by part,
+// and that of a port over known stores takes more steps than one task may.
+fn flush_first<'a, T: TopicStore, S: Shelf + Drop, K: Tallies, R: Wait>(
     rt: &R,
-    broker: &SharedBroker<'a, FileStores, MemShelf, K>,
+    broker: &SharedBroker<'a, T, S, K>,
     flusher: Flusher<K>,
 ) -> Result<Flusher<K>, Refusal> {
     let Some(place) = broker.places.first() else {

@@ -4,6 +4,7 @@ ghost use Rattle.topic_lock.specs.Ledgers.{IsOf};
 
 use super::talk::{FIRST_MESSAGE, FLOW, SEND, SUBSCRIBE, feed, greet};
 use super::{flush_first, new_broker, waits_for};
+use disk::Shelf;
 use disk_mem::MemShelf;
 use gated_log::Refusal;
 use log::Log;
@@ -15,7 +16,7 @@ use std::sync::atomic::{AtomicBool, Ordering};
 use std::test::Fail;
 use std::thread;
 use std::thread::Threads;
-use topic_core::FileStores;
+use topic_core::{FileStores, TopicStore};
 use topic_lock::{
     Blanks, DurableTally, FlushFault, Flushed, Flusher, Ledgers, RestingPort, Seat, SharedBroker,
     SharedTopic, Taken, Tallies, empty_places,
@@ -98,11 +99,11 @@ fn counted(went_on: bool, flushed: &Flushed) -> Result<(bool, usize), Refusal> {
 }
 
 // Sends as the only producer of a session, has that committed, and sends again.
-fn send_twice<'a, K: Tallies, R: Wait, P: Port>(
+fn send_twice<'a, T: TopicStore, S: Shelf + Drop, K: Tallies, R: Wait, P: Port>(
     rt: &R,
     alloc: Global,
     port: &mut P,
-    broker: &SharedBroker<'a, FileStores, MemShelf, K>,
+    broker: &SharedBroker<'a, T, S, K>,
     flusher: Flusher<K>,
 ) -> Result<Flusher<K>, Refusal> {
     let mut session = Session::new(alloc, 0);
@@ -114,6 +115,20 @@ fn send_twice<'a, K: Tallies, R: Wait, P: Port>(
     Ok(flusher)
 }
 
+// The same in a turn of a port that is at rest.
+fn send_twice_at_rest<'p, 'a, T: TopicStore, S: Shelf + Drop, K: Tallies, R: Wait + Log>(
+    rt: &R,
+    alloc: Global,
+    resting: RestingPort<'p, 'a, T, S, K, R>,
+    broker: &SharedBroker<'a, T, S, K>,
+    flusher: Flusher<K>,
+) -> Result<Flusher<K>, Refusal> {
+    let mut port = resting.begin();
+    let sent = send_twice(rt, alloc, &mut port, broker, flusher);
+    drop(port.rest());
+    sent
+}
+
 // Sends twice in a session. The first entry is committed, and the flush of the second one is held.
 fn send_and_flush<'p, 'a, K: Tallies, R: Wait + Log>(
     rt: &R,
@@ -123,10 +138,7 @@ fn send_and_flush<'p, 'a, K: Tallies, R: Wait + Log>(
     flusher: Flusher<K>,
     gate: &Gate,
 ) -> Result<(bool, usize), Refusal> {
-    let mut port = resting.begin();
-    let sent = send_twice(rt, alloc, &mut port, broker, flusher);
-    drop(port.rest());
-    let flusher = sent?;
+    let flusher = send_twice_at_rest(rt, alloc, resting, broker, flusher)?;
     let Some(place) = broker.places.first() else {
         return Ok((false, 0));
     };
@@ -161,9 +173,9 @@ fn send_and_receive<P: Port>(
 }
 
 // Sends and receives in the other session while the write is held.
-fn go_on_meanwhile<'p, 'a, K: Tallies, R: Wait + Log>(
+fn go_on_meanwhile<'p, 'a, T: TopicStore, S: Shelf + Drop, K: Tallies, R: Wait + Log>(
     alloc: Global,
-    resting: MemPort<'p, 'a, K, R>,
+    resting: RestingPort<'p, 'a, T, S, K, R>,
     gate: &Gate,
 ) -> Result<(bool, bool), Refusal> {
     if !waits_for(&gate.is_held) {

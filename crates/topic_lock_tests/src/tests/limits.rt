@@ -4,6 +4,7 @@ ghost use Rattle.topic_lock.specs.Ledgers.{IsOf};
 
 use super::talk::{RECEIPT, SEND, feed, greet};
 use super::{TURNS, flush_first, new_broker};
+use disk::Shelf;
 use disk_mem::MemShelf;
 use gated_log::Refusal;
 use log::Log;
@@ -15,7 +16,7 @@ use std::sync::atomic::{AtomicU64, Ordering};
 use std::test::Fail;
 use std::thread;
 use std::thread::Threads;
-use topic_core::FileStores;
+use topic_core::{FileStores, TopicStore};
 use topic_lock::{
     Blanks, Flusher, Ledgers, RestingPort, Seat, SharedBroker, Tallies, empty_places,
 };
@@ -77,9 +78,9 @@ type Settled = (u64, (u64, u64));
 type MemPort<'p, 'a, K, R> = RestingPort<'p, 'a, FileStores, MemShelf, K, R>;
 
 // Publishes, waits until both sessions have, and settles.
-fn session<'p, 'a, K: Tallies, R: Wait + Log>(
+fn session<'p, 'a, T: TopicStore, S: Shelf + Drop, K: Tallies, R: Wait + Log>(
     alloc: Global,
-    port: MemPort<'p, 'a, K, R>,
+    port: RestingPort<'p, 'a, T, S, K, R>,
     who: u64,
     finished: &AtomicU64,
 ) -> Result<Settled, Refusal> {

@@ -4,7 +4,7 @@ ghost use Rattle.topic_lock.specs.Ledgers.{IsOf};
 
 use super::talk::{ACK, FLOW, SEND, SUBSCRIBE, feed, greet};
 use super::{flush_first, new_broker};
-use disk_mem::MemShelf;
+use disk::Shelf;
 use gated_log::Refusal;
 use log::Log;
 use session::{Port, Session};
@@ -13,7 +13,7 @@ use std::marker::Brand;
 use std::sync::Wait;
 use std::test::Fail;
 use subscriptions::Mode;
-use topic_core::{Activity, FileStores, TopicSummary};
+use topic_core::{Activity, TopicStore, TopicSummary};
 use topic_lock::{
     Blanks, Flusher, Ledgers, RestingPort, Seat, SharedBroker, SharedTopic, Tallies, empty_places,
 };
@@ -27,9 +27,9 @@ type Told = (
     [Option<u64>; 2],
 );
 
-fn told<K: Tallies, R: Wait>(
+fn told<T: TopicStore, S: Shelf + Drop, K: Tallies, R: Wait>(
     rt: &R,
-    shared: &SharedTopic<FileStores, MemShelf, K>,
+    shared: &SharedTopic<T, S, K>,
 ) -> Result<Told, AllocError> {
     let topic = (shared.summary(rt), shared.activity(rt));
     let first = match shared.subscription(rt, 0)? {
@@ -45,9 +45,9 @@ fn told<K: Tallies, R: Wait>(
 }
 
 // The same of the first topic, where it is there.
-fn told_first<'a, K: Tallies, R: Wait>(
+fn told_first<'a, T: TopicStore, S: Shelf + Drop, K: Tallies, R: Wait>(
     rt: &R,
-    broker: &SharedBroker<'a, FileStores, MemShelf, K>,
+    broker: &SharedBroker<'a, T, S, K>,
 ) -> Result<Option<Told>, AllocError> {
     let Some(place) = broker.places.first() else {
         return Ok(None);
@@ -60,11 +60,11 @@ fn told_first<'a, K: Tallies, R: Wait>(
 }
 
 // Sends and has that committed, sends again, and gets and acknowledges the first message, by one of two permits.
-fn work<'a, K: Tallies, R: Wait, P: Port>(
+fn work<'a, T: TopicStore, S: Shelf + Drop, K: Tallies, R: Wait, P: Port>(
     rt: &R,
     alloc: Global,
     port: &mut P,
-    broker: &SharedBroker<'a, FileStores, MemShelf, K>,
+    broker: &SharedBroker<'a, T, S, K>,
     flusher: Flusher<K>,
 ) -> Result<(), Refusal> {
     let mut session = Session::new(alloc, 0);
@@ -80,6 +80,22 @@ fn work<'a, K: Tallies, R: Wait, P: Port>(
         return Err(Refusal::NoMemory);
     }
     feed(&mut session, ACK, port, &mut out)
+}
+
+// What is told behind that, in a turn of a port that is at rest, before it ends.
+fn work_and_look<'p, 'a, T: TopicStore, S: Shelf + Drop, K: Tallies, R: Wait + Log>(
+    rt: &R,
+    alloc: Global,
+    resting: RestingPort<'p, 'a, T, S, K, R>,
+    broker: &SharedBroker<'a, T, S, K>,
+    flusher: Flusher<K>,
+) -> Result<Option<Told>, Refusal> {
+    let mut port = resting.begin();
+    let worked = work(rt, alloc, &mut port, broker, flusher);
+    let told = told_first(rt, broker);
+    drop(port.rest());
+    worked?;
+    Ok(told?)
 }
 
 // What is told behind that, while the session is there.
@@ -104,12 +120,8 @@ fn run<K: Tallies, R: Wait + Log>(
         unreachable!();
     };
     let seat = Seat::new(0);
-    let mut port = RestingPort::new(rt, alloc, &broker, &seat, share).begin();
-    let worked = work(rt, alloc, &mut port, &broker, flusher);
-    let told = told_first(rt, &broker);
-    drop(port.rest());
-    worked?;
-    match told? {
+    let resting = RestingPort::new(rt, alloc, &broker, &seat, share);
+    match work_and_look(rt, alloc, resting, &broker, flusher)? {
         Some(told) if lacks_device(&told) => Err(Refusal::Device),
         told => Ok(told),
     }
