@@ -21,6 +21,12 @@ def topic(word):
         raise argparse.ArgumentTypeError(why) from None
 
 
+def count(word):
+    if not word.isdecimal() or int(word) == 0:
+        raise argparse.ArgumentTypeError(f"{word!r} isn't a whole number from 1 on")
+    return int(word)
+
+
 def parser_of(doc):
     """A parser of what both take, whose help is made of a program's docstring: what it does, its usage, and more."""
     what, usage, more = doc.split("\n\n")

@@ -4,17 +4,18 @@
 Usage: examples/consume.py HOST:PORT TOPIC SUBSCRIPTION [--type exclusive|failover|shared] [--earliest] [--count N]
 
 A subscription remembers what was acknowledged, so each run goes on behind the one before. A new one begins behind the messages that are there;
-with --earliest it begins at the first one. Ends behind N messages, once all are acknowledged for good; else with the connection. A fault, such
-as that end, is told on standard error, with exit status 1. Once nobody reads standard output it ends quietly, with exit status 141, as other programs
-do in a pipe, and what it couldn't print comes again; and so it does at Ctrl-C, with 130.
+with --earliest it begins at the first one. The id of a message in a batch ends in its number there, from 0 on. Ends behind N messages, or behind the
+batch that has the last of them, once all are acknowledged for good; else with the connection. A fault, such as that end, is told on standard error,
+with exit status 1. Once nobody reads standard output it ends quietly, with exit status 141, as other programs do in a pipe, and what it couldn't print
+comes again; and so it does at Ctrl-C, with 130.
 """
-import argparse
+import itertools
 import os
 import sys
 
 sys.dont_write_bytecode = True
-from command_line import parser_of, run  # noqa: E402
-from frames import ACK, ACK_RESPONSE, FLOW, MESSAGE, SUBSCRIBE, SUCCESS, Connection, number, payload_of, text, told_id  # noqa: E402
+from command_line import count, parser_of, run  # noqa: E402
+from frames import ACK, ACK_RESPONSE, FLOW, MESSAGE, SUBSCRIBE, SUCCESS, Connection, messages_of, number, text, told_id  # noqa: E402
 
 CONSUMER_ID = 1  # the client's own choice; one connection may have several consumers
 TYPES = {"exclusive": 0, "shared": 1, "failover": 2}
@@ -24,10 +25,10 @@ EARLIEST = 1
 
 
 class Permits:
-    """What the broker may send: it sends no message without a permit, and each message takes one."""
+    """What the broker may send: it sends nothing without a permit, and each message takes one. A batch comes whole, so some may be owed."""
 
-    def __init__(self, connection, count):
-        self.connection, self.left, self.open = connection, count, 0
+    def __init__(self, connection, wanted):
+        self.connection, self.left, self.open = connection, wanted, 0
 
     def top_up(self):
         """Grants further permits where half of them are used, but never more than messages are wanted."""
@@ -37,9 +38,17 @@ class Permits:
             self.open += more
             self.left = None if self.left is None else self.left - more
 
-    def use(self):
-        self.open -= 1
+    def use(self, messages):
+        self.open -= messages
         self.top_up()
+
+
+def show(message_id, entry):
+    """Prints the messages of an entry, each with its id, and answers how many they are."""
+    messages, is_batch = messages_of(entry)
+    for index, message in enumerate(messages):
+        print(f"{told_id(message_id)}:{index}" if is_batch else told_id(message_id), message.decode(errors="replace"), flush=True)
+    return len(messages)
 
 
 def consume(words):
@@ -50,22 +59,17 @@ def consume(words):
     connection.expect(SUCCESS)
     permits = Permits(connection, words.count)
     permits.top_up()
-    acknowledged = 0
+    request_ids, acknowledged, asked = itertools.count(2), 0, {}  # of each ACK that isn't answered yet how many messages it acknowledges
     while words.count is None or acknowledged < words.count:
         kind, fields, entry = connection.receive()
         if kind == MESSAGE:
-            print(told_id(fields[2]), payload_of(entry).decode(errors="replace"), flush=True)
-            # With a request id the broker answers, once the acknowledgement outlives a crash. Without one it wouldn't.
-            connection.send(ACK, number(1, CONSUMER_ID) + number(2, INDIVIDUAL) + text(3, fields[2]) + number(8, 2))
-            permits.use()
+            request_id = next(request_ids)
+            asked[request_id] = show(fields[2], entry)
+            # With a request id the broker answers, once the acknowledgement outlives a crash. Without one it wouldn't. It is of all messages of a batch.
+            connection.send(ACK, number(1, CONSUMER_ID) + number(2, INDIVIDUAL) + text(3, fields[2]) + number(8, request_id))
+            permits.use(asked[request_id])
         elif kind == ACK_RESPONSE:
-            acknowledged += 1
-
-
-def count(word):
-    if not word.isdecimal() or int(word) == 0:
-        raise argparse.ArgumentTypeError(f"{word!r} isn't a whole number from 1 on")
-    return int(word)
+            acknowledged += asked.pop(fields[6])
 
 
 def main():

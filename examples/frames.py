@@ -9,6 +9,9 @@ Client and broker exchange frames. A frame has one command, and an entry behind 
     ..        the metadata, a Protocol Buffers message | the entry
     ..        the payload, up to the end of the frame  |
 
+An entry is one message, or a batch of several: then field 11 of its metadata says how many, and its payload is, of each message in turn, the size of a
+metadata of its own (4 bytes), this metadata, whose field 3 is the size of the message, and the message.
+
 Sizes are big-endian. The broker keeps the entry, and hands it out byte for byte. From protocol version 6 on, `0e 01` and four bytes of checksum may
 stand before metadataSize. This broker answers version 5 in its CONNECTED, so there are no checksums here.
 
@@ -28,6 +31,7 @@ ENDED = "the broker ended the connection"
 CONNECT, CONNECTED, SUBSCRIBE, PRODUCER, SEND, SEND_RECEIPT, SEND_ERROR, MESSAGE, ACK, FLOW = 2, 3, 4, 5, 6, 7, 8, 9, 10, 11
 SUCCESS, ERROR, CLOSE_PRODUCER, PRODUCER_SUCCESS, PING, PONG, ACK_RESPONSE = 13, 14, 15, 17, 18, 19, 38
 ERROR_TEXT = {ERROR: 3, SEND_ERROR: 4, ACK_RESPONSE: 5}  # the field that says why something is refused
+MESSAGES_IN_BATCH, MESSAGE_SIZE = 11, 3  # fields of an entry's metadata, and of that of a message in a batch
 
 
 class Failed(Exception):
@@ -81,8 +85,23 @@ def entry_of(metadata, payload):
     return len(metadata).to_bytes(4, "big") + metadata + payload
 
 
-def payload_of(entry):
-    return entry[4 + int.from_bytes(entry[:4], "big"):]
+def batch_of(messages):
+    """The payload of an entry of several messages."""
+    return b"".join(entry_of(number(MESSAGE_SIZE, len(message)), message) for message in messages)
+
+
+def messages_of(entry):
+    """The messages of an entry, and whether it is a batch."""
+    start = 4 + int.from_bytes(entry[:4], "big")
+    metadata, messages, at = fields_of(entry[4:start]), [], start
+    if MESSAGES_IN_BATCH not in metadata:
+        return [entry[start:]], False
+    for _ in range(metadata[MESSAGES_IN_BATCH]):
+        start = at + 4 + int.from_bytes(entry[at:at + 4], "big")
+        size = fields_of(entry[at + 4:start]).get(MESSAGE_SIZE, 0)
+        messages.append(entry[start:start + size])
+        at = start + size
+    return messages, True
 
 
 def told_id(message_id):

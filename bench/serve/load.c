@@ -1,15 +1,15 @@
 /* A load on a served broker: producers that keep so many SENDs under way each, and consumers that acknowledge; in so many threads, each with the
    connections whose numbers fall to it and an epoll of its own.
 
-   Usage: load HOST:PORT [--connections N] [--outstanding N] [--bytes N] [--topics N] [--consumers N] [--type exclusive|failover|shared]
+   Usage: load HOST:PORT [--connections N] [--outstanding N] [--bytes N] [--batch N] [--topics N] [--consumers N] [--type exclusive|failover|shared]
                [--permits N] [--acks N] [--seconds S] [--warmup S] [--messages N] [--threads N] [--redis 1 | --rabbit 1]
 
-   Producer i publishes on topic i modulo the topics, entries with a payload of so many bytes. Consumer j is of topic j modulo the topics: on one
-   subscription, or, where the type is exclusive, on one of its own, from the first entry on; it acknowledges in frames of so many message ids, each of
-   which is answered. What is counted comes in the seconds behind the warm-up, once all producers and consumers are there; then what is under way is
-   waited for. With --messages all is counted from the start, up to that many messages, in one thread. With --redis 1 each message is an XADD to a stream of its
-   topic's number; with --rabbit 1 each is a persistent one to a durable quorum queue of its topic's number, and its confirm is its receipt. There are
-   no consumers with these.
+   Producer i publishes on topic i modulo the topics, entries of a message of so many bytes, or, with --batch, of so many such messages. Consumer j is of
+   topic j modulo the topics: on one subscription, or, where the type is exclusive, on one of its own, from the first entry on; it acknowledges in frames
+   of so many message ids, each of which is answered. What is counted comes in the seconds behind the warm-up, once all producers and consumers are there;
+   then what is under way is waited for. With --messages all is counted from the start, up to that many messages, in one thread. With --redis 1 each
+   message is an XADD to a stream of its topic's number; with --rabbit 1 each is a persistent one to a durable quorum queue of its topic's number, and its
+   confirm is its receipt. There are no consumers and no batches with these.
 
    Prints one line of JSON: counts, the times from a SEND to its receipt and from a SEND to its message at 50, 99 and 99.9 per cent, in
    microseconds, and how many processors the load took itself. */
@@ -34,7 +34,7 @@ enum { PIECE = 1 << 18, MOST_OUT = 1 << 18, EVENTS = 256, EXCLUSIVE = 0, SHARED 
 
 static struct {
     const char *address;
-    unsigned connections, outstanding, bytes, topics, consumers, type, permits, acks, threads;
+    unsigned connections, outstanding, bytes, batch, topics, consumers, type, permits, acks, threads;
     double seconds, warmup;
     uint64_t messages;
     int redis, rabbit;
@@ -53,7 +53,7 @@ struct connection {
     struct buffer in, out;
     uint64_t sent, received; /* a producer's SENDs and receipts */
     uint64_t *sent_at;       /* when those that are under way were sent, a ring */
-    unsigned permits;        /* a consumer's that are left */
+    int permits;             /* a consumer's that are left; below 0 what it owes */
     struct message_id *ids;  /* what it hasn't acknowledged yet */
     unsigned id_count;
 };
@@ -64,7 +64,8 @@ static atomic_uint ready;
 static _Thread_local unsigned thread; /* this one's number: it has each connection whose number is that, modulo the threads */
 static _Thread_local uint64_t *topic_receipts;
 static _Thread_local int epoll;
-static _Thread_local unsigned char *payload;
+static _Thread_local struct buffer payload; /* of an entry */
+static _Thread_local size_t first_message;  /* where it begins there */
 static _Thread_local struct buffer fields; /* of the command that is being written */
 
 /* Counts and times */
@@ -123,6 +124,27 @@ static _Noreturn void fail(const char *format, ...) {
 
 /* What is sent */
 
+static unsigned messages_of_an_entry(void) { return options.batch ? options.batch : 1; }
+
+static void put_message(void) {
+    memset(reserve(&payload, options.bytes), 'x', options.bytes);
+    payload.end += options.bytes;
+}
+
+/* The payload of each entry: a message, or, of each of a batch, the size of its metadata, this metadata, which says how long it is, and the message. */
+static void make_payload(void) {
+    struct buffer metadata = {0};
+    put_number(&metadata, 3, options.bytes);
+    for (unsigned n = 0; n < options.batch; n++) {
+        put_size(&payload, metadata.end);
+        put(&payload, metadata.bytes, metadata.end);
+        put_message();
+    }
+    if (options.batch) first_message = 4 + metadata.end;
+    else put_message();
+    free(metadata.bytes);
+}
+
 static size_t topic_name(char *to, unsigned topic) { return sprintf(to, "persistent://bench/serve/topic-%u", topic); }
 
 static void ask_for_producer(struct connection *it) {
@@ -156,26 +178,28 @@ static void put_send(struct connection *it, uint64_t now) {
     put_text(&metadata, 1, "load", 4);
     put_number(&metadata, 2, it->sent);
     put_number(&metadata, 3, now / 1000000);
+    if (options.batch) put_number(&metadata, 11, options.batch);
     put_number(&fields, 1, ID);
     put_number(&fields, 2, it->sent);
-    put_command(&it->out, SEND, &fields, 4 + metadata.end + options.bytes);
+    if (options.batch) put_number(&fields, 3, options.batch);
+    put_command(&it->out, SEND, &fields, 4 + metadata.end + payload.end);
     put_size(&it->out, metadata.end);
     put(&it->out, metadata.bytes, metadata.end);
-    put(&it->out, payload, options.bytes);
+    put(&it->out, payload.bytes, payload.end);
 }
 
 static void put_xadd(struct connection *it) {
     char head[128], topic[16];
     int size = sprintf(topic, "topic-%u", it->topic);
     put(&it->out, head, sprintf(head, "*5\r\n$4\r\nXADD\r\n$%d\r\n%s\r\n$1\r\n*\r\n$1\r\nm\r\n$%u\r\n", size, topic, options.bytes));
-    put(&it->out, payload, options.bytes);
+    put(&it->out, payload.bytes, payload.end);
     put(&it->out, "\r\n", 2);
 }
 
 static void put_to_queue(struct connection *it) {
     char queue[16];
     sprintf(queue, "topic-%u", it->topic);
-    put_publish(&it->out, queue, payload, options.bytes);
+    put_publish(&it->out, queue, payload.bytes, payload.end);
 }
 
 static void ask_for_queue(struct connection *it) {
@@ -187,7 +211,7 @@ static void ask_for_queue(struct connection *it) {
 /* Sends as many as may be under way, as far as there is room for what isn't written yet. */
 static void publish(struct connection *it, uint64_t now) {
     if (it->is_consumer || !it->is_ready || phase == SETUP || phase == LAST) return;
-    memcpy(payload, &now, sizeof now); /* so that a consumer can tell how old the message is */
+    memcpy(payload.bytes + first_message, &now, sizeof now); /* so that a consumer can tell how old the entry is */
     while (it->sent - it->received < options.outstanding && in_use(&it->out) < MOST_OUT) {
         if (options.redis) put_xadd(it);
         else if (options.rabbit) put_to_queue(it);
@@ -198,9 +222,9 @@ static void publish(struct connection *it, uint64_t now) {
 }
 
 static void grant(struct connection *it) {
-    if (it->permits > options.permits / 2) return;
+    if (it->permits > (int)options.permits / 2) return;
     put_number(&fields, 1, ID);
-    put_number(&fields, 2, options.permits - it->permits);
+    put_number(&fields, 2, (int)options.permits - it->permits);
     put_command(&it->out, FLOW, &fields, 0);
     it->permits = options.permits;
 }
@@ -235,15 +259,15 @@ static void take_receipt(struct connection *it, uint64_t now) {
 
 static void take_message(struct connection *it, const struct reply *got, uint64_t now) {
     struct reply id;
-    const unsigned char *content = payload_of(got, sizeof(uint64_t));
+    const unsigned char *content = payload_of(got, first_message + sizeof(uint64_t));
     if (!it->is_consumer || !content || !take_fields(&id, got->text[2].bytes, got->text[2].bytes + got->text[2].size)) fail("a message that can't be read");
     uint64_t sent;
-    memcpy(&sent, content, sizeof sent);
+    memcpy(&sent, content + first_message, sizeof sent);
     note_time(&message_times, sent, now);
-    counted.messages++;
+    counted.messages += messages_of_an_entry();
     it->ids[it->id_count++] = (struct message_id){id.number[1], id.number[2]};
     if (it->id_count == options.acks) acknowledge(it);
-    it->permits--;
+    it->permits -= messages_of_an_entry();
     grant(it);
 }
 
@@ -488,11 +512,10 @@ static void add(double took, double processors, const struct counts *before, con
 /* One thread's part. */
 static void *work(void *number) {
     thread = (unsigned)(uintptr_t)number;
-    payload = malloc(options.bytes);
+    make_payload();
     epoll = epoll_create1(0);
     topic_receipts = calloc(options.topics, sizeof *topic_receipts);
-    if (!payload || !topic_receipts || epoll < 0) fail("no memory");
-    memset(payload, 'x', options.bytes);
+    if (!topic_receipts || epoll < 0) fail("no memory");
     for (unsigned n = thread; n < count; n += options.threads) open_connection(&all[n], n);
     begin(SETUP);
     uint64_t began = nanoseconds();
@@ -555,6 +578,7 @@ static void take_option(const char *name, const char *value) {
     if (!strcmp(name, "--connections")) options.connections = whole(value, 0);
     else if (!strcmp(name, "--outstanding")) options.outstanding = whole(value, 1);
     else if (!strcmp(name, "--bytes")) options.bytes = whole(value, sizeof(uint64_t));
+    else if (!strcmp(name, "--batch")) options.batch = whole(value, 0);
     else if (!strcmp(name, "--topics")) options.topics = whole(value, 1);
     else if (!strcmp(name, "--consumers")) options.consumers = whole(value, 0);
     else if (!strcmp(name, "--type")) options.type = type_named(value);
@@ -576,7 +600,7 @@ static void take_options(int words, char **word) {
         if (n + 1 == words) fail("no value of %s", word[n]);
         take_option(word[n], word[n + 1]);
     }
-    if ((options.redis || options.rabbit) && options.consumers) fail("no consumers with --redis or --rabbit");
+    if ((options.redis || options.rabbit) && (options.consumers || options.batch)) fail("no consumers and no batches with --redis or --rabbit");
     if (options.redis && options.rabbit) fail("--redis or --rabbit, not both");
     if (options.messages || options.threads > options.connections + options.consumers) options.threads = 1;
 }
