@@ -41,7 +41,7 @@ module _ (files_stand : ℕ → Image → Ledger → Kept → Type 0) (first : S
   -- behind a front of the happenings
   module _ (worked : List Happening) (outputs : List Output) (between : Life) (run : AllowedRun start (happening.Crash ∷ worked) outputs between) where
     reached_next : (broker : Broker) (rest : List Happening) → happenings ≡ worked ++ rest
-        → (broker ≡ between.state.broker) ⊎ ((next : Event) × (later : List Happening) × (rest ≡ happening.Event next ∷ later) × (between.up ≡ true) × Amid between.state.broker next broker) → Reached broker
+        → (broker ≡ between.state.broker) ⊎ ((next : Event) × (later : List Happening) × (rest ≡ happening.Event next ∷ later) × (between.up ≡ true) × Amid between.state.sessions between.state.broker next broker) → Reached broker
     reached_next broker rest front here = record {
       worked = happening.Crash ∷ worked;
       rest = rest;
@@ -52,20 +52,20 @@ module _ (files_stand : ℕ → Image → Ledger → Kept → Type 0) (first : S
       here = here;
     }
 
-    reached_in : (up : Bool) (e : Event) (later : List Happening) (broker : Broker) → between.up ≡ up → happenings ≡ worked ++ happening.Event e ∷ later → AmidEvent up between.state.broker e broker → Reached broker
+    reached_in : (up : Bool) (e : Event) (later : List Happening) (broker : Broker) → between.up ≡ up → happenings ≡ worked ++ happening.Event e ∷ later → AmidEvent up between.state e broker → Reached broker
     reached_in true e later broker up front amid = reached_next broker (happening.Event e ∷ later) front (inr (e, later, refl, up, amid))
     reached_in false e later broker up front amid = reached_next broker (happening.Event e ∷ later) front (inl amid)
 
-    reached_amid : (h : Happening) (later : List Happening) (broker : Broker) → happenings ≡ worked ++ h ∷ later → AmidHappening between.up between.state.broker h broker → Reached broker
+    reached_amid : (h : Happening) (later : List Happening) (broker : Broker) → happenings ≡ worked ++ h ∷ later → AmidHappening between.up between.state h broker → Reached broker
     reached_amid (happening.Event e) later broker front amid = reached_in between.up e later broker refl front amid
     reached_amid (happening.Crash) later broker front amid = reached_next broker (happening.Crash ∷ later) front (inl amid)
 
     -- one happening more
     pub short_more : (h : Happening) (rest later : List Happening) (d0 d1 d2 : Disk) → happenings ≡ worked ++ rest → rest ≡ h ∷ later
-        → Leaves Short d0 d1 → Leaves (StandsForSome files_stand (λ broker. AmidHappening between.up between.state.broker h broker)) d1 d2 → Leaves Short d0 d2
+        → Leaves Short d0 d1 → Leaves (StandsForSome files_stand (λ broker. AmidHappening between.up between.state h broker)) d1 d2 → Leaves Short d0 d2
     short_more h rest later d0 d1 d2 front next before leaves =
         let at = subst (λ (hs : List Happening). happenings ≡ worked ++ hs) next front in
-        joins Short (StandsForSome files_stand (λ broker. AmidHappening between.up between.state.broker h broker)) Short d0 d1 d2 before leaves (λ files s. s) (λ files s. (s.0, reached_amid h later s.0 at s.1, s.2))
+        joins Short (StandsForSome files_stand (λ broker. AmidHappening between.up between.state h broker)) Short d0 d1 d2 before leaves (λ files s. s) (λ files s. (s.0, reached_amid h later s.0 at s.1, s.2))
 
 -- ---- the openings after them
 

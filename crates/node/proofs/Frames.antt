@@ -29,6 +29,7 @@ use Rattle.catalog.specs.Names.{Names}
 use Rattle.catalog.specs.Catalogs.{Own, Holds as NamesHeld, remembered, failed}
 use Rattle.catalog.specs.Laws.{own_file, holds_local}
 use Rattle.session.specs.Broker.{Broker, topic_at, with_topic, fresh}
+use Rattle.session.specs.Client.{Client}
 use Rattle.node.specs.declared.held.Held.{Held}
 use Rattle.node.specs.declared.topics.Topics.{Topics}
 use Rattle.node.specs.declared.flight.Flight.{Flight}
@@ -205,9 +206,9 @@ amid_ledgers on_topic.Flush t limit = flushing_ledgers t.failed (has_no_flush t)
 amid_ledgers _ t limit = refl
 
 -- a broker while an event of one topic goes on, as one of those that there may be
-amid_some : (stands : ℕ → Image → Ledger → Kept → Type 0) (b : Broker) (number : ℕ) (event : TopicEvent) (limit : ℕ) (old new : Disk) → IsTrimPoint (topic_at b number) limit
-    → Leaves (StandsForBroker stands (with_topic b number (amid_work event (topic_at b number) limit))) old new → Leaves (StandsForSome stands (λ broker. Amid b (asked.OnTopic number event) broker)) old new
-amid_some stands b number event limit old new point leaves = weaken _ _ old new leaves (λ files is. (with_topic b number (amid_work event (topic_at b number) limit), (limit, point, refl), is))
+amid_some : (stands : ℕ → Image → Ledger → Kept → Type 0) (sessions : List Client) (b : Broker) (number : ℕ) (event : TopicEvent) (limit : ℕ) (old new : Disk) → IsTrimPoint (topic_at b number) limit
+    → Leaves (StandsForBroker stands (with_topic b number (amid_work event (topic_at b number) limit))) old new → Leaves (StandsForSome stands (λ broker. Amid sessions b (asked.OnTopic number event) broker)) old new
+amid_some stands sessions b number event limit old new point leaves = weaken _ _ old new leaves (λ files is. (with_topic b number (amid_work event (topic_at b number) limit), (limit, point, refl), is))
 
 -- a broker of which one topic changes
 formed_changed : (b : Broker) (number : ℕ) (u : Topic) → u.per_ledger ≡ b.per_ledger → IsFormed b → IsFormed (with_topic b number u)
@@ -257,11 +258,11 @@ module _ {T S : Type 0} {store : StoreMembers T} where
       (length-map (slice_set t.held.items number next) (λ (x : Held T store). x.core) ∙ length-set t.held.items number next ∙ sym (count_is t)) is
 
   -- an event of a topic that isn't there
-  pub beyond_leaves : (disk : S → Disk) (t : Topics T S store) (number : ℕ) → ¬ (number < length t.held.items) → (event : TopicEvent) → TopicsStand disk t
-      → Leaves (StandsForSome store.stands (λ broker. Amid (broker_of t) (asked.OnTopic number event) broker)) (disk t.shelf) (disk t.shelf)
-  beyond_leaves disk t number high event s =
+  pub beyond_leaves : (disk : S → Disk) (t : Topics T S store) (number : ℕ) → ¬ (number < length t.held.items) → (sessions : List Client) (event : TopicEvent) → TopicsStand disk t
+      → Leaves (StandsForSome store.stands (λ broker. Amid sessions (broker_of t) (asked.OnTopic number event) broker)) (disk t.shelf) (disk t.shelf)
+  beyond_leaves disk t number high sessions event s =
       let topic = topic_at (broker_of t) number in
-      amid_some store.stands (broker_of t) number event topic.ledger.base (disk t.shelf) (disk t.shelf) (inl refl)
+      amid_some store.stands sessions (broker_of t) number event topic.ledger.base (disk t.shelf) (disk t.shelf) (inl refl)
       (subst (λ (ts : List Topic). Leaves (StandsForBroker store.stands (over (broker_of t) ts)) (disk t.shelf) (disk t.shelf))
       (sym (set_beyond (broker_of t).topics number (amid_work event topic topic.ledger.base) (λ low. high (omega (arith, low, count_is t))))) (untouched disk t t.shelf s refl))
 
@@ -309,12 +310,12 @@ module _ {T S : Type 0} {store : StoreMembers T} where
     })
 
     -- while an event of the topic goes on
-    pub work_leaves : (event : TopicEvent) (d : Disk)
+    pub work_leaves : (sessions : List Client) (event : TopicEvent) (d : Disk)
         → (limit : ℕ) × IsTrimPoint h.core limit × Within (OfTopic (view_in h).topic) (StandsFor (store.stands (view_in h).topic) (IsLeft (amid_work event h.core limit))) (disk t.shelf) d → TopicsStand disk t
-        → Leaves (StandsForSome store.stands (λ broker. Amid (broker_of t) (asked.OnTopic number event) broker)) (disk t.shelf) d
-    work_leaves event d w s =
+        → Leaves (StandsForSome store.stands (λ broker. Amid sessions (broker_of t) (asked.OnTopic number event) broker)) (disk t.shelf) d
+    work_leaves sessions event d w s =
         let limit = w.0 in
         let at = sym (topic_was (broker_of t) t.held.items number h next was) in
-        amid_some store.stands (broker_of t) number event limit (disk t.shelf) d (subst (λ (x : Topic). IsTrimPoint x limit) at w.1)
+        amid_some store.stands sessions (broker_of t) number event limit (disk t.shelf) d (subst (λ (x : Topic). IsTrimPoint x limit) at w.1)
         (subst (λ (x : Topic). Leaves (StandsForBroker store.stands (with_topic (broker_of t) number (amid_work event x limit))) (disk t.shelf) d) at
         (leaves_then (amid_work event h.core limit) (amid_ledgers event h.core limit) d (of_number_within t number h was (IsLeft (amid_work event h.core limit)) (disk t.shelf) d w.2) s))

@@ -25,7 +25,7 @@ use Rattle.topic_core.specs.Steps.{first_standing, collected, left}
 use Rattle.topic_core.specs.declared.command.SentEntry.{SentEntry}
 use Rattle.topic_core.specs.declared.command.TopicCommand.{TopicCommand}
 use Rattle.session.specs.Broker.{Broker, topic_at, with_topic, sure, doubting, made, number_of, Settles, FindIn, FindStep, left_all}
-use Rattle.session.specs.Client.{Play, play, SaysAlone, Ends, left_if, left_if_ended}
+use Rattle.session.specs.Client.{Client, Play, play, SaysAlone, Ends, left_if, left_if_ended}
 use Rattle.session.specs.Consuming as consuming
 use Rattle.session.specs.GivingBack as giving_back
 use Rattle.session.specs.Lookup.{LookupIn, PartitionsIn}
@@ -321,13 +321,13 @@ event_keeps old (event.Close who) output new s = ends_session (place_of old.sess
 event_keeps old (event.OnTopic topic e) output new s = works_on e (place_in old.broker.topics topic) old output new s
 
 -- while it goes on
-amid_keeps : (b : Broker) (e : Event) (c : Broker) → steps.Amid b e c → Keeps b c
-amid_keeps b event.Open c s = same b c s
-amid_keeps b (event.Bytes who bytes) c s = subst (λ (x : Broker). Keeps b x) (sym s.gained)
-    (record { names = λ number name is. got_before b.names s.more number name is; service_url = refl; per_ledger = refl })
-amid_keeps b (event.Pump who) c s = same b c s
-amid_keeps b (event.Close who) c s = same b c s
-amid_keeps b (event.OnTopic at e) c s = placed b c at (steps.amid_work e (topic_at b at) s.0) s.2
+amid_keeps : (sessions : List Client) (b : Broker) (e : Event) (c : Broker) → steps.Amid sessions b e c → Keeps b c
+amid_keeps sessions b event.Open c s = same b c s
+amid_keeps sessions b (event.Bytes who bytes) c s = subst (λ (x : Broker). Keeps b x) (sym s.holds.gained)
+    (record { names = λ number name is. got_before b.names s.holds.more number name is; service_url = refl; per_ledger = refl })
+amid_keeps sessions b (event.Pump who) c s = same b c s
+amid_keeps sessions b (event.Close who) c s = same b c s
+amid_keeps sessions b (event.OnTopic at e) c s = placed b c at (steps.amid_work e (topic_at b at) s.0) s.2
 
 pub run_keeps : (old : State) (events : List Event) (outputs : List Output) (new : State) → Run old events outputs new → Keeps old.broker new.broker
 run_keeps old events outputs new run =
@@ -358,7 +358,7 @@ happening_keeps old (happening.Crash) output new s = opening_keeps output.result
 turn_keeps : (old : Life) (t : Turn) (output : Output) (new : Life) → TurnStep old t output new → Keeps old.state.broker new.state.broker
 turn_keeps old (Whole h) output new s = happening_keeps old h output new s
 turn_keeps old (Within e) output new s =
-    both old.state.broker s.broker new.state.broker (amid_keeps old.state.broker e s.broker s.amid) (opening_keeps output.result (cut_in old.state s.broker s.faults) new s.opening.1)
+    both old.state.broker s.broker new.state.broker (amid_keeps old.state.sessions old.state.broker e s.broker s.amid) (opening_keeps output.result (cut_in old.state s.broker s.faults) new s.opening.1)
 
 pub life_keeps : (old : Life) (happenings : List Happening) (outputs : List Output) (new : Life) → AllowedRun old happenings outputs new → Keeps old.state.broker new.state.broker
 life_keeps old happenings outputs new run =
@@ -373,4 +373,4 @@ cut_life_keeps old turns outputs new run =
 -- a broker that a front of happenings reaches
 pub amidst_keeps : (old : Life) (happenings : List Happening) (b : Broker) → Amidst old happenings b → Keeps old.state.broker b
 amidst_keeps old happenings b at = both old.state.broker at.between.state.broker b (life_keeps old at.worked at.outputs at.between at.run)
-    (⊎_elim (λ is. same at.between.state.broker b is) (λ within. amid_keeps at.between.state.broker within.0 b within.4) at.here)
+    (⊎_elim (λ is. same at.between.state.broker b is) (λ within. amid_keeps at.between.state.sessions at.between.state.broker within.0 b within.4) at.here)

@@ -1,7 +1,8 @@
 -- A topic of a node is made or found again, and the others stay.
 use Rattle.std.proofs.Common.{◌≡◌, inl, inr, ⊎_elim, ℕ, ◌<◌, ◌≤◌, true, false, Option, Some, None, List, [], ◌∷◌, ◌++◌, map, length, slice_get, refl, sym, ap, subst, ◌∙◌, append-nil, arith}
-use Rattle.std.specs.Prelude.{is_some}
+use Rattle.std.specs.Prelude.{is_some, Contains, IfSome}
 use Rattle.std.proofs.lemmas.Bool.{true≢false}
+use Rattle.std.proofs.lemmas.List.Elements.{All-nil, All-cons}
 use Rattle.std.specs.FinMap as map_of
 use Rattle.disk.specs.Disk.{Disk, Image, Leaves, Undisturbed, Kept as Counted}
 use Rattle.disk.specs.Contents.{Settled as SettledIn, BeforeOrAfter}
@@ -26,10 +27,10 @@ use Rattle.node.specs.declared.topics.Topics.{Topics}
 use Rattle.node.specs.State.{Stage, Resting, stage_in}
 use Rattle.node.specs.Flights.{stage_of}
 use Rattle.node.specs.Numbers.{AreNumbered, IsNumbered}
-use Rattle.node.specs.Naming.{with_names, Gains, Grows}
+use Rattle.node.specs.Naming.{IsOneOf, with_names, Gains, Grows}
 use Rattle.node.specs.Standing.{StandsForBroker, StandsForSome, NamesLeft, view_in, phase_in, HeldStands, broker_of, stages_of, TopicsStand, Worked, Works}
 use Rattle.node.specs.Passing.{stands_so, count_is, untouched}
-use Rattle.node.specs.Growing.{gains_none, gained_at}
+use Rattle.node.specs.Growing.{doubted_before, gains_none, gained_at}
 use Rattle.node.specs.Brokers.{one_more_at}
 use Rattle.node.specs.Lists.{get_push}
 use Rattle.std.proofs.lemmas.Option.{slice_get_within}
@@ -49,12 +50,14 @@ doubting_is b name =
     ∙ ap (λ (ts : List Topic). let x : Broker = record b { names = b.names ++ []; doubtful = Some name; topics = ts } in x) (sym (append-nil b.topics))
 
 -- what a broker gains it grows by
-gains_grows : (old new : Broker) → Gains old new → Grows old new
-gains_grows old new g = record {
+gains_grows : (names : List (List ℕ)) (old new : Broker) → Gains names old new → Grows names old new
+gains_grows names old new g = record {
   per_ledger = ap (λ (b : Broker). b.per_ledger) g.gained;
   service_url = ap (λ (b : Broker). b.service_url) g.gained;
   more = g.more;
-  names = ap (λ (b : Broker). b.names) g.gained;
+  added = ap (λ (b : Broker). b.names) g.gained;
+  asked = g.asked;
+  doubted = subst (λ (d : Option (List ℕ)). IfSome d (IsOneOf names old)) (sym (ap (λ (b : Broker). b.doubtful) g.gained)) g.doubted;
   left = λ number l k is. subst (λ (t : Topic). IsLeft t l k) (gained_at old g.more g.doubt number) (subst (λ (b : Broker). IsLeft (topic_at b number) l k) g.gained is);
 }
 
@@ -97,11 +100,11 @@ module _ (stands : ℕ → Image → Ledger → Kept → Type 0) (local : (t : �
   }
 
   -- a name may have been added, of a topic whose files stand for a fresh one
-  pub broker_doubts : (b : Broker) (name : List ℕ) (a c : Image) → ((j : ℕ) → j < length b.topics → Agree (OfTopic j) a c) → StandsForBroker stands b a
-      → BeforeOrAfter (NamesStand b.per_ledger) b.names (b.names ++ name ∷ []) c → stands (length b.topics) c (whole []) map_of.empty → StandsForSome stands (λ broker. Gains b broker) c
-  broker_doubts b name a c same s either new = (
+  pub broker_doubts : (names : List (List ℕ)) (b : Broker) (name : List ℕ) → Contains names name → (a c : Image) → ((j : ℕ) → j < length b.topics → Agree (OfTopic j) a c) → StandsForBroker stands b a
+      → BeforeOrAfter (NamesStand b.per_ledger) b.names (b.names ++ name ∷ []) c → stands (length b.topics) c (whole []) map_of.empty → StandsForSome stands (λ broker. Gains names b broker) c
+  broker_doubts names b name asked a c same s either new = (
     doubting b name,
-    record { more = []; doubt = Some name; gained = doubting_is b name },
+    record { more = []; doubt = Some name; gained = doubting_is b name; asked = All-nil (IsOneOf names b); doubted = inl asked },
     record {
       formed = record { named = s.formed.named; ledgers = s.formed.ledgers };
       names = ⊎_elim (λ without. inl without) (λ more. inr (more, new)) either;
@@ -155,14 +158,14 @@ module _ {T : Type 0} {store : StoreMembers T} where
   cores_push [] h = refl
   cores_push (x ∷ xs) h = ap (λ (l : List Topic). x.core ∷ l) (cores_push xs h)
 
-module _ {T S : Type 0} {store : StoreMembers T} (disk : S → Disk) where
-  -- what a call did, by the broker that it made
-  pub worked_so : (t new : Topics T S store) → TopicsStand disk new → Gains (broker_of t) (broker_of new) → Leaves (StandsForSome store.stands (λ broker. Gains (broker_of t) broker)) (disk t.shelf) (disk new.shelf)
-      → ((number : ℕ) → stage_in (stages_of new) number ≡ stage_in (stages_of t) number) → (disk t.shelf).faults ≤ (disk new.shelf).faults → Worked disk t new
-  worked_so t new standing gains moments stages faults = record { standing = standing; grows = gains_grows (broker_of t) (broker_of new) gains; any_moment = moments; stages = stages; faults = faults }
+module _ {T S : Type 0} {store : StoreMembers T} (disk : S → Disk) (asked : List (List ℕ)) where
+  -- what a call did that may search for these names, by the broker that it made
+  pub worked_so : (t new : Topics T S store) → TopicsStand disk new → Gains asked (broker_of t) (broker_of new) → Leaves (StandsForSome store.stands (λ broker. Gains asked (broker_of t) broker)) (disk t.shelf) (disk new.shelf)
+      → ((number : ℕ) → stage_in (stages_of new) number ≡ stage_in (stages_of t) number) → (disk t.shelf).faults ≤ (disk new.shelf).faults → Worked disk asked t new
+  worked_so t new standing gains moments stages faults = record { standing = standing; grows = gains_grows asked (broker_of t) (broker_of new) gains; any_moment = moments; stages = stages; faults = faults }
 
   -- nothing changed but the room of a list
-  pub works_same : (t new : Topics T S store) → new.held.items ≡ t.held.items → new.catalog ≡ t.catalog → new.url ≡ t.url → new.doubtful ≡ t.doubtful → new.shelf ≡ t.shelf → Works disk t new
+  pub works_same : (t new : Topics T S store) → new.held.items ≡ t.held.items → new.catalog ≡ t.catalog → new.url ≡ t.url → new.doubtful ≡ t.doubtful → new.shelf ≡ t.shelf → Works disk asked t new
   works_same t new items catalog url doubtful shelf =
       let broker : broker_of new ≡ broker_of t = same_parts
       (ap (λ (c : Catalog). per_ledger c) catalog) url (ap (λ (c : Catalog). remembered c) catalog) doubtful (ap (λ (l : List (Held T store)). map (λ (h : Held T store). h.core) l) items) in (
@@ -177,8 +180,8 @@ module _ {T S : Type 0} {store : StoreMembers T} (disk : S → Disk) where
               settled = subst (λ (x : S). failed new.catalog ≡ false → SettledIn (NamesHeld new.catalog) (disk x) (remembered new.catalog)) (sym shelf)
                   (subst (λ (c : Catalog). failed c ≡ false → SettledIn (NamesHeld c) (disk t.shelf) (remembered c)) (sym catalog) s.settled);
             })
-            (subst (λ (b : Broker). Gains (broker_of t) b) (sym broker) (gains_none (broker_of t)))
-            (weaken _ _ (disk t.shelf) (disk new.shelf) (untouched disk t new.shelf s shelf) (λ files is. (broker_of t, gains_none (broker_of t), is)))
+            (subst (λ (b : Broker). Gains asked (broker_of t) b) (sym broker) (gains_none asked (broker_of t)))
+            (weaken _ _ (disk t.shelf) (disk new.shelf) (untouched disk t new.shelf s shelf) (λ files is. (broker_of t, gains_none asked (broker_of t), is)))
             (λ number. ap (λ (l : List (Held T store)). stage_in (map (λ (x : Held T store). stage_of x.flight) l) number) items)
             (subst (λ (x : S). (disk t.shelf).faults ≤ (disk x).faults) (sym shelf) (omega arith)),
       )
@@ -206,11 +209,11 @@ module _ {T S : Type 0} {store : StoreMembers T} (disk : S → Disk) where
         read_each : (j : ℕ) (x : Held T store) → slice_get t.held.items j ≡ Some x → HeldStands x (disk new.shelf)
         read_each = each_still (disk t.shelf) (disk new.shelf) (λ j low. undisturbed_read (OfTopic j) (disk t.shelf) (disk new.shelf) kept leaves (same j low)) s.each
 
-        read_moments : Leaves (StandsForSome store.stands (λ broker. Gains (broker_of t) broker)) (disk t.shelf) (disk new.shelf)
-        read_moments = weaken _ _ (disk t.shelf) (disk new.shelf) leaves (λ files may. (broker_of t, gains_none (broker_of t), stands_so disk t s files may))
+        read_moments : Leaves (StandsForSome store.stands (λ broker. Gains asked (broker_of t) broker)) (disk t.shelf) (disk new.shelf)
+        read_moments = weaken _ _ (disk t.shelf) (disk new.shelf) leaves (λ files may. (broker_of t, gains_none asked (broker_of t), stands_so disk t s files may))
 
         -- nothing changed but what a failed sync leaves of the catalog's file, or of one of a topic that isn't held
-        pub worked_reading : new.held.items ≡ t.held.items → broker_of new ≡ broker_of t → new.doubtful ≡ t.doubtful → failed new.catalog ≡ true → Worked disk t new
+        pub worked_reading : new.held.items ≡ t.held.items → broker_of new ≡ broker_of t → new.doubtful ≡ t.doubtful → failed new.catalog ≡ true → Worked disk asked t new
         worked_reading items broker doubtful fails = worked_so t new
             (record {
               honest = kept.honest s.honest;
@@ -218,11 +221,11 @@ module _ {T S : Type 0} {store : StoreMembers T} (disk : S → Disk) where
               names = λ files may. subst (λ (b : Broker). NamesLeft store.stands b.doubtful b files) (sym broker) (s.names files (leaves.now files may));
               settled = λ works. absurd (true≢false (sym fails ∙ works));
             })
-            (subst (λ (b : Broker). Gains (broker_of t) b) (sym broker) (gains_none (broker_of t))) read_moments
+            (subst (λ (b : Broker). Gains asked (broker_of t) b) (sym broker) (gains_none asked (broker_of t))) read_moments
             (λ number. ap (λ (l : List (Held T store)). stage_in (map (λ (x : Held T store). stage_of x.flight) l) number) items) kept.faults
 
         -- the catalog was opened again, and the name in doubt isn't there
-        pub worked_without : new.held.items ≡ t.held.items → broker_of new ≡ sure (broker_of t) → SettledIn (NamesHeld new.catalog) (disk new.shelf) (remembered new.catalog) → new.doubtful ≡ None → Worked disk t new
+        pub worked_without : new.held.items ≡ t.held.items → broker_of new ≡ sure (broker_of t) → SettledIn (NamesHeld new.catalog) (disk new.shelf) (remembered new.catalog) → new.doubtful ≡ None → Worked disk asked t new
         worked_without items broker settled none = worked_so t new
             (record {
               honest = kept.honest s.honest;
@@ -230,20 +233,20 @@ module _ {T S : Type 0} {store : StoreMembers T} (disk : S → Disk) where
               names = λ files may. subst (λ d. NamesLeft store.stands d (broker_of new) files) (sym none) (holds_stands new.catalog files (remembered new.catalog) (settled.left files may));
               settled = λ works. settled;
             })
-            (record { more = []; doubt = None; gained = broker ∙ sure_is (broker_of t) }) read_moments
+            (record { more = []; doubt = None; gained = broker ∙ sure_is (broker_of t); asked = All-nil (IsOneOf asked (broker_of t)); doubted = tt }) read_moments
             (λ number. ap (λ (l : List (Held T store)). stage_in (map (λ (x : Held T store). stage_of x.flight) l) number) items) kept.faults
 
         -- it is there, and its topic was opened
-        pub worked_with : (h : Held T store) (name : List ℕ) → new.held.items ≡ t.held.items ++ h ∷ [] → h.flight ≡ None → HeldStands h (disk new.shelf) → broker_of new ≡ made (sure (broker_of t)) name
-            → SettledIn (NamesHeld new.catalog) (disk new.shelf) (remembered new.catalog) → new.doubtful ≡ None → Worked disk t new
-        worked_with h name items rests here broker settled none = worked_so t new
+        pub worked_with : (h : Held T store) (name : List ℕ) → (broker_of t).doubtful ≡ Some name → new.held.items ≡ t.held.items ++ h ∷ [] → h.flight ≡ None → HeldStands h (disk new.shelf) → broker_of new ≡ made (sure (broker_of t)) name
+            → SettledIn (NamesHeld new.catalog) (disk new.shelf) (remembered new.catalog) → new.doubtful ≡ None → Worked disk asked t new
+        worked_with h name doubted items rests here broker settled none = worked_so t new
             (record {
               honest = kept.honest s.honest;
               each = subst (λ (l : List (Held T store)). (j : ℕ) (x : Held T store) → slice_get l j ≡ Some x → HeldStands x (disk new.shelf)) (sym items) (each_push (disk new.shelf) h here read_each);
               names = λ files may. subst (λ d. NamesLeft store.stands d (broker_of new) files) (sym none) (holds_stands new.catalog files (remembered new.catalog) (settled.left files may));
               settled = λ works. settled;
             })
-            (record { more = name ∷ []; doubt = None; gained = broker }) read_moments
+            (record { more = name ∷ []; doubt = None; gained = broker; asked = All-cons (IsOneOf asked (broker_of t)) name [] (inr doubted) (All-nil (IsOneOf asked (broker_of t))); doubted = tt }) read_moments
             (λ number. ap (λ (l : List (Held T store)). stage_in (map (λ (x : Held T store). stage_of x.flight) l) number) items ∙ stage_more t.held.items h number rests) kept.faults
 
       -- ---- a topic is made
@@ -275,12 +278,12 @@ module _ {T S : Type 0} {store : StoreMembers T} (disk : S → Disk) where
             broker_moved store.stands local (broker_of t) out.from files none (λ f own. out.elsewhere f (own_beside f own))
             (λ j low f of. out.elsewhere f (beside j (omega (arith, low, count_is t)) f of)) (stands_so disk t s out.from out.left))
 
-        some_moments : Leaves (StandsForSome store.stands (λ broker. Gains (broker_of t) broker)) (disk t.shelf) d1
-        some_moments = weaken _ _ (disk t.shelf) d1 made_moments (λ files is. (broker_of t, gains_none (broker_of t), is))
+        some_moments : Leaves (StandsForSome store.stands (λ broker. Gains asked (broker_of t) broker)) (disk t.shelf) d1
+        some_moments = weaken _ _ (disk t.shelf) d1 made_moments (λ files is. (broker_of t, gains_none asked (broker_of t), is))
 
         -- its files weren't made, or no memory was left for its name
         pub worked_not : (new : Topics T S store) → disk new.shelf ≡ d1 → new.held.items ≡ t.held.items → broker_of new ≡ broker_of t
-            → ((names : Names) → SettledIn (NamesHeld t.catalog) d1 names → SettledIn (NamesHeld new.catalog) d1 names) → Worked disk t new
+            → ((names : Names) → SettledIn (NamesHeld t.catalog) d1 names → SettledIn (NamesHeld new.catalog) d1 names) → Worked disk asked t new
         worked_not new is items broker again =
             worked_so t new
             (record {
@@ -292,8 +295,8 @@ module _ {T S : Type 0} {store : StoreMembers T} (disk : S → Disk) where
               settled = λ _. subst (λ (d : Disk). SettledIn (NamesHeld new.catalog) d (remembered new.catalog)) (sym is)
                   (again (remembered new.catalog) (subst (λ (l : Names). SettledIn (NamesHeld t.catalog) d1 l) (sym (ap (λ (b : Broker). b.names) broker)) made_settled));
             })
-            (subst (λ (b : Broker). Gains (broker_of t) b) (sym broker) (gains_none (broker_of t)))
-            (subst (λ (d : Disk). Leaves (StandsForSome store.stands (λ broker. Gains (broker_of t) broker)) (disk t.shelf) d) (sym is) some_moments)
+            (subst (λ (b : Broker). Gains asked (broker_of t) b) (sym broker) (gains_none asked (broker_of t)))
+            (subst (λ (d : Disk). Leaves (StandsForSome store.stands (λ broker. Gains asked (broker_of t) broker)) (disk t.shelf) d) (sym is) some_moments)
             (λ number. ap (λ (l : List (Held T store)). stage_in (map (λ (x : Held T store). stage_of x.flight) l) number) items)
             (subst (λ (d : Disk). (disk t.shelf).faults ≤ d.faults) (sym is) kept.faults)
 
@@ -301,7 +304,7 @@ module _ {T S : Type 0} {store : StoreMembers T} (disk : S → Disk) where
 
         module _ (h : Held T store) (fresh_core : h.core ≡ fresh (per_ledger t.catalog)) (rests : h.flight ≡ None) (numbered : (view_in h).topic ≡ length t.held.items) (here : HeldStands h d1)
             (files_new : (files : Image) → d1.may_leave files → store.stands (length t.held.items) files (whole []) map_of.empty)
-            (name : List ℕ) (new : Topics T S store) (kept' : Counted d1 (disk new.shelf)) (w' : Within Own (BeforeOrAfter (NamesStand (per_ledger t.catalog)) (remembered t.catalog) (remembered t.catalog ++ name ∷ [])) d1 (disk new.shelf)) where
+            (name : List ℕ) (is_asked : Contains asked name) (new : Topics T S store) (kept' : Counted d1 (disk new.shelf)) (w' : Within Own (BeforeOrAfter (NamesStand (per_ledger t.catalog)) (remembered t.catalog) (remembered t.catalog ++ name ∷ [])) d1 (disk new.shelf)) where
           d2_honest : (disk new.shelf).honest
           d2_honest = kept'.honest (kept.honest s.honest)
 
@@ -318,13 +321,13 @@ module _ {T S : Type 0} {store : StoreMembers T} (disk : S → Disk) where
           added_files : (from files : Image) → d1.may_leave from → ((f : FileId) → ¬ Own f → files f ≡ from f) → store.stands (length t.held.items) files (whole []) map_of.empty
           added_files from files may same = local (length t.held.items) from files (whole []) map_of.empty (λ f of. same f (not_own (length t.held.items) f of)) (files_new from may)
 
-          added_moments : Leaves (StandsForSome store.stands (λ broker. Gains (broker_of t) broker)) (disk t.shelf) (disk new.shelf)
+          added_moments : Leaves (StandsForSome store.stands (λ broker. Gains asked (broker_of t) broker)) (disk t.shelf) (disk new.shelf)
           added_moments = joins _ _ _ (disk t.shelf) d1 (disk new.shelf) some_moments w'.any_moment (λ files is. is) (λ files out.
-              broker_doubts store.stands local (broker_of t) name out.from files (λ j low f of. out.elsewhere f (not_own j f of)) (made_moments.now out.from out.left) out.own
+              broker_doubts store.stands local asked (broker_of t) name is_asked out.from files (λ j low f of. out.elsewhere f (not_own j f of)) (made_moments.now out.from out.left) out.own
               (subst (λ n. store.stands n files (whole []) map_of.empty) (sym (count_is t)) (added_files out.from files out.left out.elsewhere)))
 
           -- the device failed in it: the name is in doubt
-          pub worked_doubting : new.held.items ≡ t.held.items → broker_of new ≡ doubting (broker_of t) name → failed new.catalog ≡ true → Worked disk t new
+          pub worked_doubting : new.held.items ≡ t.held.items → broker_of new ≡ doubting (broker_of t) name → failed new.catalog ≡ true → Worked disk asked t new
           worked_doubting items broker fails =
               worked_so t new
               (record {
@@ -334,12 +337,12 @@ module _ {T S : Type 0} {store : StoreMembers T} (disk : S → Disk) where
                     (let out = w'.any_moment.now files may in ⊎_elim (λ without. inl without) (λ more. inr (more, subst (λ n. store.stands n files (whole []) map_of.empty) (sym (count_is t)) (added_files out.from files out.left out.elsewhere))) out.own);
                 settled = λ works'. absurd (true≢false (sym fails ∙ works'));
               })
-              (record { more = []; doubt = Some name; gained = broker ∙ doubting_is (broker_of t) name }) added_moments
+              (record { more = []; doubt = Some name; gained = broker ∙ doubting_is (broker_of t) name; asked = All-nil (IsOneOf asked (broker_of t)); doubted = inl is_asked }) added_moments
               (λ number. ap (λ (l : List (Held T store)). stage_in (map (λ (x : Held T store). stage_of x.flight) l) number) items)
               (omega (arith, kept.faults, kept'.faults))
 
           -- it is added
-          pub worked_making : new.held.items ≡ t.held.items ++ h ∷ [] → broker_of new ≡ made (broker_of t) name → SettledIn (NamesHeld new.catalog) (disk new.shelf) (remembered new.catalog) → Worked disk t new
+          pub worked_making : new.held.items ≡ t.held.items ++ h ∷ [] → broker_of new ≡ made (broker_of t) name → SettledIn (NamesHeld new.catalog) (disk new.shelf) (remembered new.catalog) → Worked disk asked t new
           worked_making items broker settled =
               let sure_now : new.doubtful ≡ None = ap (λ (b : Broker). b.doubtful) broker ∙ none in
               worked_so t new
@@ -349,6 +352,12 @@ module _ {T S : Type 0} {store : StoreMembers T} (disk : S → Disk) where
                 names = λ files may. subst (λ d. NamesLeft store.stands d (broker_of new) files) (sym sure_now) (holds_stands new.catalog files (remembered new.catalog) (settled.left files may));
                 settled = λ _. settled;
               })
-              (record { more = name ∷ []; doubt = t.doubtful; gained = broker }) added_moments
+              (record {
+                more = name ∷ [];
+                doubt = t.doubtful;
+                gained = broker;
+                asked = All-cons (IsOneOf asked (broker_of t)) name [] (inl is_asked) (All-nil (IsOneOf asked (broker_of t)));
+                doubted = doubted_before asked (broker_of t) t.doubtful refl;
+              }) added_moments
               (λ number. ap (λ (l : List (Held T store)). stage_in (map (λ (x : Held T store). stage_of x.flight) l) number) items ∙ stage_more t.held.items h number rests)
               (omega (arith, kept.faults, kept'.faults))

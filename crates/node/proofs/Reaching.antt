@@ -32,7 +32,7 @@ module _ (files_stand : ℕ → Image → Ledger → Kept → Type 0) (old : Sta
 
   -- while one event more goes on
   pub crash_more : (worked : List Event) (outputs : List Output) (between : State) (event : Event) (rest later : List Event) (d0 d1 d2 : Disk) → Run old worked outputs between → events ≡ worked ++ rest → rest ≡ event ∷ later
-      → Leaves (Crashed files_stand old events) d0 d1 → Leaves (StandsForSome files_stand (λ broker. Amid between.broker event broker)) d1 d2 → Leaves (Crashed files_stand old events) d0 d2
+      → Leaves (Crashed files_stand old events) d0 d1 → Leaves (StandsForSome files_stand (λ broker. Amid between.sessions between.broker event broker)) d1 d2 → Leaves (Crashed files_stand old events) d0 d2
   crash_more worked outputs between event rest later d0 d1 d2 run front next first second =
-      joins (Crashed files_stand old events) (StandsForSome files_stand (λ broker. Amid between.broker event broker)) (Crashed files_stand old events) d0 d1 d2 first second (λ files is. is)
+      joins (Crashed files_stand old events) (StandsForSome files_stand (λ broker. Amid between.sessions between.broker event broker)) (Crashed files_stand old events) d0 d1 d2 first second (λ files is. is)
       (λ files is. (is.0, record { worked = worked; rest = rest; outputs = outputs; between = between; run = run; front = front; here = inr (event, later, next, is.1) }, is.2))

@@ -70,9 +70,9 @@ module _ (stands : ℕ → Image → Ledger → Cursors → Type 0) (s : State) 
 
 -- a node that is down leaves the device alone
 down_leaves : (stands : ℕ → Image → Ledger → Cursors → Type 0) (life : Life) (event : Event) (d : Disk) → AtRest stands life.state d → life.up ≡ false
-    → Leaves (StandsForSome stands (λ broker. AmidEvent life.up life.state.broker event broker)) d d
+    → Leaves (StandsForSome stands (λ broker. AmidEvent life.up life.state event broker)) d d
 down_leaves stands life event d r down =
-    subst (λ (up : Bool). Leaves (StandsForSome stands (λ broker. AmidEvent up life.state.broker event broker)) d d) (sym down)
+    subst (λ (up : Bool). Leaves (StandsForSome stands (λ broker. AmidEvent up life.state event broker)) d d) (sym down)
     (starts (StandsForSome stands (λ broker. broker ≡ life.state.broker)) d (λ files may. (life.state.broker, refl, r.left files may)))
 
 module _ {T S : Type 0} {store : StoreMembers T} (disk : S → Disk) where
@@ -81,6 +81,6 @@ module _ {T S : Type 0} {store : StoreMembers T} (disk : S → Disk) where
   node_rests n s = record { honest = s.honest; left = stands_so disk n.topics s; faults = omega arith }
 
   pub down_leaves_so : (m : Machine T S store) (site : Site S) (life : Life) (event : Event) → m ≡ machine.Down site → Holds disk m life
-      → Leaves (StandsForSome store.stands (λ broker. AmidEvent life.up life.state.broker event broker)) (disk_in disk m) (disk_in disk m)
+      → Leaves (StandsForSome store.stands (λ broker. AmidEvent life.up life.state event broker)) (disk_in disk m) (disk_in disk m)
   down_leaves_so (machine.Up node) site life event is holds = absurd (let no : machine.Up node ≡ machine.Down site = is in cc)
   down_leaves_so (machine.Down here) site life event is holds = down_leaves store.stands life event (disk here.shelf) holds.0 holds.1

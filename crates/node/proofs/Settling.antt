@@ -100,6 +100,9 @@ module _ {T S : Type 0} {store : StoreMembers T} (disk : S → Disk) (t : Topics
       abbrev pub name_there : List ℕ
       name_there = with_name.0
 
+      pub doubted_there : t.doubtful ≡ Some name_there
+      doubted_there = with_name.1
+
       pub broker_with_name : (h : Held T store) (held : List (Held T store)) → held ≡ t.held.items ++ h ∷ [] → h.core ≡ fresh (per_ledger t.catalog)
           → parts (per_ledger again) t.url (remembered again) None (map (λ (h : Held T store). h.core) held) ≡ made (sure (broker_of t)) name_there
       broker_with_name h held items core =

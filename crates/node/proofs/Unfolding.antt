@@ -525,14 +525,14 @@ amid_goes : (e : TopicEvent) (t : Topic) (limit : ℕ) → IsTrimPoint t limit �
 amid_goes on_topic.Flush t limit point = one_goes t Cut (steps.in_flush t limit) refl (limit, point, refl)
 amid_goes _ t limit point = still_goes t
 
-until_cut : (b : Broker) (e : Event) (c : Broker) → steps.Amid b e c → (number : ℕ) → Goes (topic_at b number) [] (topic_at c number)
-until_cut b event.Open c is number = same_put b c number is
-until_cut b (event.Bytes who bytes) c is number =
-    subst (λ (x : Broker). Goes (topic_at b number) [] (topic_at x number)) (sym is.gained)
-    (subst (λ (t : Topic). Goes (topic_at b number) [] t) (sym (more_at b.topics is.more number (fresh b.per_ledger))) (still_goes (topic_at b number)))
-until_cut b (event.Pump who) c is number = same_put b c number is
-until_cut b (event.Close who) c is number = same_put b c number is
-until_cut b (event.OnTopic at e) c is number = placed_each b c at (steps.amid_work e (topic_at b at) is.0) (amid_goes e (topic_at b at) is.0 is.1) is.2 number
+until_cut : (sessions : List Client) (b : Broker) (e : Event) (c : Broker) → steps.Amid sessions b e c → (number : ℕ) → Goes (topic_at b number) [] (topic_at c number)
+until_cut sessions b event.Open c is number = same_put b c number is
+until_cut sessions b (event.Bytes who bytes) c is number =
+    subst (λ (x : Broker). Goes (topic_at b number) [] (topic_at x number)) (sym is.holds.gained)
+    (subst (λ (t : Topic). Goes (topic_at b number) [] t) (sym (more_at b.topics is.holds.more number (fresh b.per_ledger))) (still_goes (topic_at b number)))
+until_cut sessions b (event.Pump who) c is number = same_put b c number is
+until_cut sessions b (event.Close who) c is number = same_put b c number is
+until_cut sessions b (event.OnTopic at e) c is number = placed_each b c at (steps.amid_work e (topic_at b at) is.0) (amid_goes e (topic_at b at) is.0 is.1) is.2 number
 
 pub turn_tells : (old : Life) (t : Turn) (output : Output) (new : Life) → TurnStep old t output new → Turns (hearer_in t) old output new (ComesIn old t output new)
 turn_tells old (Whole h) output new s = happening_tells old h output new s
@@ -541,7 +541,7 @@ turn_tells old (Within e) output new s =
     let t = opening_tells output.result old at output.bytes new s.opening.0 s.opening.1 in
     record {
       origins = t.origins;
-      utters = utters_both t.origins old.state.broker at.broker new.state.broker output.bytes (until_cut old.state.broker e s.broker s.amid) t.utters;
+      utters = utters_both t.origins old.state.broker at.broker new.state.broker output.bytes (until_cut old.state.sessions old.state.broker e s.broker s.amid) t.utters;
       comes = t.comes;
       causes = λ base number h. opening_caused output.result at new base number (omega (arith, h.later, s.more)) s.opening.1;
     }

@@ -24,7 +24,7 @@ pub record CutWithin (old : Life) (event : Event) (output : Output) (new : Life)
   pub faults : ℕ
   pub more : old.state.faults ≤ faults
   pub broker : Broker
-  pub amid : Amid old.state.broker event broker
+  pub amid : Amid old.state.sessions old.state.broker event broker
   pub opening : OpeningStep (cut_in old.state broker faults) output new
 
 abbrev pub TurnStep : Life → Turn → Output → Life → Type 0
@@ -41,13 +41,13 @@ hearer_in (Whole happening) = hearer_of happening
 hearer_in (Within event) = None
 
 -- a broker while a happening goes on; a node that is down works no event
-abbrev pub AmidEvent : Bool → Broker → Event → Broker → Type 0
-AmidEvent true old event new = Amid old event new
-AmidEvent false old event new = new ≡ old
+abbrev pub AmidEvent : Bool → State → Event → Broker → Type 0
+AmidEvent true old event new = Amid old.sessions old.broker event new
+AmidEvent false old event new = new ≡ old.broker
 
-abbrev pub AmidHappening : Bool → Broker → Happening → Broker → Type 0
+abbrev pub AmidHappening : Bool → State → Happening → Broker → Type 0
 AmidHappening up old (happening.Event event) new = AmidEvent up old event new
-AmidHappening up old (happening.Crash) new = new ≡ old
+AmidHappening up old (happening.Crash) new = new ≡ old.broker
 
 -- a broker that a front of the happenings reaches: between two of them, or while the next one, an event of a node that works, goes on
 pub record Amidst (old : Life) (happenings : List Happening) (broker : Broker) : Type 0 where
@@ -57,7 +57,7 @@ pub record Amidst (old : Life) (happenings : List Happening) (broker : Broker) :
   pub between : Life
   pub run : AllowedRun old worked outputs between
   pub front : happenings ≡ worked ++ rest
-  pub here : (broker ≡ between.state.broker) ⊎ ((next : Event) × (later : List Happening) × (rest ≡ happening.Event next ∷ later) × (between.up ≡ true) × Amid between.state.broker next broker)
+  pub here : (broker ≡ between.state.broker) ⊎ ((next : Event) × (later : List Happening) × (rest ≡ happening.Event next ∷ later) × (between.up ≡ true) × Amid between.state.sessions between.state.broker next broker)
 
 abbrev pub uncut : List Happening → List Turn
 uncut happenings = map (λ happening. Whole happening) happenings

@@ -39,7 +39,7 @@ pub record Reached (old : State) (events : List Event) (broker : Broker) : Type 
   pub between : State
   pub run : Run old worked outputs between
   pub front : events ≡ worked ++ rest
-  pub here : (broker ≡ between.broker) ⊎ ((next : Event) × (later : List Event) × (rest ≡ next ∷ later) × Amid between.broker next broker)
+  pub here : (broker ≡ between.broker) ⊎ ((next : Event) × (later : List Event) × (rest ≡ next ∷ later) × Amid between.sessions between.broker next broker)
 
 -- what a crash leaves of a node, as it is opened again: the name in doubt is settled, each topic is as a crash leaves it, and there
 -- is no session

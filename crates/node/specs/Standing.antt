@@ -94,17 +94,17 @@ module _ {T S : Type 0} {store : StoreMembers T} where
       pub stages : stages_of new ≡ stages_of old
       pub faults : (disk old.shelf).faults ≤ (disk new.shelf).faults
 
-    -- A call of a port that may make topics: of the others, what a crash leaves it left before; what it leaves of those that are
-    -- made is that of fresh ones; and so at any moment of the call.
-    pub record Worked (old new : Topics T S store) : Type 0 where
+    -- A call of a port that may make topics of these names, or of the one in doubt: of the others, what a crash leaves it left before; what
+    -- it leaves of those that are made is that of fresh ones; and so at any moment of the call.
+    pub record Worked (names : List (List ℕ)) (old new : Topics T S store) : Type 0 where
       pub standing : TopicsStand new
-      pub grows : Grows (broker_of old) (broker_of new)
-      pub any_moment : Leaves (StandsForSome store.stands (λ broker. Gains (broker_of old) broker)) (disk old.shelf) (disk new.shelf)
+      pub grows : Grows names (broker_of old) (broker_of new)
+      pub any_moment : Leaves (StandsForSome store.stands (λ broker. Gains names (broker_of old) broker)) (disk old.shelf) (disk new.shelf)
       pub stages : (number : ℕ) → stage_in (stages_of new) number ≡ stage_in (stages_of old) number
       pub faults : (disk old.shelf).faults ≤ (disk new.shelf).faults
 
-    abbrev pub Works : Topics T S store → Topics T S store → Type 0
-    Works old new = (length old.held.items ≤ length new.held.items) × (TopicsStand old → Worked old new)
+    abbrev pub Works : List (List ℕ) → Topics T S store → Topics T S store → Type 0
+    Works names old new = (length old.held.items ≤ length new.held.items) × (TopicsStand old → Worked names old new)
 
     abbrev pub Passes : Topics T S store → Topics T S store → Type 0
     Passes old new = (length old.held.items ≤ length new.held.items) × (TopicsStand old → Passed old new)

@@ -13,7 +13,7 @@ use Rattle.session.specs.declared.pumping.More.{More}
 use Rattle.session.specs.declared.pumping.PumpFault.{PumpFault}
 use Rattle.session.specs.Broker.{Broker, topic_at, with_topic, left_all}
 use Rattle.session.specs.Client.{Client, Play, play}
-use Rattle.session.specs.Working.{FeedStep}
+use Rattle.session.specs.Working.{FeedStep, AreAskedIn}
 use Rattle.session.specs.Pumping as pumping
 use Rattle.node.specs.State.{State, MayRefuse, Stage, Resting, Taken, Written, stage_at, place_in, place_of, is_full, with_session, verdict_of, verdict_of_pump, verdict_for, verdict_of_flush, stage_after, settled}
 use Rattle.node.specs.Naming.{Gains}
@@ -221,11 +221,22 @@ amid_work Write t limit = t
 amid_work Finish t limit = t
 amid_work Reopen t limit = t
 
--- A broker while an event goes on: bytes may make topics, and in a flush all that waits is in doubt, and what nobody needs may be
--- trimmed.
-abbrev pub Amid : Broker → Event → Broker → Type 0
-Amid old Open new = new ≡ old
-Amid old (Bytes who bytes) new = Gains old new
-Amid old (Pump who) new = new ≡ old
-Amid old (Close who) new = new ≡ old
-Amid old (OnTopic topic event) new = (limit : ℕ) × topics.IsTrimPoint (topic_at old topic) limit × (new ≡ with_topic old topic (amid_work event (topic_at old topic) limit))
+-- these names are asked for by these bytes of this session, where it is one of these; else they are none
+abbrev pub AreAskedBy : List Client → ℕ → List ℕ → List (List ℕ) → Type 0
+AreAskedBy sessions who bytes names =
+    (names ≡ []) ⊎ ((place : ℕ) × (client : Client) × (place_of sessions who ≡ Some place) × (slice_get sessions place ≡ Some client) × AreAskedIn client bytes names)
+
+-- bytes make a session search for such names, and this holds of them
+pub record SearchesBy (sessions : List Client) (who : ℕ) (bytes : List ℕ) (P : List (List ℕ) → Type 0) : Type 0 where
+  pub names : List (List ℕ)
+  pub asked : AreAskedBy sessions who bytes names
+  pub holds : P names
+
+-- A broker while an event goes on: bytes may make topics of the names that they ask for, and in a flush all that waits is in doubt, and
+-- what nobody needs may be trimmed.
+abbrev pub Amid : List Client → Broker → Event → Broker → Type 0
+Amid sessions old Open new = new ≡ old
+Amid sessions old (Bytes who bytes) new = SearchesBy sessions who bytes (λ names. Gains names old new)
+Amid sessions old (Pump who) new = new ≡ old
+Amid sessions old (Close who) new = new ≡ old
+Amid sessions old (OnTopic topic event) new = (limit : ℕ) × topics.IsTrimPoint (topic_at old topic) limit × (new ≡ with_topic old topic (amid_work event (topic_at old topic) limit))

@@ -3,7 +3,7 @@ ghost use Rattle.disk.specs.Disk.{Leaves};
 ghost use Rattle.session.specs.Broker.{topic_at};
 ghost use Rattle.node.specs.State.{is_full, place_in, place_of, verdict_of, verdict_of_pump, settled};
 ghost use Rattle.node.specs.Standing.{state_of, disk_of, broker_of, Stands, StandsForSome, Passes, Works};
-ghost use Rattle.node.specs.Steps.{OpenStep, BytesStep, PumpStep, CloseStep, WorkStep, BrokerStep, Amid};
+ghost use Rattle.node.specs.Steps.{OpenStep, BytesStep, PumpStep, CloseStep, WorkStep, BrokerStep, SearchesBy, Amid};
 ghost use Rattle.node.specs.Opening.{TellsOn, TellsIn};
 ghost use Rattle.node.specs.Runs.{Ran, Reached};
 ghost use Rattle.node.specs.declared.event.Event.TheVariants as asked;
@@ -104,7 +104,7 @@ impl<T: TopicStore, S: Shelf> Node<T, S> {
     fn bytes(&mut self, who: u64, bytes: &[u8]) -> Output
         ensures step { Stands S.disk self.old →
             BytesStep (place_of self.old.sessions.items who) (state_of S.disk self.old) bytes.now result (state_of S.disk self.new) }
-        ensures works { Works S.disk self.old.topics self.new.topics }
+        ensures works { SearchesBy self.old.sessions.items who bytes.now (λ names. Works S.disk names self.old.topics self.new.topics) }
     {
         let Some(place) = place_of(self.sessions.as_slice(), who) else {
             return only(self.alloc, Verdict::Unknown);
@@ -158,7 +158,7 @@ impl<T: TopicStore, S: Shelf> Node<T, S> {
         ensures stands { Stands S.disk self.old → Stands S.disk self.new }
         ensures tells { TellsOn T.stands T.faulty event topic (topic_at (broker_of self.old.topics) topic) (topic_at (broker_of self.new.topics) topic) (disk_of S.disk self.old) (disk_of S.disk self.new) result.result }
         ensures any_moment { Stands S.disk self.old →
-            Leaves (StandsForSome T.stands (λ broker. Amid (state_of S.disk self.old).broker (asked.OnTopic topic event) broker)) (disk_of S.disk self.old) (disk_of S.disk self.new) }
+            Leaves (StandsForSome T.stands (λ broker. Amid self.old.sessions.items (state_of S.disk self.old).broker (asked.OnTopic topic event) broker)) (disk_of S.disk self.old) (disk_of S.disk self.new) }
     {
         if topic >= self.topics.count() {
             return only(self.alloc, Verdict::Unknown);
@@ -177,7 +177,7 @@ impl<T: TopicStore, S: Shelf> Node<T, S> {
         // Whatever the device holds, this is what the opening of a topic tells.
         ensures tells { TellsIn T.stands T.faulty event (broker_of self.old.topics) (broker_of self.new.topics) (disk_of S.disk self.old) (disk_of S.disk self.new) result.result }
         ensures any_moment { Stands S.disk self.old →
-            Leaves (StandsForSome T.stands (λ broker. Amid (state_of S.disk self.old).broker event broker)) (disk_of S.disk self.old) (disk_of S.disk self.new) }
+            Leaves (StandsForSome T.stands (λ broker. Amid self.old.sessions.items (state_of S.disk self.old).broker event broker)) (disk_of S.disk self.old) (disk_of S.disk self.new) }
     {
         match event {
             Event::Open => self.open_session(),

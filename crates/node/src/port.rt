@@ -154,7 +154,7 @@ impl<T: TopicStore, S: Shelf> Port for Topics<T, S> {
 
     ghost use Rattle.std.proofs.Common.{sym};
     ghost use Rattle.node.specs.Passing.{passes_nothing, passes_both, refuses_within, count_is};
-    ghost use Rattle.node.specs.Growing.{passes_works, works_both, fails_within};
+    ghost use Rattle.node.specs.Growing.{passes_works, works_both, works_more, fails_within};
 
     ghost passes_nothing = { passes_nothing S.disk };
 
@@ -166,9 +166,11 @@ impl<T: TopicStore, S: Shelf> Port for Topics<T, S> {
 
     ghost works_both = { works_both S.disk };
 
-    ghost works_sole = { λ old new works standing. (works.1 standing).standing };
+    ghost works_more = { works_more S.disk };
 
-    ghost works_count = { λ old new works. works.0 };
+    ghost works_sole = { λ names old new works standing. (works.1 standing).standing };
+
+    ghost works_count = { λ names old new works. works.0 };
 
     ghost fails_within = { fails_within S.disk };
 

@@ -72,7 +72,7 @@ impl<T: TopicStore, S: CrashShelf + Drop> Machine<T, S> {
         ensures step { (old : Life) → Holds S.disk self.old old →
             (new : Life) × HappeningStep old (happening.Event event) result new × Holds S.disk self.new new }
         ensures any_moment { (old : Life) → Holds S.disk self.old old →
-            Leaves (StandsForSome T.stands (λ broker. AmidEvent old.up old.state.broker event broker)) (disk_in S.disk self.old) (disk_in S.disk self.new) }
+            Leaves (StandsForSome T.stands (λ broker. AmidEvent old.up old.state event broker)) (disk_in S.disk self.old) (disk_in S.disk self.new) }
     {
         match self {
             Machine::Up(node) => node.step(event),
@@ -110,7 +110,7 @@ impl<T: TopicStore, S: CrashShelf + Drop> Machine<T, S> {
         ensures step { (old : Life) → Holds S.disk self old →
             (new : Life) × HappeningStep old happening result.1 new × Holds S.disk result.0 new }
         ensures any_moment { (old : Life) → Holds S.disk self old →
-            Leaves (StandsForSome T.stands (λ broker. AmidHappening old.up old.state.broker happening broker)) (disk_in S.disk self) (disk_in S.disk result.0) }
+            Leaves (StandsForSome T.stands (λ broker. AmidHappening old.up old.state happening broker)) (disk_in S.disk self) (disk_in S.disk result.0) }
     {
         match happening {
             Happening::Event(event) => {

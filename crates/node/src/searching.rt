@@ -1,5 +1,5 @@
 // Topics are found by their names, and made.
-ghost use Rattle.std.specs.Prelude.{◌≡◌, ◌⊎◌, ◌<◌, false, length, IfOk, IfErr, OnOk, IsErr, IsErrOf};
+ghost use Rattle.std.specs.Prelude.{◌≡◌, ◌⊎◌, ◌<◌, ℕ, List, [], ◌∷◌, false, length, IfOk, IfErr, OnOk, IsErr, IsErrOf};
 ghost use Rattle.disk.specs.Disk.{Failed};
 ghost use Rattle.gated_log.specs.declared.refusal.Refusal.TheVariants as refusal;
 ghost use Rattle.catalog.specs.Catalogs.{remembered, failed};
@@ -39,7 +39,7 @@ impl<T: TopicStore, S: Shelf> Topics<T, S> {
         ensures step { TopicsStand S.disk self.old → FindStep (broker_of self.old) name.now result (broker_of self.new) }
         ensures there { IfFound result (λ number. number < length self.new.held.items) }
         ensures failed { IfFailed result (Fails S.disk self.old self.new) }
-        ensures works { Works S.disk self.old self.new }
+        ensures works { Works S.disk (name.now ∷ []) self.old self.new }
     {
         if let Err(why) = self.settle() {
             return outage(why);
@@ -66,7 +66,7 @@ impl<T: TopicStore, S: Shelf> Topics<T, S> {
         ensures refused { IsErr result → broker_of self.new ≡ broker_of self.old }
         ensures refusals { TopicsStand S.disk self.old → IfErr result (λ e. (e ≡ refusal.NoMemory) ⊎ (e ≡ refusal.Device)) }
         ensures cause { IsErrOf result refusal.Device → Failed (S.disk self.old.shelf) (S.disk self.new.shelf) }
-        ensures works { Works S.disk self.old self.new }
+        ensures works { (names : List (List ℕ)) → Works S.disk names self.old self.new }
     {
         if !self.catalog.is_failed() {
             return Ok(());
@@ -114,7 +114,7 @@ impl<T: TopicStore, S: Shelf> Topics<T, S> {
         ensures cause { IsErrOf result refusal.Device → Failed (S.disk self.old.shelf) (S.disk self.new.shelf) }
         ensures refused { IfErr result (λ e. ((e ≡ refusal.NoMemory) × (broker_of self.new ≡ broker_of self.old))
             ⊎ ((e ≡ refusal.Device) × ((broker_of self.new ≡ broker_of self.old) ⊎ (broker_of self.new ≡ doubting (broker_of self.old) name.now)))) }
-        ensures works { Works S.disk self.old self.new }
+        ensures works { Works S.disk (name.now ∷ []) self.old self.new }
     {
         self.held.reserve(1)?;
         let added = name.clone()?;

@@ -16,6 +16,7 @@ pub mod Reading
 pub mod Refusals
 pub mod Rising
 pub mod Searched
+pub mod Searching
 pub mod Serving
 pub mod Speaking
 pub mod Spoken

@@ -1,5 +1,6 @@
 -- What a session does with the bytes that come.
-use Rattle.std.specs.Prelude.{◌≡◌, ℕ, Bool, true, false, Option, Some, None, List, [], ◌∷◌, Result, Ok, Err}
+use Rattle.std.specs.Prelude.{◌≡◌, ℕ, Bool, true, false, Option, Some, None, List, [], ◌∷◌, Result, Ok, Err, ◌⊎◌}
+use Rattle.std.specs.List.{flat_map}
 use Rattle.commands.specs.declared.command.Command.{Command}
 use Rattle.commands.specs.declared.command.Command.TheVariants as command
 use Rattle.commands.specs.declared.reply.Reply.TheVariants as reply
@@ -82,6 +83,28 @@ FrameIn Fails (Some why) connected old frame new = new ≡ old
 abbrev pub FrameStep : Type 0 → Play → Frame → Play → Type 0
 FrameStep Fails old frame new = FrameIn Fails old.client.fault old.client.connected old frame new
 
+-- the name of the topic that a command may search for
+abbrev pub asked_by : Command → List (List ℕ)
+asked_by (command.Connect c) = []
+asked_by (command.Producer c) = c.topic ∷ []
+asked_by (command.Send c) = []
+asked_by (command.Subscribe c) = c.topic ∷ []
+asked_by (command.Flow c) = []
+asked_by (command.Ack c) = []
+asked_by (command.Unsubscribe c) = []
+asked_by (command.CloseProducer c) = []
+asked_by (command.CloseConsumer c) = []
+asked_by command.Ping = []
+asked_by command.Pong = []
+asked_by (command.RedeliverUnacknowledgedMessages c) = []
+asked_by (command.PartitionedMetadata c) = []
+asked_by (command.Lookup c) = []
+asked_by (command.Other k) = []
+
+-- those that frames may search for
+abbrev pub names_in : List Frame → List (List ℕ)
+names_in frames = flat_map (λ frame. asked_by frame.command) frames
+
 -- frames, in order
 abbrev pub FramesStep : Type 0 → Play → List Frame → Play → Type 0
 FramesStep Fails old [] new = new ≡ old
@@ -110,6 +133,17 @@ pub record Feeds (Fails : Type 0) (old : Play) (bytes : List ℕ) (new : Play) :
   pub worked : Play
   pub works : FramesStep Fails (with_progress old progress) frames worked
   pub ends : new ≡ left_if_ended (ended_if read worked)
+
+-- none, or the names that the frames may search for which are whole with these bytes
+abbrev pub AreAskedIn : Client → List ℕ → List (List ℕ) → Type 0
+AreAskedIn client bytes names =
+    (names ≡ []) ⊎ ((frames : List Frame) × (read : Result (Unit {0}) FrameFault) × (progress : Progress) × FeedsOn client.progress bytes [] frames read progress × (names ≡ names_in frames))
+
+-- a session searches for such names, and this holds of them
+pub record SearchesIn (client : Client) (bytes : List ℕ) (P : List (List ℕ) → Type 0) : Type 0 where
+  pub names : List (List ℕ)
+  pub asked : AreAskedIn client bytes names
+  pub holds : P names
 
 -- a call answers the fault of a session that has ended
 abbrev pub feed_result : Option Fault → Result (Unit {0}) Fault

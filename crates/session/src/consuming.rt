@@ -1,4 +1,4 @@
-ghost use Rattle.std.specs.Prelude.{◌≡◌, ◌<◌, List, ℕ, nat_lt, Some, true, false, IfSome, IfNone, OnOk, OnErr, length};
+ghost use Rattle.std.specs.Prelude.{◌≡◌, ◌<◌, List, [], ◌∷◌, ℕ, nat_lt, Some, true, false, IfSome, IfNone, OnOk, OnErr, length};
 ghost use Rattle.std.specs.List.{position_or_len};
 ghost use Rattle.commands.specs.declared.reply.Reply.TheVariants.{Error};
 ghost use Rattle.session.specs.declared.port.Found.TheVariants.{Topic};
@@ -37,7 +37,7 @@ impl Session {
         ensures step { P.sole port.old → SubscribeStep (P.fails port.old port.new) (play self.old (P.broker port.old) out.old.items) asked
             (play self.new (P.broker port.new) out.new.items) }
         ensures speaks { Speaks self.old out.old.items self.new out.new.items }
-        ensures works { P.works port.old port.new }
+        ensures works { P.works (asked.topic ∷ []) port.old port.new }
     {
         self.consumers.forget_dead(self.number, port);
         self.subscribe_new(asked, port, out)
@@ -48,7 +48,7 @@ impl Session {
         ensures step { P.sole port.old → SubscribeOf (P.fails port.old port.new) (play self.old (P.broker port.old) out.old.items) asked
             (play self.new (P.broker port.new) out.new.items) }
         ensures speaks { Speaks self.old out.old.items self.new out.new.items }
-        ensures works { P.works port.old port.new }
+        ensures works { P.works (asked.topic ∷ []) port.old port.new }
     {
         if let Some(error) = self.own_consumer_refusal(&asked) {
             self.refuse_consumer(asked.request_id, error, out);

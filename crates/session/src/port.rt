@@ -1,4 +1,4 @@
-ghost use Rattle.std.specs.Prelude.{◌≡◌, ◌<◌, ◌≤◌, ℕ, true, length, IfSome, IfErr};
+ghost use Rattle.std.specs.Prelude.{◌≡◌, ◌<◌, ◌≤◌, ℕ, true, List, [], ◌∷◌, length, Contains, IfSome, IfErr};
 ghost use Rattle.gated_log.specs.declared.read_error.ReadError.{ReadError};
 ghost use Rattle.topic_core.specs.Steps.{has_producer, has_consumer, Fits};
 ghost use Rattle.session.specs.declared.told.Member.TheVariants.{Producer as IsProducer, Consumer as IsConsumer};
@@ -59,8 +59,8 @@ pub trait Port {
     /// What calls may do besides what they do to the abstract broker.
     ghost passes: { Self → Self → Type 0 };
 
-    /// What a search may do besides, and what calls may do around it: a topic that is made is written.
-    ghost works: { Self → Self → Type 0 };
+    /// What searches for these names may do besides, and what calls may do around them: a topic that is made is written.
+    ghost works: { List (List ℕ) → Self → Self → Type 0 };
 
     /// The device failed between the two.
     ghost fails: { Self → Self → Type 0 };
@@ -94,7 +94,7 @@ pub trait Port {
         ensures step { sole self.old → FindStep (broker self.old) name.now result (broker self.new) }
         ensures there { IfFound result (λ number. number < count self.new) }
         ensures failed { IfFailed result (fails self.old self.new) }
-        ensures works { works self.old self.new };
+        ensures works { works (name.now ∷ []) self.old self.new };
 
     /// Has a topic work a session's command.
     fn command(&mut self, topic: u64, who: u64, command: TopicCommand) -> Self::Answered
@@ -171,17 +171,20 @@ pub trait Port {
 
     ghost passes_sole: { (a b : Self) → passes a b → sole a → sole b };
 
-    ghost passes_works: { (a b : Self) → passes a b → works a b };
+    ghost passes_works: { (names : List (List ℕ)) (a b : Self) → passes a b → works names a b };
 
-    ghost works_both: { (a b c : Self) → works a b → works b c → works a c };
+    ghost works_both: { (names : List (List ℕ)) (a b c : Self) → works names a b → works names b c → works names a c };
 
-    ghost works_sole: { (a b : Self) → works a b → sole a → sole b };
+    /// Searches for some names are searches for more.
+    ghost works_more: { (few more : List (List ℕ)) (a b : Self) → ((name : List ℕ) → Contains few name → Contains more name) → works few a b → works more a b };
+
+    ghost works_sole: { (names : List (List ℕ)) (a b : Self) → works names a b → sole a → sole b };
 
     /// The count never falls.
-    ghost works_count: { (a b : Self) → works a b → count a ≤ count b };
+    ghost works_count: { (names : List (List ℕ)) (a b : Self) → works names a b → count a ≤ count b };
 
     /// A failure between two calls was one between an earlier one and a later one.
-    ghost fails_within: { (a b c d : Self) → works a b → works b c → works c d → fails b c → fails a d };
+    ghost fails_within: { (names : List (List ℕ)) (a b c d : Self) → works names a b → works names b c → works names c d → fails b c → fails a d };
 
     /// What was refused between two calls was refused between an earlier one and a later one.
     ghost refuses_within: { (a b c d : Self) (topic : ℕ) (why : ReadError) → passes a b → passes b c → passes c d → refuses b topic why c → refuses a topic why d };

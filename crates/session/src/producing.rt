@@ -1,4 +1,4 @@
-ghost use Rattle.std.specs.Prelude.{◌≡◌, ◌≤◌, ◌<◌, filter, Some, IfSome, IfNone, IfOk, OnOk, OnErr, vec_len, vec_capacity, length};
+ghost use Rattle.std.specs.Prelude.{◌≡◌, ◌≤◌, ◌<◌, [], ◌∷◌, filter, Some, IfSome, IfNone, IfOk, OnOk, OnErr, vec_len, vec_capacity, length};
 ghost use Rattle.commands.specs.declared.reply.Reply.TheVariants.{Error, SendError};
 ghost use Rattle.commands.specs.declared.server_error.ServerError.TheVariants.{NotAllowedError};
 ghost use Rattle.session.specs.declared.port.Found.TheVariants.{Topic};
@@ -32,7 +32,7 @@ impl Session {
         ensures step { P.sole port.old → ProducerStep (P.fails port.old port.new) (play self.old (P.broker port.old) out.old.items) asked
             (play self.new (P.broker port.new) out.new.items) }
         ensures speaks { Speaks self.old out.old.items self.new out.new.items }
-        ensures works { P.works port.old port.new }
+        ensures works { P.works (asked.topic ∷ []) port.old port.new }
     {
         forget_dead(&mut self.producers, self.number, port);
         self.open_new(asked, port, out)
@@ -43,7 +43,7 @@ impl Session {
         ensures step { P.sole port.old → ProducerOf (P.fails port.old port.new) (play self.old (P.broker port.old) out.old.items) asked
             (play self.new (P.broker port.new) out.new.items) }
         ensures speaks { Speaks self.old out.old.items self.new out.new.items }
-        ensures works { P.works port.old port.new }
+        ensures works { P.works (asked.topic ∷ []) port.old port.new }
     {
         if let Some(error) = self.own_refusal(&asked) {
             self.refuse_producer(asked.request_id, error, out);

@@ -1,7 +1,7 @@
 ghost use Rattle.std.specs.Prelude.{◌≡◌, [], true, OnSome, IfSome};
 ghost use Rattle.frames.specs.declared.frame.FrameEntry.{FrameEntry};
 ghost use Rattle.session.specs.Client.{Client, Play, play, Speaks, Writes};
-ghost use Rattle.session.specs.Working.{WorksCommand, is_alone, Connects, FrameStep, FramesStep, first_fault, feed_result, FeedStep};
+ghost use Rattle.session.specs.Working.{WorksCommand, is_alone, asked_by, names_in, SearchesIn, Connects, FrameStep, FramesStep, first_fault, feed_result, FeedStep};
 
 use crate::fault::Fault;
 use crate::port::Port;
@@ -26,7 +26,7 @@ impl Session {
         ensures ended { IfSome self.old.fault (λ why. (self.new ≡ self.old) × (out.new.items ≡ out.old.items)) }
         ensures number { self.new.number ≡ self.old.number }
         ensures writes { Writes out.old.items out.new.items }
-        ensures works { P.works port.old port.new }
+        ensures works { SearchesIn self.old bytes.now (λ names. P.works names port.old port.new) }
     {
         if let Some(why) = self.fault {
             return Err(why);
@@ -57,7 +57,7 @@ impl Session {
         ensures step { P.sole port.old → FramesStep (P.fails port.old port.new) (play self.old (P.broker port.old) out.old.items) frames.items
             (play self.new (P.broker port.new) out.new.items) }
         ensures speaks { Speaks self.old out.old.items self.new out.new.items }
-        ensures works { P.works port.old port.new }
+        ensures works { P.works (names_in frames.items) port.old port.new }
     {
         for frame in frames {
             self.work(frame, port, out);
@@ -69,7 +69,7 @@ impl Session {
         ensures step { P.sole port.old → FrameStep (P.fails port.old port.new) (play self.old (P.broker port.old) out.old.items) frame
             (play self.new (P.broker port.new) out.new.items) }
         ensures speaks { Speaks self.old out.old.items self.new out.new.items }
-        ensures works { P.works port.old port.new }
+        ensures works { P.works (asked_by frame.command) port.old port.new }
     {
         if self.fault.is_some() {
             drop(frame);
@@ -87,7 +87,7 @@ impl Session {
         ensures step { P.sole port.old → WorksCommand (P.fails port.old port.new) (play self.old (P.broker port.old) out.old.items) frame.command frame.entry
             (play self.new (P.broker port.new) out.new.items) }
         ensures speaks { Speaks self.old out.old.items self.new out.new.items }
-        ensures works { P.works port.old port.new }
+        ensures works { P.works (asked_by frame.command) port.old port.new }
     {
         let Frame { command, entry } = frame;
         match command {
@@ -105,7 +105,7 @@ impl Session {
         ensures step { P.sole port.old → (entry : FrameEntry) → WorksCommand (P.fails port.old port.new) (play self.old (P.broker port.old) out.old.items) command entry
             (play self.new (P.broker port.new) out.new.items) }
         ensures speaks { Speaks self.old out.old.items self.new out.new.items }
-        ensures works { P.works port.old port.new }
+        ensures works { P.works (asked_by command) port.old port.new }
     {
         match command {
             Command::Connect(_) => self.end_by(Fault::OutOfTurn),

@@ -327,7 +327,7 @@ impl<'p, 'a, T: TopicStore, S: Shelf + Drop, K: Tallies, R: Wait + Log> Port
 
     ghost passes = { λ old new. length new.known.items ≡ length old.known.items };
 
-    ghost works = { λ old new. length old.known.items ≤ length new.known.items };
+    ghost works = { λ _ old new. length old.known.items ≤ length new.known.items };
 
     ghost fails = { λ _ _. Unit {0} };
 
@@ -532,15 +532,17 @@ impl<'p, 'a, T: TopicStore, S: Shelf + Drop, K: Tallies, R: Wait + Log> Port
 
     ghost passes_sole = { λ a b passes sole. sole };
 
-    ghost passes_works = { λ a b passes. omega (arith, passes) };
+    ghost passes_works = { λ names a b passes. omega (arith, passes) };
 
-    ghost works_both = { λ a b c first second. omega (arith, first, second) };
+    ghost works_both = { λ names a b c first second. omega (arith, first, second) };
 
-    ghost works_sole = { λ a b works sole. sole };
+    ghost works_more = { λ few more a b within works. works };
 
-    ghost works_count = { λ a b works. works };
+    ghost works_sole = { λ names a b works sole. sole };
 
-    ghost fails_within = { λ a b c d before between after fails. tt };
+    ghost works_count = { λ names a b works. works };
+
+    ghost fails_within = { λ names a b c d before between after fails. tt };
 
     ghost refuses_within = { λ a b c d topic why before between after refused. tt };
 

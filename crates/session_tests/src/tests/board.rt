@@ -137,7 +137,7 @@ impl Port for Board {
 
     ghost passes = { λ old new. length old.topics.items ≤ length new.topics.items };
 
-    ghost works = { λ old new. length old.topics.items ≤ length new.topics.items };
+    ghost works = { λ _ old new. length old.topics.items ≤ length new.topics.items };
 
     ghost fails = { λ _ _. Unit {0} };
 
@@ -283,15 +283,17 @@ impl Port for Board {
 
     ghost passes_sole = { λ a b h s. s };
 
-    ghost passes_works = { λ a b h. h };
+    ghost passes_works = { λ names a b h. h };
 
-    ghost works_both = { λ a b c h k. Prim.search rules };
+    ghost works_both = { λ names a b c h k. Prim.search rules };
 
-    ghost works_sole = { λ a b h s. s };
+    ghost works_more = { λ few more a b within h. h };
 
-    ghost works_count = { λ a b h. h };
+    ghost works_sole = { λ names a b h s. s };
 
-    ghost fails_within = { λ a b c d h k l failed. tt };
+    ghost works_count = { λ names a b h. h };
+
+    ghost fails_within = { λ names a b c d h k l failed. tt };
 
     ghost refuses_within = { λ a b c d topic why h k l refused. tt };
 

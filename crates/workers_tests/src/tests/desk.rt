@@ -133,7 +133,7 @@ impl<'g> Port for Desk<'g> {
 
     ghost passes = { λ _ _. Unit {0} };
 
-    ghost works = { λ _ _. Unit {0} };
+    ghost works = { λ _ _ _. Unit {0} };
 
     ghost fails = { λ _ _. Unit {0} };
 
@@ -244,15 +244,17 @@ impl<'g> Port for Desk<'g> {
 
     ghost passes_sole = { λ a b h s. s };
 
-    ghost passes_works = { λ a b h. tt };
+    ghost passes_works = { λ names a b h. tt };
 
-    ghost works_both = { λ a b c h k. tt };
+    ghost works_both = { λ names a b c h k. tt };
 
-    ghost works_sole = { λ a b h s. s };
+    ghost works_more = { λ few more a b within h. tt };
 
-    ghost works_count = { λ a b h. Prim.search rules };
+    ghost works_sole = { λ names a b h s. s };
 
-    ghost fails_within = { λ a b c d h k l failed. tt };
+    ghost works_count = { λ names a b h. Prim.search rules };
+
+    ghost fails_within = { λ names a b c d h k l failed. tt };
 
     ghost refuses_within = { λ a b c d topic why h k l refused. tt };
 

@@ -1,4 +1,4 @@
-use Rattle.std.proofs.Common.{◌≡◌, ◌<◌, ℕ, Option, Some, Result, List, [], length, slice_get, refl, sym, subst, rules}
+use Rattle.std.proofs.Common.{◌≡◌, inl, inr, ◌<◌, ℕ, Option, Some, Result, List, [], length, slice_get, refl, sym, subst, rules}
 use Rattle.std.proofs.lemmas.Option.{slice_get_read}
 use Rattle.session.specs.declared.fault.Fault.{Fault}
 use Rattle.session.specs.Client.{Client, Play, play}
@@ -13,7 +13,7 @@ use Rattle.node.specs.declared.event.Output.{Output}
 use Rattle.node.proofs.node.Node.bytes.Goals as goal
 
 pub returns-in_default-clause-works : goal.returns-in_default-clause-works
-returns-in_default-clause-works g c = passes_works g.S.Shelf.disk _ _ (passes_nothing g.S.Shelf.disk c.args.self.now.topics)
+returns-in_default-clause-works g c = record { names = []; asked = inl refl; holds = passes_works g.S.Shelf.disk [] _ _ (passes_nothing g.S.Shelf.disk c.args.self.now.topics) }
 
 -- bytes come to the session that stands at this place
 feeds : (old new : State) (who place : ℕ) (client : Client) (bytes : List ℕ) (result : Result (Unit {0}) Fault) (played : Play) (output : Output) → place_of old.sessions who ≡ Some place → slice_get old.sessions place ≡ Some client →
@@ -23,7 +23,7 @@ feeds old new who place client bytes result played output at stands step settles
 
 pub returns-clause-step : goal.returns-clause-step
 returns-clause-step g c = λ stands.
-    let worked = c.feed.ensures.works.1 stands in
+    let worked = c.feed.ensures.works.holds.1 stands in
     let played = play c.feed.new.self (broker_of c.feed.new.port) c.feed.new.out.items in
     let at : place_of c.args.self.now.sessions.items c.args.who ≡ Some c.in-Some.place = search rules in
     let sessions = c.args.self.now.sessions.items in
@@ -41,3 +41,12 @@ returns-clause-step g c = λ stands.
       used = search rules;
       faults = worked.faults;
     })
+
+pub returns-clause-works : goal.returns-clause-works
+returns-clause-works g c =
+    let w = c.feed.ensures.works in
+    let at : place_of c.args.self.now.sessions.items c.args.who ≡ Some c.in-Some.place = search rules in
+    let sessions = c.args.self.now.sessions.items in
+    let within : c.in-Some.place < length sessions = search rules in
+    let here : slice_get sessions c.in-Some.place ≡ Some c.index_mut-session.result.now = slice_get_read sessions (length sessions) c.in-Some.place c.index_mut-session.result.now refl within c.index_mut-session.ensures.value in
+    record { names = w.names; asked = inr (c.in-Some.place, c.index_mut-session.result.now, at, here, w.asked); holds = w.holds }

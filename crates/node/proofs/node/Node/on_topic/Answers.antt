@@ -70,12 +70,12 @@ returns-clause-any_moment g c =
     let was = slice_get_read t.held.items (length t.held.items) k h refl low c.index_mut.ensures.value in
     let next = c.work-verdict.new.self in
     let disk = g.S.Shelf.disk in
-    λ s. work_leaves disk g.met.T.TopicStore.laws g.met.T.TopicStore.stands_local t k low h next was c.args.event (disk c.work-verdict.new.shelf) (c.work-verdict.ensures.within (s.each k h was)) s
+    λ s. work_leaves disk g.met.T.TopicStore.laws g.met.T.TopicStore.stands_local t k low h next was c.args.self.now.sessions.items c.args.event (disk c.work-verdict.new.shelf) (c.work-verdict.ensures.within (s.each k h was)) s
 
 pub returns-then-topic-count-clause-any_moment : goal.returns-then-topic-count-clause-any_moment
 returns-then-topic-count-clause-any_moment g c =
     let t = c.args.self.now.topics in
-    λ s. beyond_leaves g.S.Shelf.disk t c.args.topic (λ low. omega (arith, low, c.if-topic-count.true, c.count.ensures)) c.args.event s
+    λ s. beyond_leaves g.S.Shelf.disk t c.args.topic (λ low. omega (arith, low, c.if-topic-count.true, c.count.ensures)) c.args.self.now.sessions.items c.args.event s
 
 pub returns-clause-tells : goal.returns-clause-tells
 returns-clause-tells g c =

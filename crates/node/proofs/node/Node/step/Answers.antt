@@ -1,3 +1,4 @@
+use Rattle.disk.specs.Moments.{weaken}
 use Rattle.node.proofs.Frames.{here}
 use Rattle.node.proofs.node.Node.step.Goals as goal
 
@@ -5,7 +6,10 @@ pub returns-in-Open-clause-any_moment : goal.returns-in-Open-clause-any_moment
 returns-in-Open-clause-any_moment g c = λ h. rw c.in-Open.is (here g.T.TopicStore.stands _ _ _ (c.open_session.ensures.passes.1 h).any_moment)
 
 pub returns-in-Bytes-clause-any_moment : goal.returns-in-Bytes-clause-any_moment
-returns-in-Bytes-clause-any_moment g c = λ h. rw c.in-Bytes.is (c.bytes-in-Bytes.ensures.works.1 h).any_moment
+returns-in-Bytes-clause-any_moment g c = λ h.
+    let w = c.bytes-in-Bytes.ensures.works in
+    let asked = rw c.as_slice.ensures at w.asked in
+    rw c.in-Bytes.is (weaken _ _ _ _ (w.holds.1 h).any_moment (λ files s. (s.0, record { names = w.names; asked = asked; holds = s.1 }, s.2)))
 
 pub returns-in-Pump-clause-any_moment : goal.returns-in-Pump-clause-any_moment
 returns-in-Pump-clause-any_moment g c = λ h. rw c.in-Pump.is (here g.T.TopicStore.stands _ _ _ (c.pump.ensures.passes.1 h).any_moment)

@@ -24,8 +24,8 @@ returns-in-Up-clause-any_moment g c = λ old holds.
     let disk = g.S.Shelf.disk in
     let h : Holds disk (machine.Up c.in-Up.node) old = subst (λ m. Holds disk m old) c.in-Up.is holds in
     let d = disk c.step.new.self.topics.shelf in
-    subst (λ m. Leaves (StandsForSome stands (λ broker. AmidEvent old.up old.state.broker c.args.event broker)) (disk_in disk m) d) (sym c.in-Up.is)
-    (subst (λ (l : Life). Leaves (StandsForSome stands (λ broker. AmidEvent l.up l.state.broker c.args.event broker)) (disk c.in-Up.node.topics.shelf) d) (sym h.1) (c.step.ensures.any_moment h.0))
+    subst (λ m. Leaves (StandsForSome stands (λ broker. AmidEvent old.up old.state c.args.event broker)) (disk_in disk m) d) (sym c.in-Up.is)
+    (subst (λ (l : Life). Leaves (StandsForSome stands (λ broker. AmidEvent l.up l.state c.args.event broker)) (disk c.in-Up.node.topics.shelf) d) (sym h.1) (c.step.ensures.any_moment h.0))
 
 pub returns-in-Down-clause-any_moment : goal.returns-in-Down-clause-any_moment
 returns-in-Down-clause-any_moment g c = λ old holds. down_leaves_so g.S.Shelf.disk c.args.self.now c.in-Down.field-0 old c.args.event c.in-Down.is holds

@@ -1,5 +1,7 @@
 use Rattle.std.proofs.Common.{◌≡◌, ◌+◌, ℕ, List, [], ◌∷◌, ◌++◌, Some, Err, map, slice_get, length, refl, sym, ap, subst, ◌∙◌, ⊎_elim, arith, rules}
+use Rattle.std.specs.Prelude.{Contains}
 use Rattle.std.proofs.lemmas.List.{length-append}
+use Rattle.std.proofs.lemmas.List.Elements.{All-head, All-contains_itself}
 use Rattle.std.proofs.lemmas.Bool.{true≢false}
 use Rattle.disk.specs.Areas.{OfTopic, Within}
 use Rattle.disk.specs.Contents.{Settled, BeforeOrAfter}
@@ -16,13 +18,13 @@ use Rattle.node.proofs.Making.{works_same, worked_not, worked_doubting, worked_m
 use Rattle.node.proofs.topics.Topics.make.Goals as goal
 
 pub returns-in_err-reserve-clause-works : goal.returns-in_err-reserve-clause-works
-returns-in_err-reserve-clause-works g c = works_same g.S.Shelf.disk c.args.self.now _ c.reserve.ensures.items refl refl refl refl
+returns-in_err-reserve-clause-works g c = works_same g.S.Shelf.disk (c.args.name.now ∷ []) c.args.self.now _ c.reserve.ensures.items refl refl refl refl
 
 pub returns-in_err-added-clause-works : goal.returns-in_err-added-clause-works
-returns-in_err-added-clause-works g c = works_same g.S.Shelf.disk c.args.self.now _ c.reserve.ensures.items refl refl refl refl
+returns-in_err-added-clause-works g c = works_same g.S.Shelf.disk (c.args.name.now ∷ []) c.args.self.now _ c.reserve.ensures.items refl refl refl refl
 
 pub returns-in_err-doubted-clause-works : goal.returns-in_err-doubted-clause-works
-returns-in_err-doubted-clause-works g c = works_same g.S.Shelf.disk c.args.self.now _ c.reserve.ensures.items refl refl refl refl
+returns-in_err-doubted-clause-works g c = works_same g.S.Shelf.disk (c.args.name.now ∷ []) c.args.self.now _ c.reserve.ensures.items refl refl refl refl
 
 pub returns-in-Err-clause-works : goal.returns-in-Err-clause-works
 returns-in-Err-clause-works g c = (
@@ -32,7 +34,7 @@ returns-in-Err-clause-works g c = (
       let disk = g.S.Shelf.disk in
       let e = c.in-Err.ensures in
       let n_is : c.len-number.result ≡ length t.held.items = search rules in
-      worked_not disk g.met.T.TopicStore.laws g.met.T.TopicStore.stands_local t s c.requires.sure (disk c.create.new.shelf) e.kept (subst (λ k. Within (OfTopic k) (λ i. Unit {0}) (disk t.shelf) (disk c.create.new.shelf)) n_is (e.others s.honest))
+      worked_not disk (c.args.name.now ∷ []) g.met.T.TopicStore.laws g.met.T.TopicStore.stands_local t s c.requires.sure (disk c.create.new.shelf) e.kept (subst (λ k. Within (OfTopic k) (λ i. Unit {0}) (disk t.shelf) (disk c.create.new.shelf)) n_is (e.others s.honest))
       _ refl c.reserve.ensures.items (ap (λ (l : List (Held _ _)). over (broker_of t) (map (λ (h : Held _ _). h.core) l)) c.reserve.ensures.items) (λ names settled. settled),
 )
 
@@ -91,9 +93,9 @@ returns-then-is_failed-clause-works g c = (
       let here = e1.stands s.honest in
       let w = subst (λ k. Within (OfTopic k) (λ i. Unit {0}) (disk t.shelf) d1) n_is (e1.others s.honest) in
       let old = remembered t.catalog in
-      let appends = e2.appends old (made_settled disk laws local t s c.requires.sure d1 e1.kept w) in
+      let appends = e2.appends old (made_settled disk (c.args.name.now ∷ []) laws local t s c.requires.sure d1 e1.kept w) in
       let w' = subst (λ (x : List ℕ). Within Own (BeforeOrAfter (NamesStand (per_ledger t.catalog)) old (old ++ x ∷ [])) d1 (disk c.add.new.shelf)) added appends.within in
-      worked_doubting disk laws local t s c.requires.sure d1 e1.kept w h core e1.rests topic here (fresh_files h (per_ledger t.catalog) (length t.held.items) d1 core topic here) name _ e2.kept w'
+      worked_doubting disk (c.args.name.now ∷ []) laws local t s c.requires.sure d1 e1.kept w h core e1.rests topic here (fresh_files h (per_ledger t.catalog) (length t.held.items) d1 core topic here) name (All-head (Contains (name ∷ [])) name [] (All-contains_itself (name ∷ []))) _ e2.kept w'
       c.reserve.ensures.items
       (same_parts e2.per_ledger refl (e2.remembered refl) (ap (λ (x : List ℕ). Some x) doubted) (ap (λ (l : List (Held _ _)). map (λ (h : Held _ _). h.core) l) c.reserve.ensures.items))
       (sym c.is_failed.ensures ∙ c.if-is_failed.true),
@@ -114,7 +116,7 @@ returns-else-is_failed-clause-works g c = (
       let w = subst (λ k. Within (OfTopic k) (λ i. Unit {0}) (disk t.shelf) d1) n_is (e1.others s.honest) in
       let memory : c.in-Err-add.why ≡ refusal.NoMemory = ⊎_elim (λ (device : c.in-Err-add.why ≡ refusal.Device). absurd (true≢false (sym (e2.failed (ap (λ r. Err r) device)) ∙ sym c.is_failed.ensures ∙ c.if-is_failed.false))) (λ (none : c.in-Err-add.why ≡ refusal.NoMemory). none) e2.refusals in
       let m = e2.no_memory (ap (λ r. Err r) memory) in
-      worked_not disk laws local t s c.requires.sure d1 e1.kept w _ (ap (λ (x : _). disk x) m.1.1) c.reserve.ensures.items
+      worked_not disk (c.args.name.now ∷ []) laws local t s c.requires.sure d1 e1.kept w _ (ap (λ (x : _). disk x) m.1.1) c.reserve.ensures.items
       (same_parts e2.per_ledger refl (e2.remembered refl) refl (ap (λ (l : List (Held _ _)). map (λ (h : Held _ _). h.core) l) c.reserve.ensures.items))
       (λ names settled. record { honest = settled.honest; now = m.0.holds_still _ names settled.now; left = λ i may. m.0.holds_still i names (settled.left i may) }),
 )
@@ -140,10 +142,10 @@ returns-clause-works g c =
           let here = e1.stands s.honest in
           let w = subst (λ k. Within (OfTopic k) (λ i. Unit {0}) (disk t.shelf) d1) n_is (e1.others s.honest) in
           let old = remembered t.catalog in
-          let appends = e2.appends old (made_settled disk laws local t s c.requires.sure d1 e1.kept w) in
+          let appends = e2.appends old (made_settled disk (c.args.name.now ∷ []) laws local t s c.requires.sure d1 e1.kept w) in
           let w' = subst (λ (x : List ℕ). Within Own (BeforeOrAfter (NamesStand (per_ledger t.catalog)) old (old ++ x ∷ [])) d1 (disk c.add.new.shelf)) added appends.within in
           let names = e2.grown ∙ ap (λ (x : List ℕ). old ++ x ∷ []) added in
-          worked_making disk laws local t s c.requires.sure d1 e1.kept w h core e1.rests topic here (fresh_files h (per_ledger t.catalog) (length t.held.items) d1 core topic here) name _ e2.kept w'
+          worked_making disk (c.args.name.now ∷ []) laws local t s c.requires.sure d1 e1.kept w h core e1.rests topic here (fresh_files h (per_ledger t.catalog) (length t.held.items) d1 core topic here) name (All-head (Contains (name ∷ [])) name [] (All-contains_itself (name ∷ []))) _ e2.kept w'
           pushed
           (same_parts e2.per_ledger refl names refl
           (ap (λ (l : List (Held _ _)). map (λ (h : Held _ _). h.core) l) pushed ∙ cores_push t.held.items h ∙ ap (λ (u : Topic). map (λ (h : Held _ _). h.core) t.held.items ++ u ∷ []) core))

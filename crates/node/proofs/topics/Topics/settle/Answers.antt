@@ -10,11 +10,11 @@ use Rattle.node.specs.State.{over}
 use Rattle.node.specs.Standing.{broker_of}
 use Rattle.std.proofs.lemmas.Bool.{true≢false}
 use Rattle.node.proofs.Making.{numbered_push, both_kept, both_left, not_own, works_same, worked_reading, worked_without, worked_with}
-use Rattle.node.proofs.Settling.{one_more_name, opened_so, settles_without, no_fault_now, follows, broker_without, fresh_there, name_there, broker_with_name, settles_with, no_topic_fault}
+use Rattle.node.proofs.Settling.{one_more_name, opened_so, settles_without, no_fault_now, follows, broker_without, fresh_there, name_there, doubted_there, broker_with_name, settles_with, no_topic_fault}
 use Rattle.node.proofs.topics.Topics.settle.Goals as goal
 
 pub returns-then-not-is_failed-clause-works : goal.returns-then-not-is_failed-clause-works
-returns-then-not-is_failed-clause-works g c = works_same g.S.Shelf.disk c.args.self.now c.args.self.now refl refl refl refl refl
+returns-then-not-is_failed-clause-works g c = λ names. works_same g.S.Shelf.disk names c.args.self.now c.args.self.now refl refl refl refl refl
 
 pub returns-in_err-again-clause-refusals : goal.returns-in_err-again-clause-refusals
 returns-in_err-again-clause-refusals g c = λ s.
@@ -23,11 +23,11 @@ returns-in_err-again-clause-refusals g c = λ s.
     (λ fault. absurd (no_fault_now g.S.Shelf.disk c.args.self.now s (g.met.S.Shelf.lawful c.args.self.now.shelf s.honest).leaves_seen _ fault)) other)) (c.in_err-again.ensures.refused s.honest))
 
 pub returns-in_err-again-clause-works : goal.returns-in_err-again-clause-works
-returns-in_err-again-clause-works g c = (
+returns-in_err-again-clause-works g c = λ names. (
   omega arith,
   λ s.
       let e = c.in_err-again.ensures in
-      worked_reading g.S.Shelf.disk g.met.T.TopicStore.laws g.met.T.TopicStore.stands_local c.args.self.now _ s e.kept (e.any_moment s.honest) (λ j low f of. e.others s.honest f (not_own j f of))
+      worked_reading g.S.Shelf.disk names g.met.T.TopicStore.laws g.met.T.TopicStore.stands_local c.args.self.now _ s e.kept (e.any_moment s.honest) (λ j low f of. e.others s.honest f (not_own j f of))
       refl refl refl (sym c.is_failed.ensures ∙ c.if-not-is_failed.false),
 )
 
@@ -40,21 +40,21 @@ returns-then-not-is_followed_by-clause-refusals g c = λ s.
     absurd (true≢false (sym (c.is_followed_by.ensures.1 goes_on) ∙ no))
 
 pub returns-then-not-is_followed_by-clause-works : goal.returns-then-not-is_followed_by-clause-works
-returns-then-not-is_followed_by-clause-works g c = (
+returns-then-not-is_followed_by-clause-works g c = λ names. (
   omega arith,
   λ s.
       let e = c.in_ok-again.ensures in
-      worked_reading g.S.Shelf.disk g.met.T.TopicStore.laws g.met.T.TopicStore.stands_local c.args.self.now _ s e.kept (e.any_moment s.honest) (λ j low f of. e.others s.honest f (not_own j f of))
+      worked_reading g.S.Shelf.disk names g.met.T.TopicStore.laws g.met.T.TopicStore.stands_local c.args.self.now _ s e.kept (e.any_moment s.honest) (λ j low f of. e.others s.honest f (not_own j f of))
       refl refl refl (sym c.is_failed.ensures ∙ c.if-not-is_failed.false),
 )
 
 pub returns-in-Err-clause-works : goal.returns-in-Err-clause-works
-returns-in-Err-clause-works g c = (
+returns-in-Err-clause-works g c = λ names. (
   omega (arith, ap (λ (l : List (Held _ _)). length l) c.reserve.ensures.items),
   λ s.
       let e = c.in_ok-again.ensures in
       let t = c.args.self.now in
-      worked_reading g.S.Shelf.disk g.met.T.TopicStore.laws g.met.T.TopicStore.stands_local t _ s e.kept (e.any_moment s.honest) (λ j low f of. e.others s.honest f (not_own j f of))
+      worked_reading g.S.Shelf.disk names g.met.T.TopicStore.laws g.met.T.TopicStore.stands_local t _ s e.kept (e.any_moment s.honest) (λ j low f of. e.others s.honest f (not_own j f of))
       c.reserve.ensures.items (ap (λ (l : List (Held _ _)). over (broker_of t) (map (λ (h : Held _ _). h.core) l)) c.reserve.ensures.items) refl (sym c.is_failed.ensures ∙ c.if-not-is_failed.false),
 )
 
@@ -70,7 +70,7 @@ returns-in-Err-open-clause-refusals g c = λ s.
     (c.in-Err-open.ensures.refused (e1.kept.honest s.honest))
 
 pub returns-in-Err-open-clause-works : goal.returns-in-Err-open-clause-works
-returns-in-Err-open-clause-works g c = (
+returns-in-Err-open-clause-works g c = λ names. (
   omega (arith, ap (λ (l : List (Held _ _)). length l) c.reserve.ensures.items),
   λ s.
       let t = c.args.self.now in
@@ -81,7 +81,7 @@ returns-in-Err-open-clause-works g c = (
       let d1 = g.S.Shelf.disk c.open.new.shelf in
       let d2 = g.S.Shelf.disk c.open-then-len.new.shelf in
       let n_is : c.len-number.result ≡ length t.held.items = search rules in
-      worked_reading g.S.Shelf.disk g.met.T.TopicStore.laws g.met.T.TopicStore.stands_local t _ s (both_kept d0 d1 d2 e1.kept e2.kept)
+      worked_reading g.S.Shelf.disk names g.met.T.TopicStore.laws g.met.T.TopicStore.stands_local t _ s (both_kept d0 d1 d2 e1.kept e2.kept)
       (both_left d0 d1 d2 (e1.any_moment s.honest) (e2.any_moment h1))
       (λ j low f of. e2.others h1 f (apart c.len-number.result j (λ is. omega (arith, is, n_is, low)) f of) ∙ e1.others s.honest f (not_own j f of))
       c.reserve.ensures.items (ap (λ (l : List (Held _ _)). over (broker_of t) (map (λ (h : Held _ _). h.core) l)) c.reserve.ensures.items) refl (sym c.is_failed.ensures ∙ c.if-not-is_failed.false),
@@ -127,7 +127,7 @@ returns-then-len-clause-settled g c = λ s.
     settles_with disk t s lawful fails again d1 seen settled one many _ (broker_with_name disk t s lawful fails again d1 seen settled one many h c.push.new.self.items pushed core)
 
 pub returns-then-len-clause-works : goal.returns-then-len-clause-works
-returns-then-len-clause-works g c =
+returns-then-len-clause-works g c = λ names.
     let t = c.args.self.now in
     let h = c.in-Ok.held in
     let pushed : c.push.new.self.items ≡ t.held.items ++ h ∷ [] = search rules in (
@@ -152,9 +152,9 @@ returns-then-len-clause-works g c =
           let many = one_more_name (length (remembered again)) (length (remembered t.catalog)) (length t.held.items) follows_so.1 t.named more in
           let core = fresh_there disk t s lawful fails again d1 seen settled one many h.core (opened_so h.core c.entries_per_ledger-per_ledger.result (per_ledger again) c.entries_per_ledger-per_ledger.ensures.number e2.opened) e2.few
           (subst (λ k. g.T.TopicStore.stands k d1.seen h.core.ledger h.core.kept) n_is (e2.found h1)) in
-          worked_with disk g.met.T.TopicStore.laws g.met.T.TopicStore.stands_local t _ s (both_kept d0 d1 d2 e1.kept e2.kept) (both_left d0 d1 d2 (e1.any_moment s.honest) (e2.any_moment h1))
+          worked_with disk names g.met.T.TopicStore.laws g.met.T.TopicStore.stands_local t _ s (both_kept d0 d1 d2 e1.kept e2.kept) (both_left d0 d1 d2 (e1.any_moment s.honest) (e2.any_moment h1))
           (λ j low f of. e2.others h1 f (apart c.len-number.result j (λ is. omega (arith, is, n_is, low)) f of) ∙ e1.others s.honest f (not_own j f of))
-          h (name_there disk t s lawful fails again d1 seen settled one many) pushed e2.rests (e2.stands h1) (broker_with_name disk t s lawful fails again d1 seen settled one many h c.push.new.self.items pushed core)
+          h (name_there disk t s lawful fails again d1 seen settled one many) (doubted_there disk t s lawful fails again d1 seen settled one many) pushed e2.rests (e2.stands h1) (broker_with_name disk t s lawful fails again d1 seen settled one many h c.push.new.self.items pushed core)
           (settled_names d1 d2 again (record { seen = λ h. e2.seen h (λ no. cc); any_moment = e2.any_moment; kept = e2.kept }) settled) refl,
     )
 
@@ -169,7 +169,7 @@ returns-clause-settled g c = λ s.
     (broker_without disk t s (g.met.S.Shelf.lawful t.shelf s.honest).leaves_seen fails c.in_ok-again.again (disk c.open.new.shelf) (e1.seen s.honest (λ no. cc)) (e1.opened s.honest) few)
 
 pub returns-clause-works : goal.returns-clause-works
-returns-clause-works g c = (
+returns-clause-works g c = λ names. (
   omega arith,
   λ s.
       let t = c.args.self.now in
@@ -177,7 +177,7 @@ returns-clause-works g c = (
       let e1 = c.in_ok-again.ensures in
       let fails = sym c.is_failed.ensures ∙ c.if-not-is_failed.false in
       let few : length (remembered c.in_ok-again.again) ≤ length t.held.items = omega (arith, c.if-len.false, c.len.ensures.count, c.len-2.ensures) in
-      worked_without disk g.met.T.TopicStore.laws g.met.T.TopicStore.stands_local t _ s e1.kept (e1.any_moment s.honest) (λ j low f of. e1.others s.honest f (not_own j f of)) refl
+      worked_without disk names g.met.T.TopicStore.laws g.met.T.TopicStore.stands_local t _ s e1.kept (e1.any_moment s.honest) (λ j low f of. e1.others s.honest f (not_own j f of)) refl
       (broker_without disk t s (g.met.S.Shelf.lawful t.shelf s.honest).leaves_seen fails c.in_ok-again.again (disk c.open.new.shelf) (e1.seen s.honest (λ no. cc)) (e1.opened s.honest) few)
       (e1.opened s.honest) refl,
 )

@@ -27,7 +27,7 @@ returns-in-Topic-clause-step g c = λ s.
       found = Topic c.in-Topic.topic;
       between = g.P.Port.broker c.find-found.new.self;
       finds = rw (c.in-Ok.ensures ∙ c.as_str.ensures) at (c.in-Topic.ensures.step s);
-      asks = c.subscribe_on.ensures.step (g.met.P.Port.works_sole _ _ c.find-found.ensures.works s);
+      asks = c.subscribe_on.ensures.step (g.met.P.Port.works_sole _ _ _ c.find-found.ensures.works s);
     })
 
 pub returns-in-TooMany-clause-step : goal.returns-in-TooMany-clause-step
