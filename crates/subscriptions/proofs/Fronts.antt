@@ -1,10 +1,12 @@
 -- Entries that are forgotten, and those that come before.
 use Rattle.std.proofs.Common.{◌≡◌, ℕ, zero, suc, ◌+◌, ◌-◌, ◌≤◌, List, [], ◌∷◌, ◌++◌, ◌||◌, length, drop, length-append, append_assoc, refl, ap, sym, ◌∙◌, arith}
 use Rattle.std.specs.List.{AllByRecursion}
-use Rattle.std.proofs.lemmas.List.{length-replicate, length-drop, replicate-append-replicate}
+use Rattle.std.proofs.lemmas.List.{length-replicate, length-drop, drop-map, replicate-append-replicate}
 use Rattle.cursor.specs.Positions.{Positions, Has, has_union}
 use Rattle.std.specs.FinSet as set
 use Rattle.subscriptions.specs.Progress.{joined, listed}
+use Rattle.subscriptions.specs.declared.entry_marks.Mark.{Mark}
+use Rattle.subscriptions.specs.Halves.{messages_of, slots_in, messages_in, marks_of}
 use Rattle.subscriptions.specs.Marks.{Marks, behind, forgotten}
 use Rattle.subscriptions.specs.State.{Subscription}
 use Rattle.subscriptions.specs.Trimming.{IsPast}
@@ -32,6 +34,10 @@ stays base from xs ys m is low =
     is
     ∙ (λ i. record { slots = sym (copies_stay base from 0 xs low) i; messages = sym (copies_stay base from 1 ys low) i })
     ∙ ap (λ (k : Marks). forgotten base k) (sym is)
+
+-- without the first ones
+pub fewer : (base n : ℕ) (marks : List Mark) → marks_of base (drop n marks) ≡ record { slots = replicate base 0 ++ drop n (slots_in marks); messages = replicate base 1 ++ drop n (messages_in marks) }
+fewer base n marks = λ i. record { slots = replicate base 0 ++ sym (drop-map (λ (m : Mark). m.slot) n marks) i; messages = replicate base 1 ++ sym (drop-map messages_of n marks) i }
 
 -- ---- what comes before
 

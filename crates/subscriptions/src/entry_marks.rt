@@ -1,29 +1,57 @@
 // What is kept of each entry of a topic.
 ghost use Rattle.std.specs.Prelude.{◌≡◌, ◌+◌, ◌^◌, ◌<◌, ◌≤◌, [], false, drop, length, slice_index, OnOk, OnErr};
 ghost use Rattle.subscriptions.specs.Marks.{marked, forgotten, behind};
+ghost use Rattle.subscriptions.specs.Halves.{messages_of};
 
 use std::alloc::{AllocError, Global};
 use std::collections::VecDeque;
 use std::marker::Model;
+
+/// The hash slot of an entry, and how many messages it has, in two halves, so that a mark takes six bytes.
+#[derive(Drop)]
+struct Mark {
+    slot: u16,
+    low: u16,
+    high: u16,
+}
+
+impl Mark {
+    fn new(slot: u16, messages: u32) -> Mark
+        ensures slot { result.slot ≡ slot }
+        ensures messages { messages_of result ≡ messages }
+    {
+        Mark {
+            slot,
+            low: (messages % 65_536) as u16,
+            high: (messages / 65_536) as u16,
+        }
+    }
+
+    fn messages(&self) -> u32
+        ensures { result ≡ messages_of self.now }
+    {
+        u32::from(self.high) * 65_536 + u32::from(self.low)
+    }
+}
 
 /// The hash slot of each entry of a topic, and how many messages it has, by its position. Those of positions below `from` take no
 /// memory: they have slot 0, and one message.
 #[derive(Drop)]
 pub struct EntryMarks {
     from: u64,
-    slots: VecDeque<u16>,
-    messages: VecDeque<u32>,
+    marks: VecDeque<Mark>,
 }
 
 impl Model for EntryMarks {
-    ghost use Rattle.std.specs.Prelude.{◌≡◌, ◌++◌, All, length, replicate};
+    ghost use Rattle.std.specs.Prelude.{All};
     ghost use Rattle.subscriptions.specs.Marks.{Marks, IsCount};
+    ghost use Rattle.subscriptions.specs.Halves.{messages_of, marks_of};
 
     ghost Value = { Marks };
 
-    ghost view = { λ m. record { slots = replicate m.from 0 ++ m.slots.items; messages = replicate m.from 1 ++ m.messages.items } };
+    ghost view = { λ m. marks_of m.from m.marks.items };
 
-    ghost invariant = { λ m. (length m.slots.items ≡ length m.messages.items) × All IsCount m.messages.items };
+    ghost invariant = { λ m. All (λ k. IsCount (messages_of k)) m.marks.items };
 }
 
 impl EntryMarks {
@@ -33,8 +61,7 @@ impl EntryMarks {
     {
         EntryMarks {
             from: 0,
-            slots: VecDeque::new(alloc),
-            messages: VecDeque::new(alloc),
+            marks: VecDeque::new(alloc),
         }
     }
 
@@ -45,10 +72,7 @@ impl EntryMarks {
         ensures ok { OnOk result (self.new ≡ marked self.old slot messages) }
         ensures err { OnErr result (self.new ≡ self.old) }
     {
-        self.slots.reserve(1)?;
-        self.messages.reserve(1)?;
-        self.slots.push_back(slot).unwrap();
-        self.messages.push_back(messages).unwrap();
+        self.marks.push_back(Mark::new(slot, messages))?;
         Ok(())
     }
 
@@ -60,7 +84,7 @@ impl EntryMarks {
         if position < self.from {
             return 0;
         }
-        self.slots[(position - self.from) as usize]
+        self.marks[(position - self.from) as usize].slot
     }
 
     /// How many messages the entry at a position has.
@@ -73,7 +97,7 @@ impl EntryMarks {
         if position < self.from {
             return 1;
         }
-        self.messages[(position - self.from) as usize]
+        self.marks[(position - self.from) as usize].messages()
     }
 
     /// So many further entries come before those that it has: they have slot 0, and one message. Takes no memory.
@@ -94,21 +118,19 @@ impl EntryMarks {
         if position <= self.from {
             return false;
         }
-        let count = position - self.from;
-        drop_first(&mut self.slots, count);
-        drop_first(&mut self.messages, count);
+        drop_first(&mut self.marks, position - self.from);
         self.from = position;
         true
     }
 }
 
 /// Drops the first ones.
-fn drop_first<T: Drop>(list: &mut VecDeque<T>, count: u64)
-    ensures { list.new.items ≡ drop count list.old.items }
+fn drop_first(marks: &mut VecDeque<Mark>, count: u64)
+    ensures { marks.new.items ≡ drop count marks.old.items }
 {
     let mut left = count;
     while left > 0 {
-        let Some(_) = list.pop_front() else {
+        let Some(_) = marks.pop_front() else {
             return;
         };
         left -= 1;
