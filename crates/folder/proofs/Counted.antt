@@ -15,7 +15,7 @@ use Rattle.topic_core.specs.Standing.{Phase, Before}
 use Rattle.node.specs.State.{Resting}
 use Rattle.node.specs.Flights.{stage_of, phase_at}
 use Rattle.node.specs.Lists.{at_map, get_at}
-use Rattle.node.specs.Standing.{state_of, phase_in}
+use Rattle.node.specs.Standing.{state_of, phase_in, known_by}
 use Rattle.node.specs.Opening.{IsJustOpened}
 use Rattle.node.specs.Driving.{TellsSegments}
 use Rattle.node.specs.declared.held.Held.{Held}
@@ -54,7 +54,7 @@ module _ {T S : Type 0} {store : StoreMembers T} (disk : S → Disk) (files_stan
       let all : length statuses ≡ length (map (λ (x : Held T store). x.core) held_in) = told.all in
       let low : number < length held_in = omega (arith, within, long, all) in
       let h = get_at held_in number low in
-      subst (λ (phase : Phase). TellsSegments laid number phase (disk node.topics.shelf).seen status.segments) (is_before number h.0 h.1) (counted number status is h.0 h.1)
+      subst (λ (phase : Phase). TellsSegments laid number phase (disk node.topics.shelf).seen (known_by h.0) status.segments) (is_before number h.0 h.1) (counted number status is h.0 h.1)
 
   -- and they are those of the files that were opened
   pub are_found : (laid : ℕ → Image → List ℕ → Type 0) (statuses : List TopicStatus) → (disk node.topics.shelf).seen ≡ files → AreTold (state_of disk node) statuses → AreCounted laid held_in (disk node.topics.shelf).seen statuses

@@ -1,4 +1,5 @@
 pub mod UnderWay
+pub mod Knowing
 pub mod Frames
 pub mod Commands
 pub mod Making

@@ -1,5 +1,5 @@
 -- A topic of a node is made or found again, and the others stay.
-use Rattle.std.proofs.Common.{◌≡◌, inl, inr, ⊎_elim, ℕ, ◌<◌, ◌≤◌, true, false, Option, Some, None, List, [], ◌∷◌, ◌++◌, map, length, slice_get, refl, sym, ap, subst, ◌∙◌, append-nil, arith}
+use Rattle.std.proofs.Common.{◌≡◌, inl, inr, ⊎_elim, ℕ, zero, suc, ◌<◌, ◌≤◌, true, false, Option, Some, None, List, [], ◌∷◌, ◌++◌, map, length, slice_get, refl, sym, ap, subst, ◌∙◌, append-nil, arith}
 use Rattle.std.specs.Prelude.{is_some, Contains, IfSome}
 use Rattle.std.proofs.lemmas.Bool.{true≢false}
 use Rattle.std.proofs.lemmas.List.Elements.{All-nil, All-cons}
@@ -28,7 +28,7 @@ use Rattle.node.specs.State.{Stage, Resting, stage_in}
 use Rattle.node.specs.Flights.{stage_of}
 use Rattle.node.specs.Numbers.{AreNumbered, IsNumbered}
 use Rattle.node.specs.Naming.{IsOneOf, with_names, Gains, Grows}
-use Rattle.node.specs.Standing.{StandsForBroker, StandsForSome, NamesLeft, view_in, phase_in, HeldStands, broker_of, stages_of, TopicsStand, Worked, Works}
+use Rattle.node.specs.Standing.{StandsForBroker, StandsForSome, NamesLeft, view_in, phase_in, HeldStands, known_in, known_by, known_of, broker_of, stages_of, TopicsStand, Worked, Works}
 use Rattle.node.specs.Passing.{stands_so, count_is, untouched}
 use Rattle.node.specs.Growing.{doubted_before, gains_none, gained_at}
 use Rattle.node.specs.Brokers.{one_more_at}
@@ -140,6 +140,11 @@ module _ {T : Type 0} {store : StoreMembers T} where
       ap (λ (l : List Stage). stage_in l number) (map_push xs h rests)
       ∙ one_more_at (map (λ (x : Held T store). stage_of x.flight) xs) number Resting
 
+  known_more : (xs : List (Held T store)) (h : Held T store) (number : ℕ) → number < length xs → known_in (map (λ (x : Held T store). known_by x) (xs ++ h ∷ [])) number ≡ known_in (map (λ (x : Held T store). known_by x) xs) number
+  known_more [] h number low = absurd (omega (arith, low))
+  known_more (x ∷ xs) h zero low = refl
+  known_more (x ∷ xs) h (suc number) low = known_more xs h number (omega (arith, low))
+
   -- the files of a fresh topic that is held stand for one
   pub fresh_files : (h : Held T store) (n number : ℕ) (d : Disk) → h.core ≡ fresh n → (view_in h).topic ≡ number → HeldStands h d → (files : Image) → d.may_leave files → store.stands number files (whole []) map_of.empty
   fresh_files h n number d core topic here files may =
@@ -159,10 +164,20 @@ module _ {T : Type 0} {store : StoreMembers T} where
   cores_push (x ∷ xs) h = ap (λ (l : List Topic). x.core ∷ l) (cores_push xs h)
 
 module _ {T S : Type 0} {store : StoreMembers T} (disk : S → Disk) (asked : List (List ℕ)) where
+  -- the stores that were there know what they knew
+  abbrev pub KnowTheSame : Topics T S store → Topics T S store → Type 0
+  KnowTheSame t new = (number : ℕ) → number < length t.held.items → known_in (known_of new) number ≡ known_in (known_of t) number
+
+  known_same : (t new : Topics T S store) → new.held.items ≡ t.held.items → KnowTheSame t new
+  known_same t new items number low = ap (λ (l : List (Held T store)). known_in (map (λ (x : Held T store). known_by x) l) number) items
+
+  known_beside : (t new : Topics T S store) (h : Held T store) → new.held.items ≡ t.held.items ++ h ∷ [] → KnowTheSame t new
+  known_beside t new h items number low = ap (λ (l : List (Held T store)). known_in (map (λ (x : Held T store). known_by x) l) number) items ∙ known_more t.held.items h number low
+
   -- what a call did that may search for these names, by the broker that it made
   pub worked_so : (t new : Topics T S store) → TopicsStand disk new → Gains asked (broker_of t) (broker_of new) → Leaves (StandsForSome store.stands (λ broker. Gains asked (broker_of t) broker)) (disk t.shelf) (disk new.shelf)
-      → ((number : ℕ) → stage_in (stages_of new) number ≡ stage_in (stages_of t) number) → (disk t.shelf).faults ≤ (disk new.shelf).faults → Worked disk asked t new
-  worked_so t new standing gains moments stages faults = record { standing = standing; grows = gains_grows asked (broker_of t) (broker_of new) gains; any_moment = moments; stages = stages; faults = faults }
+      → ((number : ℕ) → stage_in (stages_of new) number ≡ stage_in (stages_of t) number) → KnowTheSame t new → (disk t.shelf).faults ≤ (disk new.shelf).faults → Worked disk asked t new
+  worked_so t new standing gains moments stages known faults = record { standing = standing; grows = gains_grows asked (broker_of t) (broker_of new) gains; any_moment = moments; stages = stages; known = known; faults = faults }
 
   -- nothing changed but the room of a list
   pub works_same : (t new : Topics T S store) → new.held.items ≡ t.held.items → new.catalog ≡ t.catalog → new.url ≡ t.url → new.doubtful ≡ t.doubtful → new.shelf ≡ t.shelf → Works disk asked t new
@@ -182,7 +197,7 @@ module _ {T S : Type 0} {store : StoreMembers T} (disk : S → Disk) (asked : Li
             })
             (subst (λ (b : Broker). Gains asked (broker_of t) b) (sym broker) (gains_none asked (broker_of t)))
             (weaken _ _ (disk t.shelf) (disk new.shelf) (untouched disk t new.shelf s shelf) (λ files is. (broker_of t, gains_none asked (broker_of t), is)))
-            (λ number. ap (λ (l : List (Held T store)). stage_in (map (λ (x : Held T store). stage_of x.flight) l) number) items)
+            (λ number. ap (λ (l : List (Held T store)). stage_in (map (λ (x : Held T store). stage_of x.flight) l) number) items) (known_same t new items)
             (subst (λ (x : S). (disk t.shelf).faults ≤ (disk x).faults) (sym shelf) (omega arith)),
       )
 
@@ -222,7 +237,7 @@ module _ {T S : Type 0} {store : StoreMembers T} (disk : S → Disk) (asked : Li
               settled = λ works. absurd (true≢false (sym fails ∙ works));
             })
             (subst (λ (b : Broker). Gains asked (broker_of t) b) (sym broker) (gains_none asked (broker_of t))) read_moments
-            (λ number. ap (λ (l : List (Held T store)). stage_in (map (λ (x : Held T store). stage_of x.flight) l) number) items) kept.faults
+            (λ number. ap (λ (l : List (Held T store)). stage_in (map (λ (x : Held T store). stage_of x.flight) l) number) items) (known_same t new items) kept.faults
 
         -- the catalog was opened again, and the name in doubt isn't there
         pub worked_without : new.held.items ≡ t.held.items → broker_of new ≡ sure (broker_of t) → SettledIn (NamesHeld new.catalog) (disk new.shelf) (remembered new.catalog) → new.doubtful ≡ None → Worked disk asked t new
@@ -234,7 +249,7 @@ module _ {T S : Type 0} {store : StoreMembers T} (disk : S → Disk) (asked : Li
               settled = λ works. settled;
             })
             (record { more = []; doubt = None; gained = broker ∙ sure_is (broker_of t); asked = All-nil (IsOneOf asked (broker_of t)); doubted = tt }) read_moments
-            (λ number. ap (λ (l : List (Held T store)). stage_in (map (λ (x : Held T store). stage_of x.flight) l) number) items) kept.faults
+            (λ number. ap (λ (l : List (Held T store)). stage_in (map (λ (x : Held T store). stage_of x.flight) l) number) items) (known_same t new items) kept.faults
 
         -- it is there, and its topic was opened
         pub worked_with : (h : Held T store) (name : List ℕ) → (broker_of t).doubtful ≡ Some name → new.held.items ≡ t.held.items ++ h ∷ [] → h.flight ≡ None → HeldStands h (disk new.shelf) → broker_of new ≡ made (sure (broker_of t)) name
@@ -247,7 +262,7 @@ module _ {T S : Type 0} {store : StoreMembers T} (disk : S → Disk) (asked : Li
               settled = λ works. settled;
             })
             (record { more = name ∷ []; doubt = None; gained = broker; asked = All-cons (IsOneOf asked (broker_of t)) name [] (inr doubted) (All-nil (IsOneOf asked (broker_of t))); doubted = tt }) read_moments
-            (λ number. ap (λ (l : List (Held T store)). stage_in (map (λ (x : Held T store). stage_of x.flight) l) number) items ∙ stage_more t.held.items h number rests) kept.faults
+            (λ number. ap (λ (l : List (Held T store)). stage_in (map (λ (x : Held T store). stage_of x.flight) l) number) items ∙ stage_more t.held.items h number rests) (known_beside t new h items) kept.faults
 
       -- ---- a topic is made
 
@@ -297,7 +312,7 @@ module _ {T S : Type 0} {store : StoreMembers T} (disk : S → Disk) (asked : Li
             })
             (subst (λ (b : Broker). Gains asked (broker_of t) b) (sym broker) (gains_none asked (broker_of t)))
             (subst (λ (d : Disk). Leaves (StandsForSome store.stands (λ broker. Gains asked (broker_of t) broker)) (disk t.shelf) d) (sym is) some_moments)
-            (λ number. ap (λ (l : List (Held T store)). stage_in (map (λ (x : Held T store). stage_of x.flight) l) number) items)
+            (λ number. ap (λ (l : List (Held T store)). stage_in (map (λ (x : Held T store). stage_of x.flight) l) number) items) (known_same t new items)
             (subst (λ (d : Disk). (disk t.shelf).faults ≤ d.faults) (sym is) kept.faults)
 
         -- ---- and its name is added
@@ -338,7 +353,7 @@ module _ {T S : Type 0} {store : StoreMembers T} (disk : S → Disk) (asked : Li
                 settled = λ works'. absurd (true≢false (sym fails ∙ works'));
               })
               (record { more = []; doubt = Some name; gained = broker ∙ doubting_is (broker_of t) name; asked = All-nil (IsOneOf asked (broker_of t)); doubted = inl is_asked }) added_moments
-              (λ number. ap (λ (l : List (Held T store)). stage_in (map (λ (x : Held T store). stage_of x.flight) l) number) items)
+              (λ number. ap (λ (l : List (Held T store)). stage_in (map (λ (x : Held T store). stage_of x.flight) l) number) items) (known_same t new items)
               (omega (arith, kept.faults, kept'.faults))
 
           -- it is added
@@ -359,5 +374,5 @@ module _ {T S : Type 0} {store : StoreMembers T} (disk : S → Disk) (asked : Li
                 asked = All-cons (IsOneOf asked (broker_of t)) name [] (inl is_asked) (All-nil (IsOneOf asked (broker_of t)));
                 doubted = doubted_before asked (broker_of t) t.doubtful refl;
               }) added_moments
-              (λ number. ap (λ (l : List (Held T store)). stage_in (map (λ (x : Held T store). stage_of x.flight) l) number) items ∙ stage_more t.held.items h number rests)
+              (λ number. ap (λ (l : List (Held T store)). stage_in (map (λ (x : Held T store). stage_of x.flight) l) number) items ∙ stage_more t.held.items h number rests) (known_beside t new h items)
               (omega (arith, kept.faults, kept'.faults))

@@ -80,6 +80,10 @@ module _ {T S : Type 0} {store : StoreMembers T} (disk : S → Disk) where
   pub node_rests : (n : Node T S store) → Stands disk n → AtRest store.stands (state_of disk n) (disk n.topics.shelf)
   node_rests n s = record { honest = s.honest; left = stands_so disk n.topics s; faults = omega arith }
 
+  pub is_down : (m : Machine T S store) (site : Site S) (life : Life) → m ≡ machine.Down site → Holds disk m life → life.up ≡ false
+  is_down (machine.Up node) site life is holds = absurd (let no : machine.Up node ≡ machine.Down site = is in cc)
+  is_down (machine.Down here) site life is holds = holds.1
+
   pub down_leaves_so : (m : Machine T S store) (site : Site S) (life : Life) (event : Event) → m ≡ machine.Down site → Holds disk m life
       → Leaves (StandsForSome store.stands (λ broker. AmidEvent life.up life.state event broker)) (disk_in disk m) (disk_in disk m)
   down_leaves_so (machine.Up node) site life event is holds = absurd (let no : machine.Up node ≡ machine.Down site = is in cc)

@@ -1,5 +1,5 @@
 -- A machine that is driven through events and crashes.
-use Rattle.std.specs.Prelude.{◌≡◌, ◌≢◌, ℕ, suc, Bool, true, false, Option, Some, None, Result, IfOk, List, ◌∷◌, ◌++◌, length, take, slice_get}
+use Rattle.std.specs.Prelude.{◌≡◌, ◌≢◌, ◌<◌, ℕ, suc, Bool, true, false, Option, Some, None, Result, IfOk, List, ◌∷◌, ◌++◌, length, take, slice_get}
 use Rattle.std.specs.declared.alloc.AllocError.{AllocError}
 use Rattle.disk.specs.declared.crash_shelf.CrashForm.{CrashForm}
 use Rattle.disk.specs.Disk.{Disk, Image, Same}
@@ -9,8 +9,9 @@ use Rattle.topic_stores.specs.declared.store.TopicStore.{Ghosts as StoreMembers}
 use Rattle.subscriptions.specs.Statuses.{AreStatuses}
 use Rattle.topic_core.specs.Standing.{Phase, Before, Written, Lost}
 use Rattle.session.specs.Broker.{topic_at}
-use Rattle.node.specs.State.{State, place_in}
-use Rattle.node.specs.Standing.{state_of, phase_in, Stands, AtRest, StandsForSome}
+use Rattle.node.specs.State.{State, place_in, stage_at}
+use Rattle.node.specs.Flights.{phase_at}
+use Rattle.node.specs.Standing.{state_of, phase_in, known_by, known_in, known_of, StillKnows, Stands, AtRest, StandsForSome}
 use Rattle.managed_ledger.specs.Entries.{Ledger, end_of}
 use Rattle.records.specs.Maps.{Kept}
 use Rattle.node.specs.Runs.{Life, AllowedRun}
@@ -45,16 +46,26 @@ StatusOf false state number told = told ≡ None
 abbrev pub HasSegments : (ℕ → Image → List ℕ → Type 0) → ℕ → Image → ℕ → Type 0
 HasSegments laid number files segments = (counts : List ℕ) × laid number files counts × (segments ≡ length counts)
 
--- as many segments are told as there are, but where the store met a failure of the device
-abbrev pub TellsSegments : (ℕ → Image → List ℕ → Type 0) → ℕ → Phase → Image → ℕ → Type 0
-TellsSegments laid number Before files segments = HasSegments laid number files segments
-TellsSegments laid number (Written base) files segments = HasSegments laid number files segments
-TellsSegments laid number Lost files segments = Unit {0}
+-- as many segments are told as there are; where the store met a failure of the device, as many as it knows of
+abbrev pub TellsSegments : (ℕ → Image → List ℕ → Type 0) → ℕ → Phase → Image → ℕ → ℕ → Type 0
+TellsSegments laid number Before files known segments = HasSegments laid number files segments
+TellsSegments laid number (Written base) files known segments = HasSegments laid number files segments
+TellsSegments laid number Lost files known segments = segments ≡ known
 
--- so it is of the topic that has this number
+-- so it is of the topic that has this number, by what its store remembers
 abbrev pub SegmentsAt : {T : Type 0} {store : StoreMembers T} → (ℕ → Image → List ℕ → Type 0) → ℕ → List (Held T store) → Image → Option TopicStatus → Type 0
-SegmentsAt laid number held files (Some status) = (h : Held _ _) → slice_get held number ≡ Some h → TellsSegments laid number (phase_in h) files status.segments
+SegmentsAt laid number held files (Some status) = (h : Held _ _) → slice_get held number ≡ Some h → TellsSegments laid number (phase_in h) files (known_by h) status.segments
 SegmentsAt laid number held files None = Unit {0}
+
+-- how far the store of the topic of a number is
+abbrev pub phase_of : State → ℕ → Phase
+phase_of state number = phase_at (topic_at state.broker number).failed (stage_at state number)
+
+-- Of how many segments the stores know, while a node goes on: those that work know of those in these files, which reads gave before, and
+-- what they know goes on.
+pub record KnowsOn (laid : ℕ → Image → List ℕ → Type 0) (files : Image) (old new : State) (known now : ℕ → ℕ) : Type 0 where
+  pub there : (number : ℕ) → number < length old.broker.topics → phase_of old number ≢ Lost → HasSegments laid number files (known number)
+  pub still : (number : ℕ) → number < length old.broker.topics → StillKnows (phase_of old number) (phase_of new number) (known number) (now number)
 
 -- the files stand for what a crash leaves of a broker that a front of the happenings reaches, the first opening before them
 abbrev pub StandsAmidst : (ℕ → Image → Ledger → Kept → Type 0) → State → List Happening → Image → Type 0
@@ -65,6 +76,11 @@ StandsAmidst files_stand first happenings files =
 abbrev pub shelf_in : {T S : Type 0} {store : StoreMembers T} → Machine T S store → S
 shelf_in (machine.Up node) = node.topics.shelf
 shelf_in (machine.Down site) = site.shelf
+
+-- of how many segments the store of the topic of a number knows; a node that is down has no stores
+abbrev pub segments_known : {T S : Type 0} {store : StoreMembers T} → Machine T S store → ℕ → ℕ
+segments_known (machine.Up node) number = known_in (known_of node.topics) number
+segments_known (machine.Down site) number = 0
 
 -- The power was cut, in the form that was ordered last, and the node was opened, which writes nothing: reads give what the crash
 -- left, but where the device failed in the opening.

@@ -1,5 +1,5 @@
 -- Calls of a port that make topics, one after another.
-use Rattle.std.proofs.Common.{◌≡◌, inl, inr, ℕ, Option, Some, None, List, [], ◌++◌, map, refl, sym, ap, subst, ◌∙◌, append-nil, append_assoc, arith}
+use Rattle.std.proofs.Common.{◌≡◌, ◌≤◌, inl, inr, ℕ, length, Option, Some, None, List, [], ◌++◌, map, refl, sym, ap, subst, ◌∙◌, append-nil, append_assoc, arith}
 use Rattle.std.specs.Prelude.{All, Contains, IfSome}
 use Rattle.std.proofs.lemmas.List.{length-map, length-append}
 use Rattle.std.proofs.lemmas.List.Elements.{All-nil, All-append, All-weaker}
@@ -16,7 +16,7 @@ use Rattle.session.specs.Broker.{Broker, fresh, topic_at}
 use Rattle.node.specs.declared.topics.Topics.{Topics}
 use Rattle.node.specs.State.{Stage, stage_in}
 use Rattle.node.specs.Naming.{IsFormed, IsOneOf, with_names, Gains, Grows}
-use Rattle.node.specs.Standing.{StandsForBroker, StandsForSome, broker_of, Passed, Passes, Worked, Works, Fails}
+use Rattle.node.specs.Standing.{StandsForBroker, StandsForSome, broker_of, known_in, Passed, Passes, Worked, Works, Fails}
 use Rattle.node.specs.Passing.{formed_of, stands_before}
 use Rattle.node.specs.Brokers.{more_at}
 
@@ -116,6 +116,7 @@ module _ {T S : Type 0} {store : StoreMembers T} (disk : S → Disk) where
     grows = grows_more few more within (broker_of a) (broker_of b) p.grows;
     any_moment = weaken _ _ (disk a.shelf) (disk b.shelf) p.any_moment (λ files is. (is.0, gains_more few more within (broker_of a) is.0 is.1, is.2));
     stages = p.stages;
+    known = p.known;
     faults = p.faults;
   }
 
@@ -133,23 +134,25 @@ module _ {T S : Type 0} {store : StoreMembers T} (disk : S → Disk) where
     };
     any_moment = weaken _ _ (disk a.shelf) (disk b.shelf) p.any_moment (λ files is. (broker_of a, gains_none names (broker_of a), is));
     stages = λ number. ap (λ (ss : List Stage). stage_in ss number) p.stages;
+    known = λ number low. ap (λ (ks : List ℕ). known_in ks number) p.known;
     faults = p.faults;
   }
 
   pub passes_works : (names : List (List ℕ)) (a b : Topics T S store) → Passes disk a b → Works disk names a b
   passes_works names a b passes = (passes.0, λ standing. passed_worked names a b (passes.1 standing))
 
-  worked_both : (names : List (List ℕ)) (a b c : Topics T S store) → Worked disk names a b → Worked disk names b c → Worked disk names a c
-  worked_both names a b c p q = record {
+  worked_both : (names : List (List ℕ)) (a b c : Topics T S store) → length a.held.items ≤ length b.held.items → Worked disk names a b → Worked disk names b c → Worked disk names a c
+  worked_both names a b c longer p q = record {
     standing = q.standing;
     grows = grow_both names (broker_of a) (broker_of b) (broker_of c) p.grows q.grows;
     any_moment = joins _ _ _ (disk a.shelf) (disk b.shelf) (disk c.shelf) p.any_moment q.any_moment (λ files is. is) (λ files is. regained store.stands names (broker_of a) (broker_of b) files (formed_of a) p.grows is);
     stages = λ number. q.stages number ∙ p.stages number;
+    known = λ number low. q.known number (omega (arith, low, longer)) ∙ p.known number low;
     faults = omega (arith, p.faults, q.faults);
   }
 
   pub works_both : (names : List (List ℕ)) (a b c : Topics T S store) → Works disk names a b → Works disk names b c → Works disk names a c
-  works_both names a b c first second = (omega (arith, first.0, second.0), λ standing. let p = first.1 standing in worked_both names a b c p (second.1 p.standing))
+  works_both names a b c first second = (omega (arith, first.0, second.0), λ standing. let p = first.1 standing in worked_both names a b c first.0 p (second.1 p.standing))
 
   pub works_more : (few more : List (List ℕ)) (a b : Topics T S store) → ((name : List ℕ) → Contains few name → Contains more name) → Works disk few a b → Works disk more a b
   works_more few more a b within works = (works.0, λ standing. worked_more few more a b within (works.1 standing))

@@ -25,7 +25,7 @@ use Rattle.session.specs.Broker.{Broker, topic_at, with_topic, fresh}
 use Rattle.node.specs.Naming.{IsFormed}
 use Rattle.node.specs.State.{Stage, Resting, MayRefuse, MayRefuseOf, stage_in, over}
 use Rattle.node.specs.Flights.{stage_of, phase_at}
-use Rattle.node.specs.Standing.{StandsForBroker, NamesLeft, view_in, phase_in, HeldStands, broker_of, stages_of, TopicsStand, Passed, Passes, Refuses}
+use Rattle.node.specs.Standing.{StandsForBroker, NamesLeft, view_in, phase_in, HeldStands, known_by, known_of, broker_of, stages_of, TopicsStand, Passed, Passes, Refuses}
 use Rattle.node.specs.Lists.{get_set, map_set, get_map, at_map, at_each}
 use Rattle.node.specs.Brokers.{set_at}
 
@@ -182,6 +182,7 @@ module _ {T S : Type 0} {store : StoreMembers T} (disk : S → Disk) where
     catalog = refl;
     doubtful = refl;
     stages = refl;
+    known = refl;
     faults = omega arith;
   }
 
@@ -204,6 +205,7 @@ module _ {T S : Type 0} {store : StoreMembers T} (disk : S → Disk) where
         catalog = q.catalog ∙ p.catalog;
         doubtful = q.doubtful ∙ p.doubtful;
         stages = q.stages ∙ p.stages;
+        known = q.known ∙ p.known;
         faults = omega (arith, p.faults, q.faults);
       }
 
@@ -252,6 +254,12 @@ module _ {T S : Type 0} {store : StoreMembers T} (disk : S → Disk) where
         ap (λ l. map stage l) held ∙ map_set stage stage t.held.items number next (λ j x differ is. refl)
         ∙ ap (λ s. slice_set (map stage t.held.items) number s) (ap (λ f. stage_of f) flight ∙ sym (at_map stage t.held.items number h Resting was)) ∙ set-get_or (map stage t.held.items) number Resting
 
+    known_on : known_of new ≡ known_of t
+    known_on =
+        let known : Held T store → ℕ = λ y. known_by y in
+        ap (λ l. map known l) held ∙ map_set known known t.held.items number next (λ j x differ is. refl)
+        ∙ ap (λ k. slice_set (map known t.held.items) number k) (ap (λ s. length (store.view s).counts) stores ∙ sym (at_map known t.held.items number h 0 was)) ∙ set-get_or (map known t.held.items) number 0
+
     no_fewer : length t.held.items ≤ length new.held.items
     no_fewer = omega (arith, ap (λ (l : List (Held T store)). length l) held, length-set t.held.items number next)
 
@@ -272,6 +280,7 @@ module _ {T S : Type 0} {store : StoreMembers T} (disk : S → Disk) where
         catalog = catalog;
         doubtful = doubtful;
         stages = stages_on;
+        known = known_on;
         faults = subst (λ (s : S). (disk t.shelf).faults ≤ (disk s).faults) (sym shelf) (omega arith);
       },
     )
@@ -293,6 +302,7 @@ module _ {T S : Type 0} {store : StoreMembers T} (disk : S → Disk) where
         catalog = catalog;
         doubtful = doubtful;
         stages = stages_on;
+        known = known_on;
         faults = reads.kept.faults;
       },
     )

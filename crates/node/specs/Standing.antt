@@ -1,5 +1,5 @@
 -- How a node and its device hold the abstract node together.
-use Rattle.std.specs.Prelude.{◌≡◌, ◌⊎◌, ◌<◌, ◌≤◌, ℕ, false, Option, Some, None, List, [], ◌∷◌, ◌++◌, length, map as each, slice_get}
+use Rattle.std.specs.Prelude.{◌≡◌, ◌⊎◌, ◌<◌, ◌≤◌, ℕ, false, Option, Some, None, List, [], ◌∷◌, ◌++◌, length, map as each, slice_get, slice_index_or}
 use Rattle.std.specs.FinMap as map
 use Rattle.disk.specs.Disk.{Disk, Image, Leaves}
 use Rattle.disk.specs.Contents.{Settled}
@@ -9,9 +9,9 @@ use Rattle.managed_ledger.specs.Entries.{Ledger, whole}
 use Rattle.records.specs.Maps.{Kept}
 use Rattle.topic_stores.specs.declared.store.TopicStore.{Ghosts as StoreMembers}
 use Rattle.topic_stores.specs.Views.{StoreView}
-use Rattle.topic_stores.specs.Writing.{StandsFor}
+use Rattle.topic_stores.specs.Writing.{StandsFor, IsOneMoreAtMost}
 use Rattle.topic_core.specs.Crashes.{IsLeft}
-use Rattle.topic_core.specs.Standing.{Phase, Standing}
+use Rattle.topic_core.specs.Standing.{Phase, Lost, Standing}
 use Rattle.topic_core.specs.State.{Topic}
 use Rattle.session.specs.Broker.{Broker, topic_at}
 use Rattle.node.specs.State.{State, Stage, MayRefuse, stage_in}
@@ -39,6 +39,17 @@ pub record StandsForBroker (files_stand : ℕ → Image → Ledger → Kept → 
 abbrev pub StandsForSome : (ℕ → Image → Ledger → Kept → Type 0) → (Broker → Type 0) → Image → Type 0
 StandsForSome files_stand Is files = (broker : Broker) × Is broker × StandsForBroker files_stand broker files
 
+-- ---- the segments that stores know of
+
+-- A failure leaves a store knowing of as many segments as before, or of one more, which it had begun; from then on that stays.
+pub record StillKnows (old new : Phase) (known now : ℕ) : Type 0 where
+  pub stays : old ≡ Lost → new ≡ Lost → now ≡ known
+  pub since : new ≡ Lost → IsOneMoreAtMost known now
+
+-- of how many the store of the topic of a number knows, where these know of so many
+abbrev pub known_in : List ℕ → ℕ → ℕ
+known_in known number = slice_index_or known number 0
+
 -- ---- one topic
 
 module _ {T : Type 0} {store : StoreMembers T} where
@@ -58,6 +69,13 @@ module _ {T : Type 0} {store : StoreMembers T} where
   abbrev pub HeldStands : Held T store → Disk → Type 0
   HeldStands h disk = Standing store.stands (phase_in h) h.core (view_in h) disk
 
+  -- how many segments the store knows of
+  abbrev pub known_by : Held T store → ℕ
+  known_by h = length (view_in h).counts
+
+  abbrev pub HeldKnows : Held T store → Held T store → Type 0
+  HeldKnows old new = StillKnows (phase_in old) (phase_in new) (known_by old) (known_by new)
+
 -- ---- all of them
 
 module _ {T S : Type 0} {store : StoreMembers T} where
@@ -73,6 +91,18 @@ module _ {T S : Type 0} {store : StoreMembers T} where
   -- how far the flushes are that come in parts, by the numbers of their topics
   abbrev pub stages_of : Topics T S store → List Stage
   stages_of t = each (λ h. stage_of h.flight) t.held.items
+
+  -- of how many segments the stores know, by the numbers of their topics
+  abbrev pub known_of : Topics T S store → List ℕ
+  known_of t = each (λ h. known_by h) t.held.items
+
+  -- how far the store of the topic of a number is
+  abbrev pub phase_of_topic : Topics T S store → ℕ → Phase
+  phase_of_topic t number = phase_at (topic_at (broker_of t) number).failed (stage_in (stages_of t) number)
+
+  -- what the stores know goes on
+  pub record StillKnow (old new : Topics T S store) : Type 0 where
+    pub each : (number : ℕ) → number < length old.held.items → StillKnows (phase_of_topic old number) (phase_of_topic new number) (known_in (known_of old) number) (known_in (known_of new) number)
 
   module _ (disk : S → Disk) where
     -- The device is honest, and holds each topic; whatever a crash leaves stands for their names, or one more that is in doubt.
@@ -92,6 +122,7 @@ module _ {T S : Type 0} {store : StoreMembers T} where
       pub catalog : new.catalog ≡ old.catalog
       pub doubtful : new.doubtful ≡ old.doubtful
       pub stages : stages_of new ≡ stages_of old
+      pub known : known_of new ≡ known_of old
       pub faults : (disk old.shelf).faults ≤ (disk new.shelf).faults
 
     -- A call of a port that may make topics of these names, or of the one in doubt: of the others, what a crash leaves it left before; what
@@ -101,6 +132,7 @@ module _ {T S : Type 0} {store : StoreMembers T} where
       pub grows : Grows names (broker_of old) (broker_of new)
       pub any_moment : Leaves (StandsForSome store.stands (λ broker. Gains names (broker_of old) broker)) (disk old.shelf) (disk new.shelf)
       pub stages : (number : ℕ) → stage_in (stages_of new) number ≡ stage_in (stages_of old) number
+      pub known : (number : ℕ) → number < length old.held.items → known_in (known_of new) number ≡ known_in (known_of old) number
       pub faults : (disk old.shelf).faults ≤ (disk new.shelf).faults
 
     abbrev pub Works : List (List ℕ) → Topics T S store → Topics T S store → Type 0

@@ -2,7 +2,7 @@ ghost use Rattle.std.specs.Prelude.{◌≡◌, ◌<◌, ◌≤◌, [], length, I
 ghost use Rattle.disk.specs.Disk.{Leaves};
 ghost use Rattle.session.specs.Broker.{topic_at};
 ghost use Rattle.node.specs.State.{is_full, place_in, place_of, verdict_of, verdict_of_pump, settled};
-ghost use Rattle.node.specs.Standing.{state_of, disk_of, broker_of, Stands, StandsForSome, Passes, Works};
+ghost use Rattle.node.specs.Standing.{state_of, disk_of, broker_of, StillKnow, Stands, StandsForSome, Passes, Works};
 ghost use Rattle.node.specs.Steps.{OpenStep, BytesStep, PumpStep, CloseStep, WorkStep, BrokerStep, SearchesBy, Amid};
 ghost use Rattle.node.specs.Opening.{TellsOn, TellsIn};
 ghost use Rattle.node.specs.Runs.{Ran, Reached};
@@ -155,6 +155,7 @@ impl<T: TopicStore, S: Shelf> Node<T, S> {
     fn on_topic(&mut self, topic: u64, event: TopicEvent) -> Output
         ensures step { Stands S.disk self.old →
             WorkStep event (place_in (state_of S.disk self.old).broker.topics topic) (state_of S.disk self.old) result (state_of S.disk self.new) }
+        ensures known { StillKnow self.old.topics self.new.topics }
         ensures stands { Stands S.disk self.old → Stands S.disk self.new }
         ensures tells { TellsOn T.stands T.faulty event topic (topic_at (broker_of self.old.topics) topic) (topic_at (broker_of self.new.topics) topic) (disk_of S.disk self.old) (disk_of S.disk self.new) result.result }
         ensures any_moment { Stands S.disk self.old →
@@ -174,6 +175,8 @@ impl<T: TopicStore, S: Shelf> Node<T, S> {
         ensures step { Stands S.disk self.old →
             BrokerStep (state_of S.disk self.old) event result (state_of S.disk self.new) }
         ensures stands { Stands S.disk self.old → Stands S.disk self.new }
+        // Behind a failure of the device its store knows of as many segments as before, or of one more, until it is opened again.
+        ensures known { Stands S.disk self.old → StillKnow self.old.topics self.new.topics }
         // Whatever the device holds, this is what the opening of a topic tells.
         ensures tells { TellsIn T.stands T.faulty event (broker_of self.old.topics) (broker_of self.new.topics) (disk_of S.disk self.old) (disk_of S.disk self.new) result.result }
         ensures any_moment { Stands S.disk self.old →

@@ -12,7 +12,7 @@ ghost use Rattle.node.specs.Flights.{stage_of};
 ghost use Rattle.node.specs.Numbers.{StaysNumbered};
 ghost use Rattle.node.specs.Parts.{TakesPart, FinishesPart};
 ghost use Rattle.node.specs.State.{Taken, Written, verdict_for, verdict_of_flush};
-ghost use Rattle.node.specs.Standing.{HeldStands, spot_of};
+ghost use Rattle.node.specs.Standing.{HeldStands, HeldKnows, spot_of};
 ghost use Rattle.node.specs.Steps.{HeldStep, in_flush, amid_work};
 ghost use Rattle.node.specs.Opening.{ReopenTells, TellsOn};
 
@@ -50,6 +50,7 @@ impl<T: TopicStore> Held<T> {
         // A crash at any moment leaves what it leaves of the topic while the event goes on, and other files as they were.
         ensures within { HeldStands self.old (S.disk shelf.old) →
             (limit : ℕ) × IsTrimPoint self.old.core limit × Within (OfTopic (T.view self.old.stores).topic) (StandsFor (T.stands (T.view self.old.stores).topic) (IsLeft (amid_work event self.old.core limit))) (S.disk shelf.old) (S.disk shelf.new) }
+        ensures known { HeldKnows self.old self.new }
         ensures numbered { StaysNumbered self.old self.new }
         ensures faults { (S.disk shelf.old).faults ≤ (S.disk shelf.new).faults }
     {
@@ -87,6 +88,7 @@ impl<T: TopicStore> Held<T> {
         ensures within { HeldStands self.old (S.disk shelf.old) →
             (limit : ℕ) × IsTrimPoint self.old.core limit × Within (OfTopic (T.view self.old.stores).topic) (StandsFor (T.stands (T.view self.old.stores).topic) (IsLeft (in_flush self.old.core limit))) (S.disk shelf.old) (S.disk shelf.new) }
         ensures stage { stage_of self.new.flight ≡ stage_of self.old.flight }
+        ensures known { HeldKnows self.old self.new }
         ensures numbered { StaysNumbered self.old self.new }
         ensures cause { self.old.core.failed ≡ false → IsErrOf result Device → Failed (S.disk shelf.old) (S.disk shelf.new) }
         ensures kept { Kept (S.disk shelf.old) (S.disk shelf.new) }
@@ -116,6 +118,7 @@ impl<T: TopicStore> Held<T> {
         // A crash at any moment leaves what it leaves of the topic, and other files as they were.
         ensures within { HeldStands self.old (S.disk shelf.old) →
             Within (OfTopic (T.view self.old.stores).topic) (StandsFor (T.stands (T.view self.old.stores).topic) (IsLeft self.old.core)) (S.disk shelf.old) (S.disk shelf.new) }
+        ensures known { HeldKnows self.old self.new }
         ensures numbered { StaysNumbered self.old self.new }
         ensures cause { result ≡ Some (Err Device) → Failed (S.disk shelf.old) (S.disk shelf.new) }
         ensures kept { Kept (S.disk shelf.old) (S.disk shelf.new) }
@@ -159,6 +162,7 @@ impl<T: TopicStore> Held<T> {
         ensures within { HeldStands self.old (S.disk shelf.old) →
             Within (OfTopic (T.view self.old.stores).topic) (StandsFor (T.stands (T.view self.old.stores).topic) (IsLeft self.old.core)) (S.disk shelf.old) (S.disk shelf.new) }
         ensures stage { stage_of self.new.flight ≡ stage_of self.old.flight }
+        ensures known { HeldKnows self.old self.new }
         ensures numbered { StaysNumbered self.old self.new }
         ensures cause { IsErrOf result refusal.Device → Failed (S.disk shelf.old) (S.disk shelf.new) }
         ensures kept { Kept (S.disk shelf.old) (S.disk shelf.new) }

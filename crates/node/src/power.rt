@@ -1,5 +1,5 @@
 // A node that is driven through events and crashes.
-ghost use Rattle.std.specs.Prelude.{◌≡◌, ◌≢◌, ◌<◌, ◌≤◌, ◌++◌, ◌∷◌, List, ℕ, IfOk, OnOk, OnErr, false, length, take};
+ghost use Rattle.std.specs.Prelude.{◌≡◌, ◌≢◌, ◌<◌, ◌≤◌, ◌++◌, ◌∷◌, List, ℕ, IfOk, OnOk, OnErr, true, false, length, take};
 ghost use Rattle.disk.specs.declared.crash_shelf.CrashForm.{CrashForm};
 ghost use Rattle.disk.specs.Disk.{Same, Advances, Kept, Stays, Leaves};
 ghost use Rattle.disk.specs.Laid.{after_arm, after_crash};
@@ -7,7 +7,7 @@ ghost use Rattle.gated_log.specs.declared.refusal.Refusal.TheVariants as refusal
 ghost use Rattle.node.specs.State.{State};
 ghost use Rattle.node.specs.Standing.{AtRest, StandsForBroker, StandsForSome};
 ghost use Rattle.node.specs.Cuts.{AmidEvent, AmidHappening};
-ghost use Rattle.node.specs.Driving.{Cut, Holds, StatusOf, SegmentsTold, shelf_in, disk_in, StandsAmidst, Drove};
+ghost use Rattle.node.specs.Driving.{Cut, Holds, StatusOf, SegmentsTold, KnowsOn, segments_known, shelf_in, disk_in, StandsAmidst, Drove};
 ghost use Rattle.node.specs.Runs.{Life, OpeningStep, HappeningStep};
 ghost use Rattle.node.specs.declared.event.Happening.TheVariants as happening;
 ghost use Rattle.node.specs.declared.event.Verdict.TheVariants as verdict;
@@ -71,6 +71,9 @@ impl<T: TopicStore, S: CrashShelf + Drop> Machine<T, S> {
     pub fn event(&mut self, alloc: Global, event: Event) -> Output
         ensures step { (old : Life) → Holds S.disk self.old old →
             (new : Life) × HappeningStep old (happening.Event event) result new × Holds S.disk self.new new }
+        // Behind a failure of the device a topic's store knows of as many segments as its files had before, or of one more.
+        ensures known { (old new : Life) → Holds S.disk self.old old → Holds S.disk self.new new → old.up ≡ true →
+            KnowsOn T.laid (disk_in S.disk self.old).seen old.state new.state (segments_known self.old) (segments_known self.new) }
         ensures any_moment { (old : Life) → Holds S.disk self.old old →
             Leaves (StandsForSome T.stands (λ broker. AmidEvent old.up old.state event broker)) (disk_in S.disk self.old) (disk_in S.disk self.new) }
     {
@@ -86,6 +89,7 @@ impl<T: TopicStore, S: CrashShelf + Drop> Machine<T, S> {
         ensures refused { OnErr result (S.laid (shelf_in self.new) ≡ S.laid (shelf_in self.old)) }
         ensures same { (form : CrashForm) (after : S) → S.left_as form (shelf_in self.new) after → S.left_as form (shelf_in self.old) after }
         ensures stays { Stays (disk_in S.disk self.old) (disk_in S.disk self.new) }
+        ensures known { segments_known self.new ≡ segments_known self.old }
         ensures holds { (life : Life) → Holds S.disk self.old life → Holds S.disk self.new life }
     {
         match self {

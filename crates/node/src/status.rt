@@ -22,7 +22,8 @@ pub struct TopicStatus {
     pub entries: u64,
     /// The position of the first one that is still there.
     pub base: u64,
-    /// How many segment files the entries from there on are in, as the store remembers them.
+    /// How many segment files the entries from there on are in; where the store met a failure of the device, how many it last knew to be
+    /// whole.
     pub segments: u64,
     /// In the order of the names' bytes.
     pub subscriptions: Vec<SubscriptionStatus>,

@@ -115,16 +115,16 @@ is_err_so (Err e) is h = h
 module _ (old : Moment) (before device : MemShelf) (is : old.device ≡ before) (files : (form : CrashForm) (after : MemShelf) → LeftAs form device after → LeftAs form before after) where
   -- the moment with this device
   abbrev pub with_device : Moment
-  with_device = record { life = old.life; device = device }
+  with_device = record { life = old.life; device = device; known = old.known }
 
   files_before : (form : CrashForm) (after : MemShelf) → LeftAs form device after → LeftAs form old.device after
   files_before form after left = subst (λ (d : MemShelf). LeftAs form d after) (sym is) (files form after left)
 
   pub lays : (fuse : Fuse) → laid device ≡ after_arm fuse (laid before) → Armed (after_arm fuse (laid old.device)) old with_device
-  lays fuse now = record { life = refl; files = files_before; laid = now ∙ ap (λ (d : MemShelf). after_arm fuse (laid d)) (sym is) }
+  lays fuse now = record { life = refl; known = refl; files = files_before; laid = now ∙ ap (λ (d : MemShelf). after_arm fuse (laid d)) (sym is) }
 
   pub lays_none : laid device ≡ laid before → Armed (laid old.device) old with_device
-  lays_none now = record { life = refl; files = files_before; laid = now ∙ ap (λ (d : MemShelf). laid d) (sym is) }
+  lays_none now = record { life = refl; known = refl; files = files_before; laid = now ∙ ap (λ (d : MemShelf). laid d) (sym is) }
 
 -- the lines that were worked, the next one and the others are the whole
 pub next_of_whole : (yielded rest after lines : List Line) (line : Line) → yielded ++ rest ≡ lines → rest ≡ line ∷ after → (yielded ++ line ∷ []) ++ after ≡ lines

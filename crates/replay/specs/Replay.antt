@@ -12,12 +12,9 @@ use Rattle.disk_mem.specs.Device.{disk_of, laid, LeftAs}
 use Rattle.managed_ledger.specs.Laid.{IsLaidOut}
 use Rattle.cursor_store.specs.Cursors.{StandsFor as SubscriptionsStand}
 use Rattle.topic_stores.specs.Views.{lay}
-use Rattle.topic_core.specs.Standing.{Phase}
-use Rattle.session.specs.Broker.{topic_at}
-use Rattle.node.specs.State.{State, fresh_broker, stage_at}
-use Rattle.node.specs.Flights.{phase_at}
+use Rattle.node.specs.State.{State, fresh_broker}
 use Rattle.node.specs.Runs.{Life, OpeningStep, HappeningStep}
-use Rattle.node.specs.Driving.{Cut, StatusIn, TellsSegments}
+use Rattle.node.specs.Driving.{Cut, StatusIn, TellsSegments, KnowsOn, phase_of}
 use Rattle.node.specs.declared.status.TopicStatus.{TopicStatus}
 use Rattle.node.specs.declared.event.Output.{Output}
 use Rattle.node.specs.declared.event.Event.{Event}
@@ -39,20 +36,27 @@ use Rattle.replay.specs.declared.fault.ProgramFault.TheVariants.{Device, NoMemor
 abbrev pub printed_output : ℕ → Output → List ℕ
 printed_output number output = output_line number output.bytes (outcome_of output.result)
 
--- the machine of a replay at one moment: what it lived through to, and its device
+-- the machine of a replay at one moment: what it lived through to, its device, and of how many segments the store of each topic knows
 pub record Moment : Type 0 where
   pub life : Life
   pub device : MemShelf
+  pub known : ℕ → ℕ
 
--- an event of the node, and its output is printed
+-- the segments of a topic, from where its slots say that its ledger begins on, have so many entries each, by the files alone
+abbrev pub segments_laid : ℕ → Image → List ℕ → Type 0
+segments_laid = lay IsLaidOut SubscriptionsStand
+
+-- An event of the node, and its output is printed. What the stores know of their segments goes on.
 pub record Happens (number : ℕ) (old : Moment) (event : Event) (text : List ℕ) (new : Moment) : Type 0 where
   pub output : Output
   pub step : HappeningStep old.life (happening.Event event) output new.life
+  pub known : old.life.up ≡ true → KnowsOn segments_laid (disk_of old.device).seen old.life.state new.life.state old.known new.known
   pub printed : text ≡ printed_output number output
 
 -- these fuses are laid now, and nothing else has changed: not the life, and not what a crash makes of the files
 pub record Armed (fuses : Laid) (old new : Moment) : Type 0 where
   pub life : new.life ≡ old.life
+  pub known : new.known ≡ old.known
   pub files : (form : CrashForm) (after : MemShelf) → LeftAs form new.device after → LeftAs form old.device after
   pub laid : laid new.device ≡ fuses
 
@@ -75,32 +79,24 @@ Cuts number old form text new =
     ((ordered : Moment) × Armed (after_arm (fuse.CrashAs form) (laid old.device)) old ordered × Restarts number ordered text new)
     ⊎ (Armed (laid old.device) old new × (text ≡ output_line number [] (Refused refusal.NoMemory)))
 
--- how far the store of a topic is, beside the topic
-abbrev pub phase_of : State → ℕ → Phase
-phase_of state number = phase_at (topic_at state.broker number).failed (stage_at state number)
-
--- the segments of a topic, from where its slots say that its ledger begins on, have so many entries each, by the files alone
-abbrev pub segments_laid : ℕ → Image → List ℕ → Type 0
-segments_laid = lay IsLaidOut SubscriptionsStand
-
--- a topic is told with as many segment files as it has from there on, but where its store met a failure of the device
-abbrev pub IsCounted : State → Image → ℕ → TopicStatus → Type 0
-IsCounted state files number status = TellsSegments segments_laid number (phase_of state number) files status.segments
+-- a topic is told with as many segment files as it has from there on; where its store met a failure of the device, with as many as it knows of
+abbrev pub IsCounted : State → Image → (ℕ → ℕ) → ℕ → TopicStatus → Type 0
+IsCounted state files known number status = TellsSegments segments_laid number (phase_of state number) files (known number) status.segments
 
 -- what is told of the topics: one status for each, in the order of their numbers
-pub record AreTold (state : State) (files : Image) (told : List TopicStatus) : Type 0 where
+pub record AreTold (state : State) (files : Image) (known : ℕ → ℕ) (told : List TopicStatus) : Type 0 where
   pub all : length told ≡ length state.broker.topics
   pub each : (number : ℕ) (status : TopicStatus) → slice_get told number ≡ Some status → StatusIn (Some number) state (Some status)
-  pub segments : (number : ℕ) (status : TopicStatus) → slice_get told number ≡ Some status → IsCounted state files number status
+  pub segments : (number : ℕ) (status : TopicStatus) → slice_get told number ≡ Some status → IsCounted state files known number status
 
 -- the status lines of each topic, one after another; a node that is down has none
-abbrev pub StatusOf : Bool → State → Image → List ℕ → Type 0
-StatusOf true state files text = (told : List TopicStatus) × AreTold state files told × (text ≡ flat_map lines_of told)
-StatusOf false state files text = text ≡ []
+abbrev pub StatusOf : Bool → State → Image → (ℕ → ℕ) → List ℕ → Type 0
+StatusOf true state files known text = (told : List TopicStatus) × AreTold state files known told × (text ≡ flat_map lines_of told)
+StatusOf false state files known text = text ≡ []
 
 pub record Tells (old : Moment) (text : List ℕ) (new : Moment) : Type 0 where
   pub same : new ≡ old
-  pub printed : StatusOf old.life.up old.life.state (disk_of old.device).seen text
+  pub printed : StatusOf old.life.up old.life.state (disk_of old.device).seen old.known text
 
 abbrev pub TaskStep : ℕ → Moment → Task → List ℕ → Moment → Type 0
 TaskStep number old (task.Event event) text new = Happens number old event text new

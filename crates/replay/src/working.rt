@@ -1,7 +1,7 @@
 // A replay under way: the machine that it works the lines of a script on.
 ghost use Rattle.std.specs.Prelude.{◌≡◌, ◌⊎◌, ◌+◌, ◌<◌, ◌≤◌, ◌^◌, [], IfOk};
 ghost use Rattle.catalog.specs.Names.{IsPerLedger};
-ghost use Rattle.node.specs.Driving.{shelf_in, Holds};
+ghost use Rattle.node.specs.Driving.{shelf_in, segments_known, Holds};
 ghost use Rattle.node.specs.Runs.{Life};
 ghost use Rattle.script.specs.Output.{output_line as line_of_output};
 ghost use Rattle.replay.specs.declared.event.Task.TheVariants as task;
@@ -41,7 +41,7 @@ trait Living {
 }
 
 impl Living for Replay {
-    ghost lives = { λ replay moment. (moment.device ≡ shelf_in replay.machine) × Holds (⟦<MemShelf as Shelf>⟧.disk) replay.machine moment.life };
+    ghost lives = { λ replay moment. (moment.device ≡ shelf_in replay.machine) × Holds (⟦<MemShelf as Shelf>⟧.disk) replay.machine moment.life × (moment.known ≡ segments_known replay.machine) };
 }
 
 impl Replay {
@@ -148,7 +148,7 @@ impl Replay {
 
     // The lines of all topics, in the order of their numbers; none where the node is down. An error is want of memory.
     fn topics_text(&self) -> Result<Vec<u8>, AllocError>
-        ensures { (life : Life) → Holds (⟦<MemShelf as Shelf>⟧.disk) self.now.machine life → IfOk result (λ text. StatusOf life.up life.state (⟦<MemShelf as Shelf>⟧.disk (shelf_in self.now.machine)).seen text.items) }
+        ensures { (life : Life) → Holds (⟦<MemShelf as Shelf>⟧.disk) self.now.machine life → IfOk result (λ text. StatusOf life.up life.state (⟦<MemShelf as Shelf>⟧.disk (shelf_in self.now.machine)).seen (segments_known self.now.machine) text.items) }
     {
         let mut text = Vec::new(self.alloc);
         let mut topic = 0;

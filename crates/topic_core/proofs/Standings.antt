@@ -12,6 +12,7 @@ use Rattle.topic_stores.specs.declared.error.WriteError.TheVariants.{Device, NoM
 use Rattle.topic_stores.specs.Views.{StoreView, Settled, AreLaws}
 use Rattle.topic_stores.specs.Writing as stores
 use Rattle.topic_stores.specs.Writing.{StandsFor}
+use Rattle.topic_stores.proofs.Sizes.{still_known}
 use Rattle.managed_ledger.specs.Entries.{Entries, Ledger, end_of, lengthened, trimmed}
 use Rattle.managed_ledger.specs.Trims.{end_lengthened, lengthened_none}
 use Rattle.records.specs.Floors.{HaveBelow, StartFrom}
@@ -26,7 +27,7 @@ use Rattle.topic_core.specs.Messages.{marks_of}
 use Rattle.topic_core.proofs.Slotted.{marks_none}
 use Rattle.topic_core.specs.State.{Topic, floor, floor_of, entries_of, changes_of, entries_in_doubt, changes_in_doubt}
 use Rattle.topic_core.specs.Soundness.{IsSound, HasFloor, IsAcknowledged, IsSoundTopic}
-use Rattle.topic_core.specs.Flush.{IsTrimPoint, IsFlush, has_no_flush, handed_on, finished, taken_back, failed, flushed, FinishStep, FlushStep, FlushIn}
+use Rattle.topic_core.specs.Flush.{IsTrimPoint, IsFlush, has_no_flush, handed_on, finished, taken_back, failed, flushed, TakeStep, FinishStep, FlushStep, FlushIn}
 use Rattle.topic_core.specs.Crashes.{IsLeft, reopened, longer, changed}
 use Rattle.topic_core.specs.Laws.{FlushesKeep, TopicsGoOn}
 use Rattle.subscriptions.specs.State.{Subscriptions}
@@ -320,6 +321,20 @@ module _ (t : Topic) (sound : IsSound t) (works : t.failed ≡ false) (some : ha
   flush_unchanged (Ok base) result t2 f r = absurd (cc)
   flush_unchanged (Err NoMemory) result t2 f r = (refl, f.1 ∙ taken_back-handed_on t limit sound (begun t some))
   flush_unchanged (Err Device) result t2 f r = absurd (cc)
+
+-- ---- the segments that the store knows of
+
+-- behind a flush that failed a topic, as many as before, or one more
+pub known_behind : (on : Topic) (v w : StoreView) (batch : Batch) (written result : Result ℕ WriteError) (t2 : Topic) → on.failed ≡ false → FinishStep on written result t2 → stores.Remembers v batch written w → t2.failed ≡ true
+    → stores.IsOneMoreAtMost (length v.counts) (length w.counts)
+known_behind on v w batch (Ok base) result t2 works f x fails = absurd (true≢false (sym fails ∙ ap (λ (k : Topic). k.failed) f.1 ∙ works))
+known_behind on v w batch (Err NoMemory) result t2 works f x fails = absurd (true≢false (sym fails ∙ ap (λ (k : Topic). k.failed) f.1 ∙ works))
+known_behind on v w batch (Err Device) result t2 works f x fails = still_known v.per_ledger (length batch.entries.items) v.counts w.counts x.counts
+
+-- one that takes no batch fails no topic
+pub untaken_works : (t : Topic) (why : WriteError) (new : Topic) → TakeStep t (Err why) new → t.failed ≡ false → new.failed ≡ true → ⊥
+untaken_works t Device new step works fails = true≢false (sym step.0 ∙ works)
+untaken_works t NoMemory new step works fails = true≢false (sym fails ∙ ap (λ (k : Topic). k.failed) step.2 ∙ works)
 
 -- ---- an opening
 

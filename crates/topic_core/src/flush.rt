@@ -3,7 +3,7 @@ ghost use Rattle.disk.specs.Disk.{Kept, Failed};
 ghost use Rattle.disk.specs.Areas.{OfTopic, Within};
 ghost use Rattle.records.specs.Records.{after_all};
 ghost use Rattle.topic_stores.specs.declared.error.WriteError.TheVariants.{Device, NoMemory};
-ghost use Rattle.topic_stores.specs.Writing.{StandsFor};
+ghost use Rattle.topic_stores.specs.Writing.{IsOneMoreAtMost, StandsFor};
 ghost use Rattle.topic_core.specs.State.{CountsStay, floor, entries_of, changes_of, entries_in_doubt, changes_in_doubt};
 ghost use Rattle.topic_core.specs.Crashes.{IsLeft};
 ghost use Rattle.topic_core.specs.Flush.{IsTrimPoint, handed_on, TakeStep, FinishStep, FlushStep, awaits, has_no_flush, is_idle, finished, taken_back, failed};
@@ -40,6 +40,8 @@ impl<G: Gauge> TopicCore<G> {
         ensures topic { (T.view stores.new).topic ≡ (T.view stores.old).topic }
         ensures per_ledger { self.new.per_ledger ≡ self.old.per_ledger }
         ensures counts { CountsStay self.old self.new }
+        // Where it fails the topic, the store knows of as many segments as before, or of one more, which it had begun.
+        ensures known { self.old.failed ≡ false → self.new.failed ≡ true → IsOneMoreAtMost (length (T.view stores.old).counts) (length (T.view stores.new).counts) }
         ensures idle { has_no_flush self.old ≡ true → (shelf.new ≡ shelf.old) × (stores.new ≡ stores.old) }
         ensures refused { self.old.failed ≡ true → (shelf.new ≡ shelf.old) × (stores.new ≡ stores.old) × (self.new ≡ self.old) }
         ensures no_memory { IsErrOf result NoMemory → (shelf.new ≡ shelf.old) × (self.new ≡ self.old) }

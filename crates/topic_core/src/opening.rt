@@ -104,6 +104,7 @@ impl<G: Gauge> TopicCore<G> {
         ensures per_ledger { self.new.per_ledger ≡ self.old.per_ledger }
         ensures counts { CountsStay self.old self.new }
         ensures works { self.old.failed ≡ false → self.new ≡ self.old }
+        ensures stores { self.old.failed ≡ false → stores.new ≡ stores.old }
         // Whatever the device does, the entries of a topic that was opened again are as many as the store remembers.
         ensures again { self.old.failed ≡ true → OnOk result (self.new ≡ reopened self.old self.new.ledger (marks_of self.new.ledger) self.new.kept) }
         ensures as_many { self.old.failed ≡ true → OnOk result (self.new.committed ≡ (T.view stores.new).count) }

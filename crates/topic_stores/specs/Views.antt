@@ -14,7 +14,7 @@ pub record StoreView : Type 1 where
   pub topic : ℕ  -- the number of the topic
   pub base : ℕ  -- the position of the first entry that is there, as it remembers it
   pub count : ℕ  -- how many entries came in all, as it remembers it
-  pub counts : List ℕ  -- how many entries each segment has that is there, the oldest first
+  pub counts : List ℕ  -- how many entries each segment has that is there, the oldest first; after a failure of those that were last known to be whole
   pub per_ledger : ℕ  -- how many make a segment full
   pub kept : Kept  -- the subscriptions that it remembers; also after a failure the old ones
   pub failed : Bool  -- a write failed: it refuses until it is opened again

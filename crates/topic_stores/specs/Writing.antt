@@ -1,8 +1,9 @@
 -- A write of a batch.
-use Rattle.std.specs.Prelude.{◌≡◌, ◌⊎◌, ◌+◌, ◌≤◌, ◌^◌, max, true, false, Result, Ok, Err, ℕ, List, length, drop}
+use Rattle.std.specs.Prelude.{◌≡◌, ◌⊎◌, ◌+◌, ◌≤◌, ◌^◌, max, true, false, Result, Ok, Err, ℕ, zero, suc, List, length, drop}
 use Rattle.disk.specs.Disk.{Image}
 use Rattle.managed_ledger.specs.Entries.{Entries, Ledger, lengthened, trimmed}
 use Rattle.managed_ledger.specs.Points.{counts_with}
+use Rattle.managed_ledger.specs.Shape.{counts_after, AreLastWhole}
 use Rattle.records.specs.Floors.{HaveBelow, StartFrom}
 use Rattle.records.specs.declared.record.Record.{Record}
 use Rattle.records.specs.Maps.{Kept}
@@ -64,10 +65,22 @@ pub record IsAsBefore (old new : StoreView) : Type 0 where
   pub kept : new.kept ≡ old.kept
   pub failed : new.failed ≡ old.failed
 
+-- The segments that are known to be whole, where the device failed in writing so many entries or what comes behind them: the old ones, or,
+-- where there are entries, those with a new one begun, or those that have the entries too.
+abbrev pub AreKnownWhole : ℕ → ℕ → List ℕ → List ℕ → Type 0
+AreKnownWhole n zero old new = new ≡ old
+AreKnownWhole n (suc more) old new = AreLastWhole n old new ⊎ (new ≡ counts_after n (suc more) old)
+
+-- it is the same number, or the next one
+abbrev pub IsOneMoreAtMost : ℕ → ℕ → Type 0
+IsOneMoreAtMost known now = (now ≡ known) ⊎ (now ≡ suc known)
+
 -- it is failed, with the old entries or the batch's behind them, and with the old subscriptions or what the changes make of them
 pub record IsFailed (old : StoreView) (batch : Batch) (new : StoreView) : Type 0 where
   pub failed : new.failed ≡ true
   pub count : (new.count ≡ old.count) ⊎ (new.count ≡ old.count + length batch.entries.items)
+  pub counts : AreKnownWhole old.per_ledger (length batch.entries.items) old.counts new.counts
+  pub counts_stay : old.failed ≡ true → new.counts ≡ old.counts
   pub per_ledger : new.per_ledger ≡ old.per_ledger
   pub kept : (new.kept ≡ old.kept) ⊎ (new.kept ≡ after_all batch.changes.items old.kept)
 

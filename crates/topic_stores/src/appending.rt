@@ -11,6 +11,7 @@ ghost use Rattle.records.specs.declared.record.Record.{Record};
 ghost use Rattle.records.specs.Maps.{Kept};
 ghost use Rattle.records.specs.Records.{AreFormed, after_all};
 ghost use Rattle.topic_stores.specs.Appends.{PreparedFor};
+ghost use Rattle.topic_stores.specs.Writing.{AreKnownWhole};
 
 use bytes::Bytes;
 use cursor_store::SubStore;
@@ -89,6 +90,7 @@ pub(crate) fn append_entries<E: EntryStore, S: Shelf>(
 
     ensures counts { (batch : Entries) → PreparedFor E.is_for prepared batch → OnOk result (total (E.counts store.new) ≡ total (E.counts store.old) + length batch) }
     ensures segments { (batch : Entries) → PreparedFor E.is_for prepared batch → IfSome prepared (λ p. 0 < length batch) → OnOk result (E.counts store.new ≡ counts_with (E.per_ledger store.old) (length batch) (E.counts store.old)) }
+    ensures known { (batch : Entries) → PreparedFor E.is_for prepared batch → IfSome prepared (λ p. 0 < length batch) → IsErr result → AreKnownWhole (E.per_ledger store.old) (length batch) (E.counts store.old) (E.counts store.new) }
     ensures per_ledger { E.per_ledger store.new ≡ E.per_ledger store.old }
     ensures total_stays { IsErr result → total (E.counts store.new) ≡ total (E.counts store.old) }
     ensures topic { E.topic_of store.new ≡ E.topic_of store.old }

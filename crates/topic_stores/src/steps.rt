@@ -12,7 +12,7 @@ ghost use Rattle.records.specs.Records.{AreFormed, after_all};
 ghost use Rattle.records.specs.Floors.{StartFrom};
 ghost use Rattle.topic_stores.specs.Appends.{PreparedFor};
 ghost use Rattle.topic_stores.specs.Views.{Settled, both, entry_view, sub_view, stand};
-ghost use Rattle.topic_stores.specs.Writing.{IsLeft, StandsFor};
+ghost use Rattle.topic_stores.specs.Writing.{AreKnownWhole, IsLeft, StandsFor};
 
 use crate::TopicStores;
 use crate::appending::{append_changes, append_entries};
@@ -57,6 +57,7 @@ impl<E: EntryStore, C: SubStore> TopicStores<E, C> {
         ensures start { E.start_of self.new.entries ≡ E.start_of self.old.entries }
         ensures said { C.start_of self.new.subscriptions ≡ C.start_of self.old.subscriptions }
         ensures counts { (batch : Entries) → PreparedFor E.is_for entries batch → IfSome entries (λ p. 0 < length batch) → OnOk result (E.counts self.new.entries ≡ counts_with (E.per_ledger self.old.entries) (length batch) (E.counts self.old.entries)) }
+        ensures known { (batch : Entries) → PreparedFor E.is_for entries batch → IfSome entries (λ p. 0 < length batch) → IsErr result → AreKnownWhole (E.per_ledger self.old.entries) (length batch) (E.counts self.old.entries) (E.counts self.new.entries) }
         ensures total { (batch : Entries) → PreparedFor E.is_for entries batch → OnOk result (total (E.counts self.new.entries) ≡ total (E.counts self.old.entries) + length batch) }
         ensures total_either { (batch : Entries) → PreparedFor E.is_for entries batch → (total (E.counts self.new.entries) ≡ total (E.counts self.old.entries)) ⊎ (total (E.counts self.new.entries) ≡ total (E.counts self.old.entries) + length batch) }
         ensures content { (records : List Record) → PreparedFor (C.is_for self.old.subscriptions) changes records → OnOk result (C.content self.new.subscriptions ≡ after_all records (C.content self.old.subscriptions)) }
@@ -91,6 +92,7 @@ impl<E: EntryStore, C: SubStore> TopicStores<E, C> {
             Within (OfTopic (E.topic_of self.old.entries)) (BeforeOrAfter (λ c l. stand E.stands C.stands (E.topic_of self.old.entries) c l kept) ledger (trimmed trim.start.base ledger)) (S.disk shelf.old) (S.disk shelf.new) }
 
         ensures said { (kept : Kept) → C.trims trim.slots (C.start_of self.old.subscriptions) kept trim.start → OnOk result ((C.start_of self.new.subscriptions).base ≡ trim.start.base) }
+        ensures counts_stay { IsErr result → E.counts self.new.entries ≡ E.counts self.old.entries }
         ensures counts { OnOk result (E.counts self.new.entries ≡ drop (trim.start.first - (E.start_of self.old.entries).first) (E.counts self.old.entries)) }
         ensures end_stays { (E.start_of self.new.entries).base + total (E.counts self.new.entries) ≡ (E.start_of self.old.entries).base + total (E.counts self.old.entries) }
         ensures content { C.content self.new.subscriptions ≡ C.content self.old.subscriptions }

@@ -97,7 +97,7 @@ pub trait TopicStore: Drop {
         ensures len { result ≡ (view self.now).count }
         ensures few { result ≤ 2 ^ 62 };
 
-    /// In how many segment files these are.
+    /// In how many segment files these are; after a failure how many were last known to be whole.
     fn segments(&self) -> u64
         ensures { result ≡ length (view self.now).counts };
 

@@ -1,9 +1,10 @@
-use Rattle.std.proofs.Common.{subst}
+use Rattle.std.proofs.Common.{length, ap, subst}
 use Rattle.topic_core.specs.Flush.{has_no_flush}
 use Rattle.topic_core.specs.Standing.{Match, Standing}
 use Rattle.node.specs.Standing.{phase_in}
 use Rattle.node.proofs.Steps.{flush_within}
 use Rattle.node.proofs.UnderWay.{flush_keeps}
+use Rattle.node.proofs.Knowing.{flush_knows}
 use Rattle.node.proofs.held.Held.flush.Goals as goal
 
 pub flush-requires : goal.flush-requires
@@ -35,3 +36,11 @@ returns-clause-within g c =
     let e = c.flush.ensures in
     λ s. flush_within g.S.Shelf.disk (g.T.TopicStore.stands v.topic) h.core v.topic c.args.shelf.now c.flush.new.shelf s.left h.core.failed (has_no_flush h.core)
     (λ works some. e.within (phase_in h) s works some) (λ failed. (e.refused failed).0) (λ idle. (e.idle idle).0)
+
+pub returns-clause-known : goal.returns-clause-known
+returns-clause-known g c =
+    let h = c.args.self.now in
+    let e = c.flush.ensures in
+    let view = g.T.TopicStore.view in
+    flush_knows h.core c.flush.new.self h.flight (length (view h.stores).counts) (length (view c.flush.new.stores).counts) h.under_way
+    (λ idle. ap (λ s. length (view s).counts) (e.idle idle).1) (λ failed. ap (λ s. length (view s).counts) (e.refused failed).1) e.known

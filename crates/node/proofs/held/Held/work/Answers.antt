@@ -1,10 +1,12 @@
-use Rattle.std.proofs.Common.{◌≡◌, ℕ, Some, inl, inr, refl, ap, subst, ◌∙◌}
+use Rattle.std.proofs.Common.{◌≡◌, ℕ, Some, length, inl, inr, refl, ap, subst, ◌∙◌}
 use Rattle.std.specs.Prelude.{IfSome, Result}
 use Rattle.topic_stores.specs.declared.error.WriteError.{WriteError}
 use Rattle.node.specs.Flights.{stage_of}
 use Rattle.node.specs.Parts.{FinishesPart}
 use Rattle.node.specs.State.{Taken, Written}
 use Rattle.node.proofs.Frames.{take_stands, finish_stands, held_same, same_spot}
+use Rattle.node.specs.Standing.{phase_in}
+use Rattle.node.proofs.Knowing.{knows_same}
 use Rattle.node.proofs.Steps.{untouched}
 use Rattle.node.proofs.held.Held.work.Goals as goal
 
@@ -114,3 +116,25 @@ returns-in-None-clause-within g c = λ s. rw c.in-Write.is (c.args.self.now.core
 
 pub returns-in-Reopen-clause-within : goal.returns-in-Reopen-clause-within
 returns-in-Reopen-clause-within g c = λ s. rw c.in-Reopen.is (c.args.self.now.core.ledger.base, inl refl, c.reopen-reopened.ensures.within s)
+
+-- what its store knows
+pub returns-in-Take-clause-known : goal.returns-in-Take-clause-known
+returns-in-Take-clause-known g c =
+    let h = c.args.self.now in
+    let next = c.take-taken.new.self in
+    let view = g.T.TopicStore.view in
+    knows_same (phase_in h) (phase_in next) (length (view h.stores).counts) (length (view next.stores).counts) (ap (λ s. length (view s).counts) c.take-taken.ensures.stores)
+
+pub returns-in-Some-finish-clause-known : goal.returns-in-Some-finish-clause-known
+returns-in-Some-finish-clause-known g c =
+    let h = c.args.self.now in
+    let next = c.finish.new.self in
+    let view = g.T.TopicStore.view in
+    knows_same (phase_in h) (phase_in next) (length (view h.stores).counts) (length (view next.stores).counts) (ap (λ s. length (view s).counts) c.finish.ensures.stores)
+
+pub returns-in-None-finish-clause-known : goal.returns-in-None-finish-clause-known
+returns-in-None-finish-clause-known g c =
+    let h = c.args.self.now in
+    let next = c.finish.new.self in
+    let view = g.T.TopicStore.view in
+    knows_same (phase_in h) (phase_in next) (length (view h.stores).counts) (length (view next.stores).counts) (ap (λ s. length (view s).counts) c.finish.ensures.stores)

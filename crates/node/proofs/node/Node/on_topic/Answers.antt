@@ -7,6 +7,7 @@ use Rattle.node.specs.Opening.{TellsOn}
 use Rattle.node.specs.Standing.{broker_of}
 use Rattle.node.proofs.Frames.{keep_numbers, topic_was, topic_now, of_number, of_number_within, stand_then, names_then, settled_then, work_leaves, beyond_leaves}
 use Rattle.node.proofs.Opening.{unknown_on, tells_at}
+use Rattle.node.proofs.Knowing.{work_knows, know_same}
 use Rattle.node.proofs.Working as working
 use Rattle.node.proofs.node.Node.on_topic.Goals as goal
 
@@ -100,3 +101,15 @@ returns-then-topic-count-clause-tells g c =
     let d = g.S.Shelf.disk t.shelf in
     let at = topic_at (broker_of t) c.args.topic in
     rw c.only.ensures (unknown_on g.T.TopicStore.stands g.T.TopicStore.faulty c.args.event c.args.topic at at d d)
+
+pub returns-clause-known : goal.returns-clause-known
+returns-clause-known g c =
+    let t = c.args.self.now.topics in
+    let k = c.args.topic in
+    let low : k < length t.held.items = omega (arith, c.if-topic-count.false, c.count.ensures) in
+    let h = c.index_mut.result.now in
+    let was = slice_get_read t.held.items (length t.held.items) k h refl low c.index_mut.ensures.value in
+    work_knows t _ k h c.work-verdict.new.self was refl c.work-verdict.ensures.known
+
+pub returns-then-topic-count-clause-known : goal.returns-then-topic-count-clause-known
+returns-then-topic-count-clause-known g c = know_same c.args.self.now.topics c.args.self.now.topics (λ number low. refl)

@@ -1,11 +1,13 @@
-use Rattle.std.proofs.Common.{refl, sym, subst, true}
+use Rattle.std.proofs.Common.{refl, sym, subst, true, ◌∙◌}
+use Rattle.std.proofs.lemmas.Bool.{true≢false}
 use Rattle.disk.specs.Disk.{Leaves}
 use Rattle.node.specs.Standing.{state_of, StandsForSome}
 use Rattle.node.specs.Cuts.{AmidEvent}
-use Rattle.node.specs.Driving.{Holds, disk_in}
+use Rattle.node.specs.Driving.{Holds, KnowsOn, segments_known, disk_in}
 use Rattle.node.specs.Runs.{Life, EventIn}
 use Rattle.node.specs.declared.power.Machine.TheVariants as machine
-use Rattle.node.proofs.Restarts.{down_leaves_so}
+use Rattle.node.proofs.Knowing.{up_knows}
+use Rattle.node.proofs.Restarts.{is_down, down_leaves_so}
 use Rattle.node.proofs.power.Machine.event.Goals as goal
 
 pub returns-in-Up-clause-step : goal.returns-in-Up-clause-step
@@ -29,3 +31,15 @@ returns-in-Up-clause-any_moment g c = λ old holds.
 
 pub returns-in-Down-clause-any_moment : goal.returns-in-Down-clause-any_moment
 returns-in-Down-clause-any_moment g c = λ old holds. down_leaves_so g.S.Shelf.disk c.args.self.now c.in-Down.field-0 old c.args.event c.in-Down.is holds
+
+pub returns-in-Up-clause-known : goal.returns-in-Up-clause-known
+returns-in-Up-clause-known g c = λ old new holds now up.
+    let disk = g.S.Shelf.disk in
+    let laid = g.T.TopicStore.laid in
+    let next = c.step.new.self in
+    let h : Holds disk (machine.Up c.in-Up.node) old = subst (λ m. Holds disk m old) c.in-Up.is holds in
+    subst (λ m. KnowsOn laid (disk_in disk m).seen old.state new.state (segments_known m) (segments_known (machine.Up next))) (sym c.in-Up.is)
+    (up_knows disk laid g.met.T.TopicStore.holds_laid c.in-Up.node next old new h now (c.step.ensures.known h.0))
+
+pub returns-in-Down-clause-known : goal.returns-in-Down-clause-known
+returns-in-Down-clause-known g c = λ old new holds now up. absurd (true≢false (sym up ∙ is_down g.S.Shelf.disk c.args.self.now c.in-Down.field-0 old c.in-Down.is holds))

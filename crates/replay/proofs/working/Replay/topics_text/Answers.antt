@@ -19,12 +19,12 @@ loop-text-preserved c =
           let files = (disk_of (node.shelf_in machine)).seen in
           let now : node.StatusOf life.up life.state c.loop-text.topic (Some status) = subst (λ (o : Option TopicStatus). node.StatusOf life.up life.state c.loop-text.topic o) c.in-Some.is (c.in_ok-status.ensures.status life holds) in
           let segments = subst (λ (o : Option TopicStatus). node.SegmentsTold disk_of segments_laid machine c.loop-text.topic o) c.in-Some.is (c.in_ok-status.ensures.files life holds) in
-          let counted : IsCounted life.state files c.loop-text.topic status = machine_counts disk_of segments_laid c.loop-text.topic status machine life holds now segments in
-          subst (λ (t : List ℕ). ToldSoFar life.up life.state files (c.loop-text.topic + 1) t) (sym same) (told_more life.state files c.loop-text.topic text life.up status now counted (known.told life holds));
+          let counted : IsCounted life.state files (node.segments_known machine) c.loop-text.topic status = machine_counts disk_of segments_laid c.loop-text.topic status machine life holds now segments in
+          subst (λ (t : List ℕ). ToldSoFar life.up life.state files (node.segments_known machine) (c.loop-text.topic + 1) t) (sym same) (told_more life.state files (node.segments_known machine) c.loop-text.topic text life.up status now counted (known.told life holds));
       few = let few = known.few in let some = lines_have_bytes status in let long = ap length same ∙ length-append text (lines_of status) in omega (arith, few, some, long);
     }
 
 pub returns : goal.returns
 returns c = λ life holds.
     let now = subst (λ (o : Option TopicStatus). node.StatusOf life.up life.state c.loop-text.topic o) c.in_default.is (c.in_ok-status.ensures.status life holds) in
-    told_all life.state (disk_of (node.shelf_in c.args.self.now.machine)).seen c.loop-text.topic c.loop-text.text.items life.up now (c.loop-text.invariant.told life holds)
+    told_all life.state (disk_of (node.shelf_in c.args.self.now.machine)).seen (node.segments_known c.args.self.now.machine) c.loop-text.topic c.loop-text.text.items life.up now (c.loop-text.invariant.told life holds)

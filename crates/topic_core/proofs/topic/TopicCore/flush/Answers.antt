@@ -1,5 +1,6 @@
-use Rattle.std.proofs.Common.{◌≤◌, inl, refl, Ok, length, sym, subst, arith}
+use Rattle.std.proofs.Common.{◌≤◌, inl, refl, Ok, length, sym, subst, ap, ◌∙◌, arith}
 use Rattle.std.specs.Prelude.{IfSome, IfOk}
+use Rattle.std.proofs.lemmas.Bool.{true≢false}
 use Rattle.managed_ledger.specs.Entries.{lengthened, trimmed}
 use Rattle.records.specs.Records.{after_all}
 use Rattle.topic_stores.specs.Views.{Settled}
@@ -9,7 +10,7 @@ use Rattle.topic_core.specs.Soundness.{IsSound, HasFloor}
 use Rattle.topic_core.specs.Standing.{Before, phase_then, IsFor, Match, Standing}
 use Rattle.topic_core.proofs.Floors.{handed_on_floor}
 use Rattle.topic_core.proofs.Flushing.{begun}
-use Rattle.topic_core.proofs.Standings.{begins_before, match_handed_on, standing_handed_on, batch_fits, written_match, written_standing, within_is, finish_match, finish_standing, rests, flush_step, flush_unchanged, refused_within}
+use Rattle.topic_core.proofs.Standings.{begins_before, match_handed_on, standing_handed_on, batch_fits, written_match, written_standing, within_is, finish_match, finish_standing, rests, flush_step, flush_unchanged, refused_within, known_behind, untaken_works}
 use Rattle.topic_core.proofs.topic.TopicCore.flush.Goals as goal
 
 pub write-written-requires : goal.write-written-requires
@@ -134,3 +135,25 @@ returns-in_err-batch-clause-within g c =
     let t = c.args.self.now in
     let floored = subst (λ (k : Topic). HasFloor k) c.self.view_is c.self.invariant.1.trims in
     λ phase h works some. (t.ledger.base, inl refl, refused_within g.T.TopicStore.stands phase t (g.T.TopicStore.view c.args.stores.now) (g.S.Shelf.disk c.args.shelf.now) (begun t some) floored h)
+
+pub returns-clause-known : goal.returns-clause-known
+returns-clause-known g c = λ works fails.
+    let t = c.args.self.now in
+    let v = g.T.TopicStore.view c.args.stores.now in
+    let w = g.T.TopicStore.view c.write-written.new.self in
+    let batch = c.in-Some.batch in
+    let taken = subst (λ o. TakeStep t (Ok o) c.take_batch.new.self) c.in-Some.is c.in_ok-batch.ensures.step in
+    let on = handed_on t batch.trim in
+    let written = c.write-written.result in
+    let t2 = c.finish.new.self in
+    let f = subst (λ (k : Topic). FinishStep k written c.finish.result t2) taken.2 (c.finish.ensures.step (subst (λ o. IfSome o (λ b. IsFor c.take_batch.new.self b)) c.in-Some.is c.in_ok-batch.ensures.batch).awaited) in
+    known_behind on v w batch written c.finish.result t2 taken.0 f c.write-written.ensures.remembers fails
+
+pub returns-in_default-clause-known : goal.returns-in_default-clause-known
+returns-in_default-clause-known g c = λ works fails.
+    let t = c.args.self.now in
+    let taken = subst (λ o. TakeStep t (Ok o) c.take_batch.new.self) c.in_default.is c.in_ok-batch.ensures.step in
+    absurd (true≢false (sym fails ∙ ap (λ (k : Topic). k.failed) taken.2 ∙ works))
+
+pub returns-in_err-batch-clause-known : goal.returns-in_err-batch-clause-known
+returns-in_err-batch-clause-known g c = λ works fails. absurd (untaken_works c.args.self.now c.in_err-batch.field-0.0 c.take_batch.new.self c.in_err-batch.ensures.step works fails)

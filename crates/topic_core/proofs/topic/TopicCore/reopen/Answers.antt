@@ -1,4 +1,5 @@
 use Rattle.std.proofs.Common.{◌≡◌, ◌≤◌, ◌^◌, true, false, refl, sym, ap, subst, ◌∙◌, inr, arith, Ok}
+use Rattle.std.proofs.lemmas.Bool.{true≢false}
 use Rattle.disk.specs.declared.file_id.FileId.TheVariants.{Segment}
 use Rattle.gated_log.specs.declared.refusal.Refusal.TheVariants.{Damaged}
 use Rattle.managed_ledger.specs.Entries.{end_of}
@@ -67,3 +68,6 @@ returns-clause-standing g c = λ phase h.
     let below = g.met.T.TopicStore.stands_below v1.topic d1.seen again.durable.ledger v1.kept ((g.met.T.TopicStore.laws again.stores).stands d1.seen again.durable.ledger v1.kept (c.in_ok-again.ensures.settled h.honest).settled.now) in
     let end = reopened_standing stands t t2 v1 d1 again.durable.ledger v1.kept (g.met.T.TopicStore.laws again.stores) c.restart.ensures.again c.restart.ensures.matched below (c.in_ok-again.ensures.settled h.honest) in
     rw (c.restart.ensures.stores) (subst (λ b. Standing stands (phase_then b t2.failed phase) t2 v1 d1) (sym was) (subst (λ b. Standing stands (phase_then true b phase) t2 v1 d1) (sym works) end))
+
+pub returns-clause-stores : goal.returns-clause-stores
+returns-clause-stores g c = λ works. absurd (true≢false (sym (sym (ap (λ (k : Topic). k.failed) c.self.view_is) ∙ c.if-not-self.false) ∙ works))

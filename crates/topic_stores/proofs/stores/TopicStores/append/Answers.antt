@@ -1,4 +1,4 @@
-use Rattle.std.proofs.Common.{◌≡◌, sym, subst, ◌∙◌}
+use Rattle.std.proofs.Common.{◌≡◌, length, refl, sym, subst, ◌∙◌}
 use Rattle.disk.specs.Areas.{OfTopic, Within}
 use Rattle.disk.specs.Contents.{Steady}
 use Rattle.managed_ledger.specs.Entries.{Ledger, end_of, lengthened}
@@ -8,6 +8,7 @@ use Rattle.topic_stores.specs.Views.{entry_view, sub_view, stand}
 use Rattle.topic_stores.specs.Laws.{entry_laws, sub_laws}
 use Rattle.topic_stores.specs.Writing.{IsLeft, StandsFor}
 use Rattle.topic_stores.proofs.Writing.{entries_settled, settled_both, within_entries, within_changes, subs_beside, entries_beside, both_left}
+use Rattle.topic_stores.proofs.Sizes.{known_written}
 use Rattle.topic_stores.proofs.stores.TopicStores.append.Goals as goal
 
 pub returns-in_err-append_entries-clause-within : goal.returns-in_err-append_entries-clause-within
@@ -98,3 +99,11 @@ returns-clause-written g c = λ ledger kept batch records for_e for_s formed sta
     let y2s = (c.in_ok-append_changes.ensures.appends (end_of all) s0.start kept records for_s formed starts x1s).added in
     settled_both e1 s1 d2 all (after_all records kept) (c.append_changes.ensures.topic ∙ one) (start ∙ sym c.append_changes.ensures.start) y2e
     (subst (λ (said : Start). Steady (s1.holds (end_of all) said) s1.written d2 (after_all records kept)) (sym c.append_changes.ensures.start) y2s)
+
+pub returns-in_err-append_entries-clause-known : goal.returns-in_err-append_entries-clause-known
+returns-in_err-append_entries-clause-known g c = λ batch for_e some err. c.in_err-append_entries.ensures.known batch for_e some refl
+
+pub returns-in_err-append_changes-clause-known : goal.returns-in_err-append_changes-clause-known
+returns-in_err-append_changes-clause-known g c = λ batch for_e some err.
+    let old = c.args.self.now.entries in
+    known_written (g.E.EntryStore.per_ledger old) (length batch) (g.E.EntryStore.counts old) (g.E.EntryStore.counts c.append_entries.new.store) (c.in_ok-append_entries.ensures.segments batch for_e some)

@@ -1,5 +1,7 @@
-use Rattle.std.proofs.Common.{◌≡◌, ℕ, ◌+◌, ◌-◌, ◌<◌, ◌≤◌, ◌^◌, ◌||◌, List, length, drop, refl, sym, subst, ap, ◌∙◌, arith}
+use Rattle.std.proofs.Common.{◌≡◌, inl, inr, ⊎_elim, ℕ, ◌+◌, ◌-◌, ◌<◌, ◌≤◌, ◌^◌, ◌||◌, List, length, drop, refl, sym, subst, ap, ◌∙◌, arith}
 use Rattle.std.specs.Prelude.{IfSome}
+use Rattle.std.proofs.lemmas.Bool.{true≢false}
+use Rattle.std.proofs.lemmas.Result.{err_from_is_err_and}
 use Rattle.disk.specs.Areas.{OfTopic, Within, weaken_within}
 use Rattle.managed_ledger.specs.Shape.{total}
 use Rattle.managed_ledger.specs.Points.{Begins, counts_with}
@@ -13,10 +15,11 @@ use Rattle.records.specs.declared.record.Record.{Record}
 use Rattle.topic_stores.specs.Appends.{PreparedFor}
 use Rattle.topic_stores.specs.Views.{entry_view, sub_view, stand}
 use Rattle.topic_stores.specs.Laws.{entry_laws, sub_laws}
-use Rattle.topic_stores.specs.Writing.{IsLeft, StandsFor}
+use Rattle.topic_stores.specs.Writing.{AreKnownWhole, IsLeft, StandsFor}
 use Rattle.topic_stores.proofs.Forms.{are_entries, formed_longer, formed_there}
 use Rattle.topic_stores.proofs.Writing.{StaysEntries, StaysSubs, settled_still, within_none, both_left}
 use Rattle.topic_stores.proofs.Ending.{kept_behind, none_settled, none_trimmed, some_settled, some_trimmed, either_left}
+use Rattle.topic_stores.proofs.Sizes.{known_old, known_written}
 use Rattle.topic_stores.proofs.stores.TopicStoresTopicStore.write.Goals as goal
 
 pub prepare_entries-requires-clause-readable : goal.prepare_entries-requires-clause-readable
@@ -424,6 +427,65 @@ returns-clause-remembers g c =
       kept = c.trim.ensures.content ∙ kept;
       works = λ works. c.in_ok-trim.ensures.works (c.in_ok-append.ensures.works ((λ i. c.prepare_entries.ensures.failed i || c.prepare_changes.ensures.failed i) ∙ works));
     }
+
+-- the device failed
+pub returns-in_err-check_works-clause-remembers : goal.returns-in_err-check_works-clause-remembers
+returns-in_err-check_works-clause-remembers g c =
+    let counts = g.E.EntryStore.counts c.args.self.now.entries in
+    let p = err_from_is_err_and c.from_residual.result c.from_residual.ensures.1 in
+    rw (p.1, p.2) (record {
+      failed = c.in_err-check_works.ensures.fails refl;
+      count = inl refl;
+      counts = known_old (g.E.EntryStore.per_ledger c.args.self.now.entries) (length c.args.batch.now.entries.items) counts counts refl;
+      counts_stay = λ was. refl;
+      per_ledger = refl;
+      kept = inl refl;
+    })
+
+pub returns-in_err-append-clause-remembers : goal.returns-in_err-append-clause-remembers
+returns-in_err-append-clause-remembers g c =
+    let batch = c.args.batch.now.entries.items in
+    let e0 = c.args.self.now.entries in
+    let e1 = c.prepare_entries.new.store in
+    let e2 = c.append.new.self.entries in
+    let for_e = subst (λ (l : Entries). PreparedFor g.E.EntryStore.is_for c.in_ok-entries.entries l) c.as_slice.ensures.value c.in_ok-entries.ensures.prepared in
+    let some = subst (λ (l : Entries). IfSome c.in_ok-entries.entries (λ p. 0 < length l)) c.as_slice.ensures.value c.in_ok-entries.ensures.some in
+    let start_is = ap (λ (s : Start). s.base) (c.append.ensures.start ∙ c.prepare_entries.ensures.start) in
+    let total_is = ap (λ (l : List ℕ). total l) c.prepare_entries.ensures.counts in
+    let known = c.in_err-append.ensures.known batch for_e some refl in
+    let p = err_from_is_err_and c.from_residual-in_err-append.result c.from_residual-in_err-append.ensures.1 in
+    rw (p.1, p.2) (record {
+      failed = c.in_err-append.ensures.fails refl;
+      count = ⊎_elim (λ same. inl (omega (arith, start_is, total_is, same))) (λ more. inr (omega (arith, start_is, total_is, more))) (c.append.ensures.total_either batch for_e);
+      counts =
+          subst (λ (n : ℕ). AreKnownWhole n (length batch) (g.E.EntryStore.counts e0) (g.E.EntryStore.counts e2)) c.prepare_entries.ensures.per_ledger
+          (subst (λ (l : List ℕ). AreKnownWhole (g.E.EntryStore.per_ledger e1) (length batch) l (g.E.EntryStore.counts e2)) c.prepare_entries.ensures.counts known);
+      counts_stay = λ was. absurd (true≢false (sym was ∙ c.in_ok-check_works.ensures.works));
+      per_ledger = c.append.ensures.per_ledger ∙ c.prepare_entries.ensures.per_ledger;
+      kept = inl (c.in_err-append.ensures.remembered refl ∙ c.prepare_changes.ensures.content);
+    })
+
+pub returns-in_err-trim-clause-remembers : goal.returns-in_err-trim-clause-remembers
+returns-in_err-trim-clause-remembers g c =
+    let batch = c.args.batch.now.entries.items in
+    let changes = c.args.batch.now.changes.items in
+    let e0 = c.args.self.now.entries in
+    let for_e = subst (λ (l : Entries). PreparedFor g.E.EntryStore.is_for c.in_ok-entries.entries l) c.as_slice.ensures.value c.in_ok-entries.ensures.prepared in
+    let some = subst (λ (l : Entries). IfSome c.in_ok-entries.entries (λ p. 0 < length l)) c.as_slice.ensures.value c.in_ok-entries.ensures.some in
+    let for_s = subst (λ (l : List Record). PreparedFor (g.C.SubStore.is_for c.prepare_changes.new.store) c.in_ok-changes.changes l) c.as_slice-2.ensures.value c.in_ok-changes.ensures.prepared in
+    let start_is = ap (λ (s : Start). s.base) (c.append.ensures.start ∙ c.prepare_entries.ensures.start) in
+    let total_is = ap (λ (l : List ℕ). total l) c.prepare_entries.ensures.counts in
+    let counts = c.in_ok-append.ensures.counts batch for_e some ∙ (λ i. counts_with (c.prepare_entries.ensures.per_ledger i) (length batch) (c.prepare_entries.ensures.counts i)) in
+    let kept = c.in_ok-append.ensures.content changes for_s ∙ ap (λ (k : Kept). after_all changes k) c.prepare_changes.ensures.content in
+    let p = err_from_is_err_and c.from_residual-in_err-trim.result c.from_residual-in_err-trim.ensures.1 in
+    rw (p.1, p.2) (record {
+      failed = c.in_err-trim.ensures.fails refl;
+      count = inr (omega (arith, start_is, total_is, c.in_ok-append.ensures.total batch for_e, c.trim.ensures.end_stays));
+      counts = known_written (g.E.EntryStore.per_ledger e0) (length batch) (g.E.EntryStore.counts e0) (g.E.EntryStore.counts c.trim.new.self.entries) (c.in_err-trim.ensures.counts_stay refl ∙ counts);
+      counts_stay = λ was. absurd (true≢false (sym was ∙ c.in_ok-check_works.ensures.works));
+      per_ledger = c.trim.ensures.per_ledger ∙ c.append.ensures.per_ledger ∙ c.prepare_entries.ensures.per_ledger;
+      kept = inr (c.trim.ensures.content ∙ kept);
+    })
 
 pub trim-requires-clause-begins : goal.trim-requires-clause-begins
 trim-requires-clause-begins g c =
