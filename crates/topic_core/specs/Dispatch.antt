@@ -55,6 +55,15 @@ pub record IsReadOf (ledger : Ledger) (read : ReadAt) : Type 0 where
   pub entry : IfOk read.entry (λ entry. entry_at ledger read.position ≡ Some entry)
   pub refused : IfErr read.entry (λ e. (e ≡ NoMemory) ⊎ (e ≡ Device))
 
+-- what was read was of this position, and was refused so
+abbrev pub IsRefusedAt : ℕ → ReadError → Option ReadAt → Type 0
+IsRefusedAt position e None = ⊥
+IsRefusedAt position e (Some read) = (read.position ≡ position) × (read.entry ≡ Err e)
+
+-- a consumer is refused for want of memory, or since what was read was its next message and was refused so
+abbrev pub IsRefusedFor : Topic → ConsumerKey → ReadError → Option ReadAt → Type 0
+IsRefusedFor t key e read = (e ≡ NoMemory) ⊎ ((position : ℕ) × Admits t key position × IsRefusedAt position e read)
+
 -- the same by what was read before, or stands in memory: a message of an admitted position, none exactly where none is admitted, or the
 -- admitted position whose entry has to be read
 abbrev pub AtHandStep : Topic → ConsumerKey → Result AtHand ReadError → Topic → Type 0

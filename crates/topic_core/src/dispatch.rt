@@ -8,7 +8,7 @@ ghost use Rattle.managed_ledger.specs.Entries.{end_of, entry_at};
 ghost use Rattle.topic_core.specs.State.{Topic, CountsStay};
 ghost use Rattle.topic_core.specs.Steps.{key_of, learnt, HasLearnt};
 ghost use Rattle.topic_core.specs.declared.dispatch.AtHand.TheVariants.{Nothing, Unread};
-ghost use Rattle.topic_core.specs.Dispatch.{Admits, sent, DispatchStep, AtHandStep, IsMessageTo, IsAtHandFor, IsReadOf};
+ghost use Rattle.topic_core.specs.Dispatch.{Admits, sent, DispatchStep, AtHandStep, IsMessageTo, IsAtHandFor, IsReadOf, IsRefusedAt, IsRefusedFor};
 ghost use Rattle.topic_core.specs.Standing.{GoesOn, Phase, Standing};
 
 use crate::read_at::{ReadAt, read_committed};
@@ -131,6 +131,7 @@ impl<G: Gauge> TopicCore<G> {
         ensures refused { IsErr result → IsLearnt (learnt self.old who consumer_id) self.new }
         ensures exact { G.exact → IsErr result → self.new ≡ self.old }
         ensures works { IsErr result → self.old.failed ≡ false }
+        ensures cause { IfErr result (λ e. IsRefusedFor self.new (key_of who consumer_id) e read) }
     {
         let Some(position) = self.pick(who, consumer_id) else {
             return Ok(AtHand::Nothing);
@@ -146,6 +147,7 @@ impl<G: Gauge> TopicCore<G> {
     fn entry_at(&self, position: u64, read: Option<ReadAt>) -> Result<Option<Bytes>, ReadError>
         ensures entry { end_of self.now.ledger ≡ self.now.committed → IfSome read (IsReadOf self.now.ledger) → IfOk result (λ found. IfSome found (λ entry. entry_at self.now.ledger position ≡ Some entry)) }
         ensures refused { IfSome read (IsReadOf self.now.ledger) → IfErr result (λ e. (e ≡ NoMemory) ⊎ (e ≡ Device)) }
+        ensures cause { IfErr result (λ e. (e ≡ NoMemory) ⊎ IsRefusedAt position e read) }
         ensures short { IfOk result (λ found. IfSome found (λ entry. length entry ≤ 1048576)) }
         ensures unread { result ≡ Ok None → IfSome read (λ at. at.position ≢ position) }
     {

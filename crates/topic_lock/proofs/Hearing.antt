@@ -1,6 +1,6 @@
 -- What a topic has at hand is what a dispatch gives.
-use Rattle.std.proofs.Common.{◌≡◌, ℕ, Option, None, Result, Ok, Err, refl}
-use Rattle.std.specs.Prelude.{MatchResult}
+use Rattle.std.proofs.Common.{◌≡◌, ℕ, Option, None, Result, Ok, Err, refl, subst}
+use Rattle.std.specs.Prelude.{MatchResult, IfErr}
 use Rattle.gated_log.specs.declared.read_error.ReadError.{ReadError}
 use Rattle.gated_log.specs.declared.read_error.ReadError.TheVariants.{Device, Damaged, NoMemory}
 use Rattle.topic_core.specs.declared.dispatch.AtHand.{AtHand}
@@ -26,3 +26,11 @@ given t who id (Ok (at_hand.Message outgoing)) new step = step
 given t who id (Err NoMemory) new step = step
 given t who id (Err Device) new step = step
 given t who id (Err (Damaged file offset)) new step = step
+
+-- a refusal that is told is the topic's
+pub refusal_told : (r : Result AtHand ReadError) (said : Result (Option Outgoing) ReadError) (Holds : ReadError → Type 0) → next_of r ≡ Ok said → IfErr r Holds → IfErr said Holds
+refusal_told r (Ok sent) Holds is why = tt
+refusal_told (Ok at_hand.Nothing) (Err told) Holds is why = absurd (cc)
+refusal_told (Ok (at_hand.Unread position)) (Err told) Holds is why = absurd (cc)
+refusal_told (Ok (at_hand.Message outgoing)) (Err told) Holds is why = absurd (cc)
+refusal_told (Err e) (Err told) Holds is why = let same : e ≡ told = cc in subst Holds same why

@@ -1,12 +1,12 @@
 // A message for a consumer: its entry is read under the lock of the topic's stores alone, and given under the topic's.
-ghost use Rattle.std.specs.Prelude.{◌≡◌, ◌≢◌, ◌<◌, ◌≤◌, ℕ, false, None, Ok, IfSome, IsErr, IsErrOf};
+ghost use Rattle.std.specs.Prelude.{◌≡◌, ◌≢◌, ◌<◌, ◌≤◌, ℕ, false, None, Ok, IfSome, IfErr, IsErr, IsErrOf};
 ghost use Rattle.disk.specs.Disk.{Same, Leaves, Kept, Failed};
 ghost use Rattle.gated_log.specs.declared.read_error.ReadError.TheVariants.{Device};
 ghost use Rattle.subscriptions.specs.Steps.{IsLearnt, IsLooked};
 ghost use Rattle.managed_ledger.specs.Entries.{end_of};
 ghost use Rattle.topic_core.specs.State.{Topic, CountsStay, floor};
-ghost use Rattle.topic_core.specs.Steps.{learnt};
-ghost use Rattle.topic_core.specs.Dispatch.{IsReadOf};
+ghost use Rattle.topic_core.specs.Steps.{key_of, learnt};
+ghost use Rattle.topic_core.specs.Dispatch.{IsReadOf, IsRefusedFor};
 ghost use Rattle.topic_core.specs.Standing.{GoesOn, Phase, Standing};
 ghost use Rattle.session.specs.Broker.{SendsTo};
 ghost use Rattle.topic_lock.specs.declared.counted.reading.Next.TheVariants.{Unread};
@@ -69,6 +69,7 @@ impl<K: Tallies> CountedTopic<K> {
         ensures counts { CountsStay self.old.core self.new.core }
         ensures refused { IfHeard result (λ heard. IsErr heard.said → IsLearnt (learnt self.old.core who consumer_id) self.new.core) }
         ensures works { IfHeard result (λ heard. IsErr heard.said → self.old.core.failed ≡ false) }
+        ensures cause { IfHeard result (λ heard. IfErr heard.said (λ e. IsRefusedFor self.new.core (key_of who consumer_id) e (own_read self.old.number read))) }
         ensures activity { self.new.activity ≡ with_message (is_message result) self.old.activity }
     {
         let CountedTopic {

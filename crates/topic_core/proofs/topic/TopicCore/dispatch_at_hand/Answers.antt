@@ -1,9 +1,9 @@
-use Rattle.std.proofs.Common.{◌≡◌, inl, Err, refl, rules, sym, ap, subst, Some, ◌∙◌}
-use Rattle.std.specs.Prelude.{IfSome}
+use Rattle.std.proofs.Common.{◌≡◌, inl, inr, ⊎_elim, Err, refl, rules, sym, ap, subst, Some, ◌∙◌}
+use Rattle.std.specs.Prelude.{IfSome, IfErr}
 use Rattle.managed_ledger.specs.Entries.{Ledger, end_of, entry_at}
 use Rattle.gated_log.specs.declared.read_error.ReadError.TheVariants.{NoMemory}
 use Rattle.topic_core.specs.Steps.{key_of}
-use Rattle.topic_core.specs.Dispatch.{IsReadOf}
+use Rattle.topic_core.specs.Dispatch.{IsReadOf, IsRefusedFor}
 use Rattle.topic_core.proofs.Learning.{refused_at_hand, found_sent, whole_entry}
 use Rattle.topic_core.proofs.topic.TopicCore.dispatch_at_hand.Goals as goal
 
@@ -30,3 +30,10 @@ returns-clause-step g c = λ counted read.
     let entry = subst (λ o. IfSome o (λ entry. entry_at t.ledger c.in-Some.position ≡ Some entry)) c.in-Some-2.is (c.in_ok-entry.ensures.entry same read_of) in
     found_sent g.G.Gauge.exact c.args.self.now t c.give.new.self c.args.who c.args.consumer_id c.key_of.result c.in-Some.position c.in_ok-outgoing.outgoing c.key_of.ensures
     c.pick.ensures.learnt c.pick.ensures.exact c.in-Some.ensures.some c.in_ok-outgoing.ensures.reply (whole_entry t.ledger c.in-Some.position _ _ entry c.in_ok-outgoing.ensures.entry) c.in_ok-outgoing.ensures.ok
+
+pub returns-in_err-entry-clause-cause : goal.returns-in_err-entry-clause-cause
+returns-in_err-entry-clause-cause g c =
+    let t = c.pick.new.self in
+    let key = key_of c.args.who c.args.consumer_id in
+    let is : c.from_residual.result ≡ Err c.in_err-entry.field-0.0 = search rules in
+    subst (λ r. IfErr r (λ e. IsRefusedFor t key e c.args.read)) (sym is) (⊎_elim inl (λ refused. inr (c.in-Some.position, c.in-Some.ensures.some, refused)) c.in_err-entry.ensures.cause)
