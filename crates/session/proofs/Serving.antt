@@ -11,7 +11,7 @@ use Rattle.session.specs.declared.entry.Entry.{Entry}
 use Rattle.session.specs.Broker.{Broker, IsQuiet}
 use Rattle.session.specs.Client.{Client, Play, play, left_if}
 use Rattle.session.specs.Noting.{AreNoted, AreQuiet}
-use Rattle.session.specs.Pumping.{Collects, HasNothingDue, pump_result, AdmitsNothing, Sends, IsTold, FindsNoMemory, SendsNothing, Serves, ServesEach, ServesUntil, ServesEachUntil, ServesOne, ServesAll, ServesIf, PumpIn, PumpStep}
+use Rattle.session.specs.Pumping.{pump_result, AdmitsNothing, Sends, IsTold, FindsNoMemory, SendsNothing, Serves, ServesEach, ServesUntil, ServesEachUntil, ServesOne, ServesAll, ServesIf, ServesBehind, ServeIn, ServeStep, CollectsDue, CollectIn, CollectStep, Pumps, PumpIn, PumpStep}
 use Rattle.session.specs.declared.pumping.PumpFault.{PumpFault}
 use Rattle.session.specs.declared.pumping.PumpFault.TheVariants.{Ended, Device, Damaged}
 use Rattle.session.specs.declared.pumping.More.{More}
@@ -95,25 +95,21 @@ module _ (R S : ℕ → ReadError → Type 0) (more : (topic : ℕ) (why : ReadE
   pub pump_step-more : (a : Play) (result : Result More PumpFault) (b : Play) → PumpStep R a result b → PumpStep S a result b
   pump_step-more a result b h = pump_in-more a.client.fault a result b h
 
-  -- a pump of a session that has no fault, from its parts
-  pub pump_made : (v : Client) (b b' : Broker) (out : List ℕ) (replies : ℕ) (collected : Play) (messages : Result ℕ PumpFault) (served : Play) (result : Result More PumpFault) →
-      v.fault ≡ None → Collects replies (play v b out) collected → replies ≤ 65536 → (collected.client.fault ≡ None → replies < 65536 → HasNothingDue collected) →
-      ServesIf R (nat_lt replies 65536) messages collected served → b' ≡ left_if served.client.fault served.broker served.client.number → result ≡ pump_result served.client.fault replies messages →
-      PumpStep S (play v b out) result (record served { broker = b' })
-  pump_made v b b' out replies collected messages served result none collects most all serves left is =
-      let P : Option Fault → Type 0 = λ f. PumpIn S f (play v b out) result (record served { broker = b' }) in
-      subst P (sym none) (record {
-        replies = replies;
-        collected = collected;
-        collects = collects;
-        most = most;
-        all = all;
-        messages = messages;
-        served = served;
-        serves = serves_if-more (nat_lt replies 65536) messages collected served serves;
-        ends = ap (λ (x : Broker). let p : Play = record served { broker = x } in p) left;
-        result_is = is;
-      })
+  pub serves_behind-more : (a : Play) (replies : ℕ) (result : Result More PumpFault) (b : Play) → ServesBehind R a replies result b → ServesBehind S a replies result b
+  serves_behind-more a replies result b h = record {
+    messages = h.messages;
+    served = h.served;
+    serves = serves_if-more (nat_lt replies 65536) h.messages a h.served h.serves;
+    ends = h.ends;
+    result_is = h.result_is;
+  }
+
+  serve_in-more : (fault : Option Fault) (a : Play) (replies : ℕ) (result : Result More PumpFault) (b : Play) → ServeIn R fault a replies result b → ServeIn S fault a replies result b
+  serve_in-more None a replies result b h = serves_behind-more a replies result b h
+  serve_in-more (Some why) a replies result b h = h
+
+  pub serve_step-more : (a : Play) (replies : ℕ) (result : Result More PumpFault) (b : Play) → ServeStep R a replies result b → ServeStep S a replies result b
+  serve_step-more a replies result b h = serve_in-more a.client.fault a replies result b h
 
 pub not_none : (why : Fault) → Some why ≡ None → ⊥
 not_none why is = cc
@@ -227,3 +223,65 @@ module _ (Refused : ℕ → ReadError → Type 0) where
     served = h;
     until = s;
   }
+
+  -- a session that has ended is sent nothing
+  serves_each-ended : (consumers : List Entry) (most : ℕ) (p : Play) (why : Fault) → p.client.fault ≡ Some why → ServesEach Refused consumers most 0 p p
+  serves_each-ended [] most p why is = (refl, refl)
+  serves_each-ended (c ∷ cs) most p why is = (
+    0,
+    0,
+    p,
+    record { sent = p; sends = refl; within = omega arith; stops = inl refl; all = λ none few. absurd (not_none why (sym is ∙ none)) },
+    serves_each-ended cs (most - 0) p why is,
+    refl,
+  )
+
+  serves_if-ended : (goes_on : Bool) (p : Play) (why : Fault) → p.client.fault ≡ Some why → ServesIf Refused goes_on (Ok 0) p p
+  serves_if-ended true p why is = serves_each-ended p.client.consumers 64 p why is
+  serves_if-ended false p why is = (refl, refl)
+
+  -- behind what a session without a fault collected
+  pumps_both : (fault : Option Fault) (old mid new : Play) (replies : ℕ) (result : Result More PumpFault) → mid.client.fault ≡ fault → CollectsDue old replies mid → ServeIn Refused fault mid replies result new → Pumps Refused old result new
+  pumps_both None old mid new replies result is c h =
+      let none : c.collected.client.fault ≡ None = ap (λ (p : Play). p.client.fault) (sym c.ends) ∙ is in
+      let same : mid ≡ c.collected = c.ends ∙ ap (λ (f : Option Fault). let p : Play = record c.collected { broker = left_if f c.collected.broker c.collected.client.number } in p) none in record {
+        replies = replies;
+        collected = c.collected;
+        collects = c.collects;
+        most = c.most;
+        all = c.all;
+        messages = h.messages;
+        served = h.served;
+        serves = subst (λ (p : Play). ServesIf Refused (nat_lt replies 65536) h.messages p h.served) same h.serves;
+        ends = h.ends;
+        result_is = h.result_is;
+      }
+  pumps_both (Some why) old mid new replies result is c h =
+      let some : c.collected.client.fault ≡ Some why = ap (λ (p : Play). p.client.fault) (sym c.ends) ∙ is in record {
+        replies = replies;
+        collected = c.collected;
+        collects = c.collects;
+        most = c.most;
+        all = c.all;
+        messages = Ok 0;
+        served = c.collected;
+        serves = serves_if-ended (nat_lt replies 65536) c.collected why some;
+        ends = h.1 ∙ c.ends;
+        result_is = h.0 ∙ sym (ap (λ (f : Option Fault). pump_result f replies (Ok 0)) some);
+      }
+
+  pump_in-both : (fault : Option Fault) (old mid new : Play) (replies : ℕ) (result : Result More PumpFault) → old.client.fault ≡ fault → CollectIn fault old replies mid → ServeStep Refused mid replies result new → PumpIn Refused fault old result new
+  pump_in-both None old mid new replies result is c h = pumps_both mid.client.fault old mid new replies result refl c h
+  pump_in-both (Some why) old mid new replies result is c h =
+      let ended : mid.client.fault ≡ Some why = ap (λ (p : Play). p.client.fault) c.1 ∙ is in
+      let went = subst (λ (f : Option Fault). ServeIn Refused f mid replies result new) ended h in (went.0, went.1 ∙ c.1)
+
+  -- what a session collects and is then served is a pump of it
+  pub pump_both : (old mid new : Play) (replies : ℕ) (result : Result More PumpFault) → CollectStep old replies mid → ServeStep Refused mid replies result new → PumpStep Refused old result new
+  pump_both old mid new replies result c h = pump_in-both old.client.fault old mid new replies result refl c h
+
+  -- what a session without a fault is served of its list
+  pub serve_listed : (client : Client) (b b' : Broker) (out : List ℕ) (replies : ℕ) (result : Result More PumpFault) (new : Play) → b' ≡ b → client.fault ≡ None → ServesBehind Refused (play client b' out) replies result new →
+      ServeStep Refused (play client b out) replies result new
+  serve_listed client b b' out replies result new same none h =
+      subst (λ (f : Option Fault). ServeIn Refused f (play client b out) replies result new) (sym none) (subst (λ (x : Broker). ServesBehind Refused (play client x out) replies result new) same h)

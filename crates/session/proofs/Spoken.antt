@@ -9,15 +9,15 @@ use Rattle.session.specs.declared.entry.Entry.{Entry}
 use Rattle.session.specs.declared.fault.Fault.{Fault}
 use Rattle.session.specs.declared.pumping.More.{More}
 use Rattle.session.specs.declared.pumping.PumpFault.{PumpFault}
-use Rattle.session.specs.Pumping.{Collects, HasNothingDue, Sends, FindsNoMemory, Serves, ServesEach, ServesUntil, ServesAll, ServesIf, ServesThese, PumpStep, pump_result, pumped_fault, pumped, ended_by}
-use Rattle.session.proofs.Serving.{pump_made}
+use Rattle.session.specs.Pumping.{Collects, HasNothingDue, Sends, FindsNoMemory, Serves, ServesEach, ServesUntil, ServesAll, ServesIf, ServesThese, ServesBehind, CollectIn, CollectStep, PumpIn, PumpStep, pump_result, pumped_fault, pumped, ended_by}
+use Rattle.session.proofs.Serving.{serves_if-more}
 
 module _ (client : Client) where
   -- the session, with a number and a fault
-  abbrev as_client : Client → Client
+  abbrev pub as_client : Client → Client
   as_client c = record client { number = c.number; fault = c.fault }
 
-  abbrev as_play : Play → Play
+  abbrev pub as_play : Play → Play
   as_play p = record p { client = as_client p.client }
 
   says : (a : Client) (out : List ℕ) (o : Outgoing) (b : Client) (out' : List ℕ) → Says a out o b out' → Says (as_client a) out o (as_client b) out'
@@ -84,18 +84,60 @@ answer_tells None replies (Ok n) h = refl
 answer_tells None replies (Err why) h = h
 answer_tells (Some why) replies messages h = refl
 
--- a pump of a session that has no fault
-pub pump_spoken : (R S : ℕ → ReadError → Type 0) → ((topic : ℕ) (why : ReadError) → R topic why → S topic why) → (v client : Client) (b b' : Broker) (out : List ℕ) (replies : ℕ) (collected : Play) (entries : List Entry) (messages : Result ℕ PumpFault) (served : Play)
-    (result : Result More PumpFault) → v.fault ≡ None → client.number ≡ v.number → client.fault ≡ None → client.consumers ≡ entries → served.client.number ≡ v.number →
-    Collects replies (play v b out) collected → replies ≤ 65536 → (collected.client.fault ≡ None → replies < 65536 → HasNothingDue collected) →
-    ServesThese R (nat_lt replies 65536) entries messages collected served → b' ≡ left_if served.client.fault served.broker served.client.number → IfErr messages (λ why. ended_by why ≡ None) →
-    result ≡ pump_result served.client.fault replies messages → PumpStep S (play client b out) result (play (pumped client result) b' served.out)
-pump_spoken R S more v client b b' out replies collected entries messages served result none number goes_on are stays collect most all serve left refused is =
-    let first : as_play client (play v b out) ≡ play client b out = ap (λ (c : Client). play c b out) (client_is client v.number v.fault number (goes_on ∙ sym none)) in
+-- what is served of a session
+pub serve_spoken : (R S : ℕ → ReadError → Type 0) → ((topic : ℕ) (why : ReadError) → R topic why → S topic why) → (v client : Client) (b b' : Broker) (out : List ℕ) (replies : ℕ) (entries : List Entry) (messages : Result ℕ PumpFault) (served : Play)
+    (result : Result More PumpFault) → client.number ≡ v.number → client.fault ≡ v.fault → client.consumers ≡ entries → served.client.number ≡ v.number →
+    ServesThese R (nat_lt replies 65536) entries messages (play v b out) served → b' ≡ left_if served.client.fault served.broker served.client.number → IfErr messages (λ why. ended_by why ≡ None) →
+    result ≡ pump_result served.client.fault replies messages → ServesBehind S (play client b out) replies result (play (pumped client result) b' served.out)
+serve_spoken R S more v client b b' out replies entries messages served result number fault are stays serve left refused is =
+    let first : as_play client (play v b out) ≡ play client b out = ap (λ (c : Client). play c b out) (client_is client v.number v.fault number fault) in
     let told : pumped_fault result ≡ served.client.fault = ap pumped_fault is ∙ answer_tells served.client.fault replies messages refused in
     let last : as_client client served.client ≡ pumped client result =
     (λ i. record client { number = (stays ∙ sym number) i; fault = sym told i }) in
-    let made = pump_made R S more client b b' out replies (as_play client collected) messages (as_play client served) result goes_on
-    (subst (λ (p : Play). Collects replies p (as_play client collected)) first (collects client replies (play v b out) collected collect)) most all
-    (serves_these client R (nat_lt replies 65536) entries messages collected served are serve) left is in
-    subst (λ (c : Client). PumpStep S (play client b out) result (play c b' served.out)) last made
+    let few = nat_lt replies 65536 in
+    subst (λ (c : Client). ServesBehind S (play client b out) replies result (play c b' served.out)) last (record {
+      messages = messages;
+      served = as_play client served;
+      serves = serves_if-more R S more few messages (play client b out) (as_play client served)
+          (subst (λ (p : Play). ServesIf R few messages p (as_play client served)) first (serves_these client R few entries messages (play v b out) served are serve));
+      ends = ap (λ (x : Broker). let p : Play = record { client = as_client client served.client; broker = x; out = served.out } in p) left;
+      result_is = is;
+    })
+
+-- what a session without a fault collects
+pub collect_spoken : (v client after : Client) (b b' : Broker) (out : List ℕ) (replies : ℕ) (collected : Play) → v.fault ≡ None → client.number ≡ v.number → client.fault ≡ None → collected.client.number ≡ v.number →
+    Collects replies (play v b out) collected → replies ≤ 65536 → (collected.client.fault ≡ None → replies < 65536 → HasNothingDue collected) →
+    b' ≡ left_if collected.client.fault collected.broker collected.client.number → after ≡ record client { fault = collected.client.fault } → CollectStep (play client b out) replies (play after b' collected.out)
+collect_spoken v client after b b' out replies collected none number goes_on stays collect most all left is =
+    let first : as_play client (play v b out) ≡ play client b out = ap (λ (c : Client). play c b out) (client_is client v.number v.fault number (goes_on ∙ sym none)) in
+    let same : after ≡ as_client client collected.client = is ∙ (λ i. record client { number = (number ∙ sym stays) i; fault = collected.client.fault }) in
+    let P : Option Fault → Type 0 = λ f. CollectIn f (play client b out) replies (play after b' collected.out) in
+    subst P (sym goes_on) (record {
+      collected = as_play client collected;
+      collects = subst (λ (p : Play). Collects replies p (as_play client collected)) first (collects client replies (play v b out) collected collect);
+      most = most;
+      all = all;
+      ends = λ i. play (same i) (left i) collected.out;
+    })
+
+-- a pump of a session that has no fault, from what it collects and what it is then served
+pub pump_spoken : (S : ℕ → ReadError → Type 0) (v client : Client) (b b' : Broker) (out out' : List ℕ) (replies : ℕ) (collected : Play) (result : Result More PumpFault) → v.fault ≡ None → client.number ≡ v.number → client.fault ≡ None →
+    collected.client.number ≡ v.number → Collects replies (play v b out) collected → replies ≤ 65536 → (collected.client.fault ≡ None → replies < 65536 → HasNothingDue collected) →
+    ServesBehind S (as_play client collected) replies result (play (pumped (as_client client collected.client) result) b' out') → PumpStep S (play client b out) result (play (pumped client result) b' out')
+pump_spoken S v client b b' out out' replies collected result none number goes_on stays collect most all serve =
+    let first : as_play client (play v b out) ≡ play client b out = ap (λ (c : Client). play c b out) (client_is client v.number v.fault number (goes_on ∙ sym none)) in
+    let last : pumped client result ≡ pumped (as_client client collected.client) result =
+    (λ i. record client { number = (number ∙ sym stays) i; fault = pumped_fault result }) in
+    let P : Option Fault → Type 0 = λ f. PumpIn S f (play client b out) result (play (pumped client result) b' out') in
+    subst P (sym goes_on) (record {
+      replies = replies;
+      collected = as_play client collected;
+      collects = subst (λ (p : Play). Collects replies p (as_play client collected)) first (collects client replies (play v b out) collected collect);
+      most = most;
+      all = all;
+      messages = serve.messages;
+      served = serve.served;
+      serves = serve.serves;
+      ends = ap (λ (c : Client). play c b' out') last ∙ serve.ends;
+      result_is = serve.result_is;
+    })

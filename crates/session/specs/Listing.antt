@@ -8,6 +8,7 @@ pub record Listing : Type 0 where
   pub number : ℕ  -- the session's
   pub fault : Option Fault  -- why it had ended
   pub consumers : List Entry  -- its consumers, in rising id
+  pub replies : ℕ  -- how many replies it had collected before
 
 -- the list has the session's number, its fault and its consumers
 pub record IsListOf (c : Client) (list : Listing) : Type 0 where

@@ -84,6 +84,22 @@ IsTold Refused (Ended why) = Unit {0}
 IsTold Refused Device = Refused read.Device
 IsTold Refused (Damaged file offset) = Refused (read.Damaged file offset)
 
+-- a session collects until nothing is due, or its 65,536th reply, or until it ends, and then leaves each topic
+pub record CollectsDue (old : Play) (replies : ℕ) (new : Play) : Type 0 where
+  pub collected : Play
+  pub collects : Collects replies old collected
+  pub most : replies ≤ 65536
+  pub all : collected.client.fault ≡ None → replies < 65536 → HasNothingDue collected
+  pub ends : new ≡ left_if_ended collected
+
+abbrev pub CollectIn : Option Fault → Play → ℕ → Play → Type 0
+CollectIn None old replies new = CollectsDue old replies new
+CollectIn (Some why) old replies new = (replies ≡ 0) × (new ≡ old)
+
+-- the first part of a pump, which is all that it collects; a session that ended collects nothing
+abbrev pub CollectStep : Play → ℕ → Play → Type 0
+CollectStep old replies new = CollectIn old.client.fault old replies new
+
 -- which refusals of a message of each topic, by its number, the broker answered
 module _ (Refused : ℕ → ReadError → Type 0) where
   -- the broker refuses a message of a topic for want of memory, which ends a session that hasn't ended
@@ -171,3 +187,20 @@ module _ (Refused : ℕ → ReadError → Type 0) where
   -- a session that ended collects nothing
   abbrev pub PumpStep : Play → Result More PumpFault → Play → Type 0
   PumpStep old result new = PumpIn old.client.fault old result new
+
+  -- behind so many replies a session is sent messages, where no reply may be left: until nothing is admitted, its 64th message, or a
+  -- failure of the device. It stops where the session ends, which then leaves each topic
+  pub record ServesBehind (old : Play) (replies : ℕ) (result : Result More PumpFault) (new : Play) : Type 0 where
+    pub messages : Result ℕ PumpFault
+    pub served : Play
+    pub serves : ServesIf (nat_lt replies 65536) messages old served
+    pub ends : new ≡ left_if_ended served
+    pub result_is : result ≡ pump_result served.client.fault replies messages
+
+  abbrev pub ServeIn : Option Fault → Play → ℕ → Result More PumpFault → Play → Type 0
+  ServeIn None old replies result new = ServesBehind old replies result new
+  ServeIn (Some why) old replies result new = (result ≡ Err (Ended why)) × (new ≡ old)
+
+  -- the second part of a pump, behind so many replies, which is all that it sends; a session that ended is sent nothing
+  abbrev pub ServeStep : Play → ℕ → Result More PumpFault → Play → Type 0
+  ServeStep old replies result new = ServeIn old.client.fault old replies result new

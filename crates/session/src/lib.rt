@@ -2,9 +2,9 @@
 //! frames of the replies that an abstract broker allows. Its first fault ends it: it then leaves each topic, works
 //! and writes nothing more, and answers that fault ever after. A pump collects the replies that are due to it
 //! until none is left, and then hands out messages for its consumers until none is admitted, each up to a bound.
-//! A list of its consumers, which a session gives, is served just so by whoever doesn't hold the session. The granter
-//! of a consumer's permits stands with the session where its port says so; a pump, or the serving of a list, then
-//! first has the consumer's topic look for what was granted.
+//! A session may also collect alone, and give a list of its consumers, by which whoever doesn't hold the session hands out the
+//! messages: behind what was collected that is a pump, too. The granter of a consumer's permits stands with the session where its
+//! port says so; a pump, or the serving of a list, then first has the consumer's topic look for what was granted.
 #![tactic(auto)]
 
 mod asked;

@@ -1,8 +1,8 @@
 ghost use Rattle.std.specs.Prelude.{◌≡◌, ℕ, Err, IfErr, IfOk, IfSome};
-ghost use Rattle.session.specs.Client.{Client, play, Writes};
+ghost use Rattle.session.specs.Client.{Client, Play, play, Writes};
 ghost use Rattle.session.specs.declared.pumping.PumpFault.TheVariants.{Ended};
 ghost use Rattle.session.specs.Listing.{IsListOf};
-ghost use Rattle.session.specs.Pumping.{PumpStep, IsTold, pumped};
+ghost use Rattle.session.specs.Pumping.{CollectStep, ServeStep, PumpStep, IsTold, pumped};
 
 use crate::entry::Entry;
 use crate::fault::Fault;
@@ -49,7 +49,7 @@ impl Listed {
 }
 
 /// A list of a session's consumers, by which the session is served away from it. Contracts see the session's number, why it had
-/// ended, and its consumers.
+/// ended, its consumers, and how many replies it had collected before.
 #[derive(Drop)]
 pub struct List {
     alloc: Global,
@@ -57,6 +57,7 @@ pub struct List {
     fault: Option<Fault>,
     topics: Vec<u64>,
     consumers: Vec<Listed>,
+    replies: usize,
 }
 
 impl Model for List {
@@ -65,7 +66,7 @@ impl Model for List {
 
     ghost Value = { Listing };
 
-    ghost view = { λ l. record { number = l.number; fault = l.fault; consumers = l.consumers.items } };
+    ghost view = { λ l. record { number = l.number; fault = l.fault; consumers = l.consumers.items; replies = l.replies } };
 
     ghost invariant = { λ l. AreNoted l.topics.items l.consumers.items };
 }
@@ -91,10 +92,16 @@ impl Roll for List {
 }
 
 impl List {
-    /// Does for the session what a pump of it does. Whoever holds the session then has to hand it the answer by its
+    /// Sends the session's consumers messages, at most 64 of them, unless more replies may be due than were collected before. Behind
+    /// what was collected that is what a pump does. Whoever holds the session then has to hand it the answer by its
     /// `end_as_served`, since where this ended it for want of memory it has left each topic.
     pub fn serve<P: Port>(self, port: &mut P, out: &mut Vec<u8>) -> Result<More, PumpFault>
-        ensures step { P.sole port.old → (client : Client) → IsListOf client self → PumpStep (λ topic why. P.refuses port.old topic why port.new) (play client (P.broker port.old) out.old.items) result
+        ensures serves { P.sole port.old → (client : Client) → IsListOf client self →
+            ServeStep (λ topic why. P.refuses port.old topic why port.new) (play client (P.broker port.old) out.old.items) self.replies result
+            (play (pumped client result) (P.broker port.new) out.new.items) }
+        ensures step { P.sole port.old → (begun : Play) (client : Client) → IsListOf client self →
+            CollectStep begun self.replies (play client (P.broker port.old) out.old.items) →
+            PumpStep (λ topic why. P.refuses port.old topic why port.new) begun result
             (play (pumped client result) (P.broker port.new) out.new.items) }
 
         // Whoever else uses the broker:
@@ -108,25 +115,37 @@ impl List {
         }
         look_each(&self, self.number, port);
         let speaker = Speaker::new(self.alloc, self.number);
-        speaker.pump(&self, port, out)
+        speaker.serve_behind(self.replies, &self, port, out)
     }
 }
 
 impl Session {
-    /// Lists its consumers, by which it is then to be served: none of them is raised any more. A refusal changes nothing.
-    pub fn list(&mut self) -> Result<List, AllocError>
-        ensures same { self.new ≡ self.old }
-        ensures list { IfOk result (λ list. IsListOf self.old list) }
+    /// Collects the replies that are due to the session, writes their frames, and lists its consumers, by which it is then to be
+    /// served: none of them is raised any more. A reply that finds no memory ends the session, which then leaves each topic. A
+    /// refusal changes nothing.
+    pub fn list<P: Port>(&mut self, port: &mut P, out: &mut Vec<u8>) -> Result<List, AllocError>
+        ensures list { IfOk result (λ list. IsListOf self.new list) }
+        ensures step { P.sole port.old → IfOk result (λ list. CollectStep (play self.old (P.broker port.old) out.old.items) list.replies
+            (play self.new (P.broker port.new) out.new.items)) }
+
+        // Whoever else uses the broker:
+        ensures same { self.new ≡ record self.old { fault = self.new.fault } }
+        ensures refused { IfErr result (λ _. (self.new ≡ self.old) × (port.new ≡ port.old) × (out.new ≡ out.old)) }
+        ensures ended { IfSome self.old.fault (λ why. (self.new ≡ self.old) × (out.new.items ≡ out.old.items)) }
+        ensures writes { Writes out.old.items out.new.items }
+        ensures passes { P.passes port.old port.new }
     {
         let mut topics = Vec::new(self.alloc);
         topics.extend_from_slice(self.consumers.topics())?;
         let consumers = self.consumers.list(self.alloc)?;
+        let replies = self.collect(port, out);
         Ok(List {
             alloc: self.alloc,
             number: self.number,
             fault: self.fault,
             topics,
             consumers,
+            replies,
         })
     }
 }

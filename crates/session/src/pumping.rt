@@ -3,7 +3,7 @@ ghost use Rattle.session.specs.declared.pumping.PumpFault.TheVariants.{Device};
 ghost use Rattle.session.specs.Broker.{due_at, topic_at};
 ghost use Rattle.session.specs.Asking.{Knows};
 ghost use Rattle.session.specs.Client.{Client, Play, play, Speaks, Writes};
-ghost use Rattle.session.specs.Pumping.{CollectsFrom, CollectsNothing, CollectsAt, Collects, HasNothingDue, SendsOne, SendsNothing, ServesOne, ServesAll, ServesThese, PumpStep, IsTold, ended_by, pumped_fault, pumped};
+ghost use Rattle.session.specs.Pumping.{CollectsFrom, CollectsNothing, CollectsAt, Collects, HasNothingDue, SendsOne, SendsNothing, ServesOne, ServesAll, ServesThese, ServesBehind, CollectStep, PumpStep, IsTold, ended_by, pumped_fault, pumped};
 
 use crate::asked::{Asked, ask, first_busy};
 use crate::entry::Entry;
@@ -71,6 +71,28 @@ impl Session {
         answer
     }
 
+    /// Collects the replies that are due to the session and writes their frames, at most 65,536 of them, and gives how many. A reply
+    /// that finds no memory ends the session, which then leaves each topic.
+    pub(crate) fn collect<P: Port>(&mut self, port: &mut P, out: &mut Vec<u8>) -> usize
+        ensures step { P.sole port.old → CollectStep (play self.old (P.broker port.old) out.old.items) result
+            (play self.new (P.broker port.new) out.new.items) }
+
+        // Whoever else uses the broker:
+        ensures same { self.new ≡ record self.old { fault = self.new.fault } }
+        ensures ended { IfSome self.old.fault (λ why. (self.new ≡ self.old) × (out.new.items ≡ out.old.items)) }
+        ensures writes { Writes out.old.items out.new.items }
+        ensures passes { P.passes port.old port.new }
+    {
+        if let Some(_) = self.fault {
+            return 0;
+        }
+        let mut speaker = Speaker::new(self.alloc, self.number);
+        let replies = speaker.collect_all(port, out);
+        let why = speaker.leave_if_ended(port);
+        self.fault = why;
+        replies
+    }
+
     /// Takes in how the serving of its list went: where that ended it for want of memory it has ended so, unless it had ended
     /// before.
     pub fn end_as_served(&mut self, answer: &Result<More, PumpFault>)
@@ -105,6 +127,25 @@ impl Speaker {
     {
         let mut speaker = self;
         let replies = speaker.collect_all(port, out);
+        speaker.serve_behind(replies, roll, port, out)
+    }
+
+    /// Sends messages to these consumers behind so many replies, where none may be left. A session that has ended leaves each topic.
+    pub(crate) fn serve_behind<R: Roll, P: Port>(
+        self,
+        replies: usize,
+        roll: &R,
+        port: &mut P,
+        out: &mut Vec<u8>,
+    ) -> Result<More, PumpFault>
+        ensures step { P.sole port.old → (client : Client) → client.number ≡ self.number → client.fault ≡ self.fault → client.consumers ≡ R.entries roll.now →
+            ServesBehind (λ topic why. P.refuses port.old topic why port.new) (play client (P.broker port.old) out.old.items) replies result
+            (play (pumped client result) (P.broker port.new) out.new.items) }
+        ensures told { IfErr result (λ fault. IsTold (λ why. (topic : ℕ) × P.refuses port.old topic why port.new) fault) }
+        ensures writes { Writes out.old.items out.new.items }
+        ensures passes { P.passes port.old port.new }
+    {
+        let mut speaker = self;
         let messages = speaker.serve_if(replies < MOST_REPLIES, roll, port, out);
         if let Some(why) = speaker.leave_if_ended(port) {
             return Err(PumpFault::Ended(why));

@@ -54,11 +54,12 @@ abbrev pub bytes_of_output : Option Output → List ℕ
 bytes_of_output None = []
 bytes_of_output (Some output) = output.bytes.items
 
--- it was listed by what it is served, and what is served by that has the next number; nothing else changed
+-- it was listed by what it is served, and what is collected and served has the next number; at most the session's fault changed
+-- besides
 pub record Lists (old : Numbered) (number : ℕ) (list : Listing) (new : Numbered) : Type 0 where
   pub number_is : number ≡ old.next
-  pub list_is : IsListOf old.session list
-  pub same : new ≡ record old { next = old.next + 1 }
+  pub list_is : IsListOf new.session list
+  pub same : new ≡ record old { session = record old.session { fault = new.session.fault }; next = old.next + 1 }
 
 -- what was served stopped at a bound of its own
 abbrev pub is_more : Result More PumpFault → Bool

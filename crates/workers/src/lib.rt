@@ -1,6 +1,7 @@
-//! The loops of a connection's two threads: one reads and feeds its session; one lists by what the session is served, serves it so
-//! without its lock, and writes. What the writer took from the ring and what is left there are the reader's replies, in order, each
-//! once; outputs are whole frames, written whole, in rising numbers. Each thread tells the other where its loop is over.
+//! The loops of a connection's two threads: one reads and feeds its session; one collects what is due and lists by what the session is
+//! served, serves it so without its lock, and writes. What the writer took from the ring and what is left there are the reader's
+//! replies, in order, each once; outputs are whole frames, written whole, in rising numbers. Each thread tells the other where its loop
+//! is over.
 #![tactic(auto)]
 
 mod connection;

@@ -122,8 +122,9 @@ pub fn read_loop<I: Read, P: Port + Turns, T: Turnstile, R: Wait>(
     (replies.finish(), ended)
 }
 
-// Says what is written, and lists by what the session is served, where it goes on.
-fn list_locked<P: Port, R: Wait>(
+// Says what is written, and collects what is due and lists by what the session is served, where it goes on. That is the first part of
+// the port's turn.
+fn list_locked<P: Port + Turns, R: Wait>(
     rt: &R,
     session: &Mutex<Numbered>,
     port: &mut P,
@@ -135,19 +136,19 @@ fn list_locked<P: Port, R: Wait>(
     if session.is_over() {
         return None;
     }
+    port.begin_turn();
     session.list(port)
 }
 
-// Serves by a list, without the session's lock.
+// Serves by a list, without the session's lock, which ends the port's turn.
 fn serve<P: Port + Turns>(listing: Listing, port: &mut P) -> Pumped {
-    port.begin_turn();
     let pumped = listing.serve(port);
     port.end_turn();
     pumped
 }
 
-// Serves, and writes once its session was told. The session's lock is held for its list, and then to tell it, and not in between. Answers
-// whether the session has ended; what stood in the ring is then written.
+// Collects and serves, and writes once its session was told. The session's lock is held to collect and list, and then to tell it, and
+// not in between. Answers whether the session has ended; what stood in the ring is then written.
 fn write_turn<W: Write, P: Port + Turns, R: Wait>(
     rt: &R,
     session: &Mutex<Numbered>,
@@ -160,6 +161,7 @@ fn write_turn<W: Write, P: Port + Turns, R: Wait>(
 {
     let listed = list_locked(rt, session, port, outgoing.next, outgoing.replied);
     let Some(listing) = listed else {
+        port.end_turn();
         outgoing.write_below(NUMBERS)?;
         return Ok(true);
     };

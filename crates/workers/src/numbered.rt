@@ -6,6 +6,7 @@ ghost use Rattle.rtrb.specs.Ring.{known_free, SameProducer};
 ghost use Rattle.workers.specs.Outputs.{AreFrames};
 ghost use Rattle.session.specs.Broker.{left_all};
 ghost use Rattle.session.specs.Client.{play};
+ghost use Rattle.session.specs.Pumping.{CollectStep};
 ghost use Rattle.session.specs.Working.{FeedStep, feed_result};
 ghost use Rattle.workers.specs.Numbers.{is_over, has_room, is_more, IsOutput, Numbers, Feeds, Lists, without_memory, as_served, bytes_of_replies};
 ghost use Rattle.workers.specs.Writes.{pushed};
@@ -56,7 +57,7 @@ pub struct Ended {
     is_sealed: (),
 }
 
-/// What a turn of the writer served, of which the session isn't told yet. Nobody may let it go: its session is told.
+/// What a turn of the writer collected and served, of which the session isn't told yet. Nobody may let it go: its session is told.
 pub struct Pumped {
     /// The number that the turn got.
     number: u64,
@@ -67,7 +68,7 @@ pub struct Pumped {
     ghost small: { number < 2 ^ 62 },
 }
 
-/// What a turn of the writer served, of which its session was told. Nobody may let it go: it is written.
+/// What a turn of the writer collected and served, of which its session was told. Nobody may let it go: it is written.
 pub struct Unwritten {
     number: u64,
     output: Option<Output>,
@@ -220,17 +221,21 @@ impl Numbered {
         goes_on
     }
 
-    /// Lists by what it is served without its lock, and gives the output that is to come of that the next number. Want of memory
-    /// ends the session, which then leaves each topic.
+    /// Collects what is due to the session, lists by what it is served without its lock, and gives the output that is to come of both
+    /// the next number: the numbers of all that was fed before are smaller. Want of memory ends the session, which then leaves each
+    /// topic.
     #[tactic(auto, using(crate::proofs::Serving::number_stays))]
     pub fn list<P: Port>(&mut self, port: &mut P) -> Option<Listing>
         requires { is_over self.old ≡ false }
         ensures lists { IfSome result (λ listing. Lists self.old listing.number listing.list self.new) }
+        ensures collects { P.sole port.old → IfSome result (λ listing. CollectStep (play self.old.session (P.broker port.old) [])
+            listing.list.replies (play self.new.session (P.broker port.new) listing.bytes.items)) }
         ensures refused { IfNone result (self.new ≡ without_memory self.old) }
         ensures left { IfNone result (P.sole port.old → P.broker port.new ≡ left_all (P.broker port.old) self.old.session.number) }
-        ensures same { IfSome result (λ _. P.sole port.old → P.broker port.new ≡ P.broker port.old) }
     {
-        let Ok(list) = self.session.list() else {
+        let mut bytes = Vec::new(self.alloc);
+        let Ok(list) = self.session.list(port, &mut bytes) else {
+            drop(bytes);
             self.take_answer(&Err(PumpFault::Ended(Fault::NoMemory)));
             self.session.end(port);
             return None;
@@ -238,9 +243,9 @@ impl Numbered {
         let number = self.next;
         self.next = number + 1;
         Some(Listing {
-            alloc: self.alloc,
             list,
             number,
+            bytes,
         })
     }
 

@@ -28,6 +28,10 @@ const PONG: &[u8] = b"\0\0\0\x09\0\0\0\x05\x08\x13\x9a\x01\0";
 // Of request 7.
 const SUCCESS: &[u8] = b"\0\0\0\x0a\0\0\0\x06\x08\x0d\x6a\x02\x08\x07";
 
+// To the subscription "s" of the topic `persistent://a/b/c`, as consumer 2.
+const SUBSCRIBE: &[u8] =
+    b"\0\0\0\x27\0\0\0\x23\x08\x04\x22\x1f\x0a\x12persistent://a/b/c\x12\x01s\x18\0\x20\x02\x28\x08\x68\x01";
+
 // Want of memory ends a session, and then a test.
 fn ample(session: &Session) -> Result<(), Fault> {
     match session.fault() {

@@ -18,13 +18,13 @@ impl Stage {
     }
 
     fn list(&mut self) -> Result<List, Fault> {
-        match self.session.list() {
+        match self.session.list(&mut self.board, &mut self.out) {
             Ok(list) => Ok(list),
             Err(_) => Err(Fault::NoMemory),
         }
     }
 
-    // Serves the session by a list, with nothing before in the bytes out, and tells it what came of that.
+    // Collects what is due, with nothing before in the bytes out, serves the session by a list, and tells it what came of that.
     fn serve(&mut self) -> Result<Result<More, PumpFault>, Fault> {
         self.out.clear();
         let list = self.list()?;
@@ -112,6 +112,28 @@ fn a_list_serves_as_a_pump_does(rt: HostRuntime) -> Result<(), Fail> {
     let went = serves(&mut stage);
     drop(stage);
     assert_eq!(rt; went?, (Ok(More::No), [true; 2]));
+    Ok(())
+}
+
+// A receipt comes due while a list is served. Tells whether a pump behind that has it and the list the message alone.
+fn serves_meanwhile(stage: &mut Stage) -> Result<bool, Fault> {
+    stage.begin(&[SUBSCRIBE], &[None])?;
+    stage.out.clear();
+    let list = stage.list()?;
+    stage.owe();
+    let answer = list.serve(&mut stage.board, &mut stage.out);
+    stage.session.end_as_served(&answer);
+    let receipt = RECEIPT_AND_MESSAGE.strip_suffix(stage.out.as_slice());
+    let _ = stage.pumped()?;
+    Ok(!stage.out.is_empty() && receipt == Some(stage.out.as_slice()))
+}
+
+#[test]
+fn a_reply_that_comes_due_while_a_list_is_served_waits(rt: HostRuntime) -> Result<(), Fail> {
+    let mut stage = Stage::new(rt.alloc());
+    let waits = serves_meanwhile(&mut stage);
+    drop(stage);
+    assert!(rt; waits?);
     Ok(())
 }
 

@@ -14,7 +14,7 @@ use topic_core::{Answer, Outgoing as Sent, ReadError, TopicCommand};
 use topic_lock::Turns;
 use workers::{Ended, Numbered, Outgoing, Output, PortAtRest, Turnstile, read_loop, write_loop};
 
-/// Where a desk is held that owes a reply, until it may go on.
+/// Where a desk is held that is asked whether it is quiet, until it may go on.
 #[derive(Drop)]
 pub struct Gate {
     pub is_held: AtomicBool,
@@ -56,7 +56,7 @@ impl<'g> Desk<'g> {
         }
     }
 
-    /// One that owes a reply, and is held here.
+    /// One that owes a reply, and is held here where it is asked for messages.
     pub fn held(gate: &'g Gate) -> Desk<'g> {
         Desk {
             due: 1,
@@ -68,9 +68,6 @@ impl<'g> Desk<'g> {
     fn next_reply(&mut self) -> Option<Reply> {
         if self.due == 0 {
             return None;
-        }
-        if let Some(gate) = self.gate {
-            self.was_let = gate.hold() && self.was_let;
         }
         self.due -= 1;
         Some(Reply::Success { request_id: 7 })
@@ -217,6 +214,9 @@ impl<'g> Port for Desk<'g> {
     }
 
     fn is_quiet(&mut self, topic: u64, who: u64) -> Plain<(), bool> {
+        if let Some(gate) = self.gate {
+            self.was_let = gate.hold() && self.was_let;
+        }
         Plain::new(topic, who, &(), true)
     }
 

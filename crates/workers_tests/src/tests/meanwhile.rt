@@ -1,7 +1,7 @@
 // The writer's turn holds nobody's feed: it serves the session without its lock.
 use super::desk::{Desk, Gate};
 use super::streams::Turns;
-use super::{CONNECT, CONNECTED, PING, PONG, SUCCESS, ample, waits_for};
+use super::{CONNECT, CONNECTED, PING, PONG, SUBSCRIBE, SUCCESS, ample, waits_for};
 use rtrb::{Producer, RingBuffer};
 use session::Session;
 use std::sync::atomic::{AtomicU64, Ordering};
@@ -9,10 +9,6 @@ use std::sync::{Mutex, Wait};
 use std::test::Fail;
 use std::thread;
 use workers::{Numbered, Outgoing, Output, Piece, write_loop};
-
-// To the subscription "s" of the topic `persistent://a/b/c`, as consumer 2.
-const SUBSCRIBE: &[u8] =
-    b"\0\0\0\x27\0\0\0\x23\x08\x04\x22\x1f\x0a\x12persistent://a/b/c\x12\x01s\x18\0\x20\x02\x28\x08\x68\x01";
 
 // One message for consumer 2.
 const FLOW: &[u8] = b"\0\0\0\x0c\0\0\0\x08\x08\x0b\x5a\x04\x08\x02\x10\x01";

@@ -1,6 +1,6 @@
 use super::desk::Desk;
 use super::streams::Turns;
-use super::{CONNECT, CONNECTED, PING, PONG, SUCCESS, ample};
+use super::{CONNECT, CONNECTED, PING, PONG, SUBSCRIBE, SUCCESS, ample};
 use rtrb::{Producer, RingBuffer};
 use session::{Fault, Session};
 use std::alloc::{AllocError, Global};
@@ -112,7 +112,7 @@ impl Feeder {
             return false;
         }
         let mut input = bytes;
-        let mut buffer = [0; 32];
+        let mut buffer = [0; 64];
         let Some(piece) = Piece::read(&mut input, &mut buffer) else {
             return false;
         };
@@ -120,7 +120,7 @@ impl Feeder {
     }
 }
 
-// Feeds, serves what is due and feeds, and writes what was served, and then the rest. Tells how many bytes stood written in between.
+// Feeds, collects what is due, serves and feeds, and writes what that gave, and then the rest. Tells how many bytes stood written in between.
 fn write_between(bench: &mut Bench, due: u32) -> io::Result<usize> {
     let Bench { feeder, outgoing } = bench;
     feeder.feed(CONNECT);
@@ -160,6 +160,40 @@ fn passes_over_a_number_without_an_output(rt: HostRuntime) -> Result<(), Fail> {
     assert_eq!(rt; written, Some(CONNECTED.len()));
     assert_eq!(rt; (left.next, left.passed), (3, 3));
     assert!(rt; left.written.ends_with(PONG));
+    Ok(())
+}
+
+// Lists the session before anything is fed. Then it is fed CONNECT and SUBSCRIBE, whose SUCCESS comes due, and is served, and all is
+// written; and so in one more turn.
+fn write_behind_feeds(bench: &mut Bench) -> io::Result<()> {
+    let Bench { feeder, outgoing } = bench;
+    let Some(listing) = feeder.list(0) else {
+        return Ok(());
+    };
+    feeder.feed(CONNECT);
+    feeder.feed(SUBSCRIBE);
+    feeder.desk.due = 1;
+    feeder.serve(listing).write(outgoing)?;
+    outgoing.write_below(ABOVE)?;
+    let due = feeder.desk.due;
+    let Some(listing) = feeder.list(due) else {
+        return Ok(());
+    };
+    feeder.serve(listing).write(outgoing)?;
+    Ok(())
+}
+
+// A reply that comes due while a list is served doesn't overtake the replies of what was fed meanwhile.
+#[test]
+fn a_due_reply_comes_behind_the_replies_of_its_feed(rt: HostRuntime) -> Result<(), Fail> {
+    let mut bench = Bench::new(rt.alloc(), 4)?;
+    let is_written = write_behind_feeds(&mut bench).is_ok();
+    let left = bench.end()?;
+    assert!(rt; is_written);
+    assert_eq!(rt;
+        left.written.as_slice().strip_prefix(CONNECTED),
+        Some(SUCCESS)
+    );
     Ok(())
 }
 

@@ -1,101 +1,33 @@
-use Rattle.std.proofs.Common.{◌≡◌, ◌∙◌, ℕ, Some, None, Result, Ok, Err, sym, ap, subst, rules}
-use Rattle.std.specs.Prelude.{IfErr}
-use Rattle.std.proofs.lemmas.Result.{err_from_is_err_and}
+use Rattle.std.proofs.Common.{ℕ, refl}
 use Rattle.gated_log.specs.declared.read_error.ReadError.{ReadError}
 use Rattle.session.specs.Client.{play}
-use Rattle.session.specs.Pumping.{IsTold, pump_result}
-use Rattle.session.specs.declared.pumping.More.TheVariants.{Yes, No}
-use Rattle.session.specs.declared.pumping.PumpFault.TheVariants.{Ended}
-use Rattle.session.specs.declared.pumping.PumpFault.{PumpFault}
-use Rattle.session.proofs.Serving.{is_told-more}
-use Rattle.session.proofs.Spoken.{pump_spoken}
+use Rattle.session.proofs.Serving.{serves_behind-more, pumped_told-more}
+use Rattle.session.proofs.Spoken.{as_client, pump_spoken}
 use Rattle.session.proofs.Speaking.{writes_both}
 use Rattle.session.proofs.speaker.Speaker.pump.Goals as goal
 
-pub returns-in-Some-clause-writes : goal.returns-in-Some-clause-writes
-returns-in-Some-clause-writes g c = writes_both _ _ _ c.collect_all-replies.ensures.speaks.writes c.serve_if-messages.ensures.speaks.writes
+pub returns-clause-writes : goal.returns-clause-writes
+returns-clause-writes g c = writes_both _ _ _ c.collect_all-replies.ensures.speaks.writes c.serve_behind.ensures.writes
 
-pub returns-then-messages-eq-MOST_MESSAGES-clause-writes : goal.returns-then-messages-eq-MOST_MESSAGES-clause-writes
-returns-then-messages-eq-MOST_MESSAGES-clause-writes g c = writes_both _ _ _ c.collect_all-replies.ensures.speaks.writes c.serve_if-messages.ensures.speaks.writes
-
-pub returns-else-messages-eq-MOST_MESSAGES-clause-writes : goal.returns-else-messages-eq-MOST_MESSAGES-clause-writes
-returns-else-messages-eq-MOST_MESSAGES-clause-writes g c = writes_both _ _ _ c.collect_all-replies.ensures.speaks.writes c.serve_if-messages.ensures.speaks.writes
-
-pub returns-in_err-messages-clause-writes : goal.returns-in_err-messages-clause-writes
-returns-in_err-messages-clause-writes g c = writes_both _ _ _ c.collect_all-replies.ensures.speaks.writes c.serve_if-messages.ensures.speaks.writes
-
-pub returns-in-Some-clause-step : goal.returns-in-Some-clause-step
-returns-in-Some-clause-step g c = λ s client number goes_on are.
+pub returns-clause-step : goal.returns-clause-step
+returns-clause-step g c = λ s client number goes_on are.
     let port = g.met.P.Port in
-    let Told : ℕ → ReadError → Type 0 = λ topic why. g.P.Port.refuses c.args.port.now topic why c.leave_if_ended.new.port in
     let collecting = c.collect_all-replies.ensures in
-    let serving = c.serve_if-messages.ensures in
-    let served = play c.serve_if-messages.new.self (g.P.Port.broker c.serve_if-messages.new.port) c.serve_if-messages.new.out.items in
-    let more : (topic : ℕ) (why : ReadError) → g.P.Port.refuses c.collect_all-replies.new.port topic why c.serve_if-messages.new.port → Told topic why =
-    λ topic why h. port.refuses_within c.args.port.now c.collect_all-replies.new.port c.serve_if-messages.new.port c.leave_if_ended.new.port topic why collecting.passes serving.passes c.leave_if_ended.ensures.passes h in
-    let after = port.passes_sole _ _ collecting.passes s in
-    let left = c.leave_if_ended.ensures.left (port.passes_sole _ _ serving.passes after) in
-    let why : c.serve_if-messages.new.self.fault ≡ Some c.in-Some.why = sym c.leave_if_ended.ensures.fault ∙ c.in-Some.is in
-    pump_spoken _ Told more c.args.self client _ _ _ c.collect_all-replies.result _ _ c.serve_if-messages.result served (Err (Ended c.in-Some.why)) c.requires number goes_on are (serving.speaks.number ∙ collecting.speaks.number)
-    (collecting.collects s) collecting.most (collecting.all s) (serving.serves after) left serving.refused (sym (ap (λ f. pump_result f c.collect_all-replies.result c.serve_if-messages.result) why))
+    let serving = c.serve_behind.ensures in
+    let last = c.serve_behind.new.port in
+    let Told : ℕ → ReadError → Type 0 = λ topic why. g.P.Port.refuses c.args.port.now topic why last in
+    let more : (topic : ℕ) (why : ReadError) → g.P.Port.refuses c.collect_all-replies.new.port topic why last → Told topic why =
+    λ topic why h. port.refuses_within c.args.port.now c.collect_all-replies.new.port last last topic why collecting.passes serving.passes (port.passes_nothing last) h in
+    let collected = play c.collect_all-replies.new.self (g.P.Port.broker c.collect_all-replies.new.port) c.collect_all-replies.new.out.items in
+    let behind = serves_behind-more _ Told more _ _ _ _ (serving.step (port.passes_sole _ _ collecting.passes s) (as_client client c.collect_all-replies.new.self) refl refl are) in
+    pump_spoken Told c.args.self client _ _ _ _ c.collect_all-replies.result collected c.serve_behind.result c.requires number goes_on collecting.speaks.number
+    (collecting.collects s) collecting.most (collecting.all s) behind
 
-pub returns-in_err-messages-clause-step : goal.returns-in_err-messages-clause-step
-returns-in_err-messages-clause-step g c = λ s client number goes_on are.
+pub returns-clause-told : goal.returns-clause-told
+returns-clause-told g c =
     let port = g.met.P.Port in
-    let Told : ℕ → ReadError → Type 0 = λ topic why. g.P.Port.refuses c.args.port.now topic why c.leave_if_ended.new.port in
-    let collecting = c.collect_all-replies.ensures in
-    let serving = c.serve_if-messages.ensures in
-    let served = play c.serve_if-messages.new.self (g.P.Port.broker c.serve_if-messages.new.port) c.serve_if-messages.new.out.items in
-    let more : (topic : ℕ) (why : ReadError) → g.P.Port.refuses c.collect_all-replies.new.port topic why c.serve_if-messages.new.port → Told topic why =
-    λ topic why h. port.refuses_within c.args.port.now c.collect_all-replies.new.port c.serve_if-messages.new.port c.leave_if_ended.new.port topic why collecting.passes serving.passes c.leave_if_ended.ensures.passes h in
-    let after = port.passes_sole _ _ collecting.passes s in
-    let left = c.leave_if_ended.ensures.left (port.passes_sole _ _ serving.passes after) in
-    let none : c.serve_if-messages.new.self.fault ≡ None = sym c.leave_if_ended.ensures.fault ∙ c.in_default.is in
-    let p = err_from_is_err_and c.from_residual.result c.from_residual.ensures.1 in
-    rw (p.1, p.2) (pump_spoken _ Told more c.args.self client _ _ _ c.collect_all-replies.result _ _ c.serve_if-messages.result served (Err c.in_err-messages.field-0.0) c.requires number goes_on are (serving.speaks.number ∙ collecting.speaks.number)
-    (collecting.collects s) collecting.most (collecting.all s) (serving.serves after) left serving.refused (sym (ap (λ f. pump_result f c.collect_all-replies.result c.serve_if-messages.result) none ∙ ap (λ m. pump_result None c.collect_all-replies.result m) c.in_err-messages.was)))
-
-pub returns-then-messages-eq-MOST_MESSAGES-clause-step : goal.returns-then-messages-eq-MOST_MESSAGES-clause-step
-returns-then-messages-eq-MOST_MESSAGES-clause-step g c = λ s client number goes_on are.
-    let port = g.met.P.Port in
-    let Told : ℕ → ReadError → Type 0 = λ topic why. g.P.Port.refuses c.args.port.now topic why c.leave_if_ended.new.port in
-    let collecting = c.collect_all-replies.ensures in
-    let serving = c.serve_if-messages.ensures in
-    let served = play c.serve_if-messages.new.self (g.P.Port.broker c.serve_if-messages.new.port) c.serve_if-messages.new.out.items in
-    let more : (topic : ℕ) (why : ReadError) → g.P.Port.refuses c.collect_all-replies.new.port topic why c.serve_if-messages.new.port → Told topic why =
-    λ topic why h. port.refuses_within c.args.port.now c.collect_all-replies.new.port c.serve_if-messages.new.port c.leave_if_ended.new.port topic why collecting.passes serving.passes c.leave_if_ended.ensures.passes h in
-    let after = port.passes_sole _ _ collecting.passes s in
-    let left = c.leave_if_ended.ensures.left (port.passes_sole _ _ serving.passes after) in
-    let none : c.serve_if-messages.new.self.fault ≡ None = sym c.leave_if_ended.ensures.fault ∙ c.in_default.is in
-    let is : Ok Yes ≡ pump_result None c.collect_all-replies.result (Ok c.in_ok-messages.messages) = search rules in
-    pump_spoken _ Told more c.args.self client _ _ _ c.collect_all-replies.result _ _ c.serve_if-messages.result served (Ok Yes) c.requires number goes_on are (serving.speaks.number ∙ collecting.speaks.number)
-    (collecting.collects s) collecting.most (collecting.all s) (serving.serves after) left serving.refused (is ∙ sym (ap (λ f. pump_result f c.collect_all-replies.result c.serve_if-messages.result) none ∙ ap (λ m. pump_result None c.collect_all-replies.result m) c.in_ok-messages.was))
-
-pub returns-else-messages-eq-MOST_MESSAGES-clause-step : goal.returns-else-messages-eq-MOST_MESSAGES-clause-step
-returns-else-messages-eq-MOST_MESSAGES-clause-step g c = λ s client number goes_on are.
-    let port = g.met.P.Port in
-    let Told : ℕ → ReadError → Type 0 = λ topic why. g.P.Port.refuses c.args.port.now topic why c.leave_if_ended.new.port in
-    let collecting = c.collect_all-replies.ensures in
-    let serving = c.serve_if-messages.ensures in
-    let served = play c.serve_if-messages.new.self (g.P.Port.broker c.serve_if-messages.new.port) c.serve_if-messages.new.out.items in
-    let more : (topic : ℕ) (why : ReadError) → g.P.Port.refuses c.collect_all-replies.new.port topic why c.serve_if-messages.new.port → Told topic why =
-    λ topic why h. port.refuses_within c.args.port.now c.collect_all-replies.new.port c.serve_if-messages.new.port c.leave_if_ended.new.port topic why collecting.passes serving.passes c.leave_if_ended.ensures.passes h in
-    let after = port.passes_sole _ _ collecting.passes s in
-    let left = c.leave_if_ended.ensures.left (port.passes_sole _ _ serving.passes after) in
-    let none : c.serve_if-messages.new.self.fault ≡ None = sym c.leave_if_ended.ensures.fault ∙ c.in_default.is in
-    let is : Ok No ≡ pump_result None c.collect_all-replies.result (Ok c.in_ok-messages.messages) = search rules in
-    pump_spoken _ Told more c.args.self client _ _ _ c.collect_all-replies.result _ _ c.serve_if-messages.result served (Ok No) c.requires number goes_on are (serving.speaks.number ∙ collecting.speaks.number)
-    (collecting.collects s) collecting.most (collecting.all s) (serving.serves after) left serving.refused (is ∙ sym (ap (λ f. pump_result f c.collect_all-replies.result c.serve_if-messages.result) none ∙ ap (λ m. pump_result None c.collect_all-replies.result m) c.in_ok-messages.was))
-
-pub returns-in_err-messages-clause-told : goal.returns-in_err-messages-clause-told
-returns-in_err-messages-clause-told g c =
-    let port = g.met.P.Port in
-    let Told : ReadError → Type 0 = λ why. (topic : ℕ) × g.P.Port.refuses c.args.port.now topic why c.leave_if_ended.new.port in
-    let collecting = c.collect_all-replies.ensures in
-    let serving = c.serve_if-messages.ensures in
-    let Refused : ReadError → Type 0 = λ why. (topic : ℕ) × g.P.Port.refuses c.collect_all-replies.new.port topic why c.serve_if-messages.new.port in
-    let more : (why : ReadError) → Refused why → Told why =
-    λ why h. (h.0, port.refuses_within c.args.port.now c.collect_all-replies.new.port c.serve_if-messages.new.port c.leave_if_ended.new.port h.0 why collecting.passes serving.passes c.leave_if_ended.ensures.passes h.1) in
-    let told = subst (λ (r : Result ℕ PumpFault). IfErr r (λ fault. IsTold Refused fault)) c.in_err-messages.was serving.told in
-    let p = err_from_is_err_and c.from_residual.result c.from_residual.ensures.1 in
-    rw (p.1, p.2) (is_told-more Refused Told more c.in_err-messages.field-0.0 told)
+    let last = c.serve_behind.new.port in
+    let Told : ReadError → Type 0 = λ why. (topic : ℕ) × g.P.Port.refuses c.args.port.now topic why last in
+    let more : (why : ReadError) → (topic : ℕ) × g.P.Port.refuses c.collect_all-replies.new.port topic why last → Told why = λ why h.
+    (h.0, port.refuses_within c.args.port.now c.collect_all-replies.new.port last last h.0 why c.collect_all-replies.ensures.passes c.serve_behind.ensures.passes (port.passes_nothing last) h.1) in
+    pumped_told-more _ Told more c.serve_behind.result c.serve_behind.ensures.told
