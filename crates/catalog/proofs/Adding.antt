@@ -1,12 +1,13 @@
 -- A name more.
 use Rattle.std.proofs.Common.{◌≡◌, ⊎_elim, inl, inr, ℕ, ◌<◌, true, false, List, [], ◌∷◌, ◌++◌, length, refl, sym, ◌∙◌, ap, subst, arith, Result, IsErrAnd}
 use Rattle.disk.specs.declared.file_id.FileId.{FileId}
-use Rattle.disk.specs.declared.file_id.FileId.TheVariants.{Catalog as catalog_file}
+use Rattle.disk.specs.declared.file_id.Folder.TheVariants.{Two}
 use Rattle.disk.specs.Disk.{Disk, Image}
-use Rattle.disk.specs.Areas.{Within, weaken_within, stays_within}
+use Rattle.disk.specs.Areas.{Within, catalog_file, weaken_within, stays_within}
 use Rattle.disk.specs.Contents.{Settled, InDoubt, Appends, BeforeOrAfter, at_err, StaysSo}
 use Rattle.gated_log.specs.declared.log.GatedLog.{GatedLog}
 use Rattle.gated_log.specs.declared.log_id.LogId.{LogId}
+use Rattle.gated_log.specs.Labels.{plain}
 use Rattle.gated_log.specs.Batches.{IsLog}
 use Rattle.gated_log.specs.declared.prepare_error.PrepareError.{PrepareError}
 use Rattle.gated_log.specs.declared.prepare_error.PrepareError.TheVariants as prepare
@@ -19,7 +20,7 @@ use Rattle.names.proofs.Parts.{name_is_short}
 use Rattle.catalog.specs.declared.catalog.Catalog.{Catalog}
 use Rattle.catalog.specs.Names.{Names, AreNames, IsPerLedger, has_name}
 use Rattle.catalog.specs.Growing.{IsNext, names_more}
-use Rattle.catalog.specs.Laws.{holds_stands}
+use Rattle.catalog.specs.Laws.{holds_stands, own_log}
 use Rattle.catalog.specs.Catalogs.{Own, Holds, StandsFor, content, remembered, per_ledger}
 
 -- the body that was built is the name
@@ -39,8 +40,11 @@ no_memory prepare.NoMemory names name body next is large = refl
 pub names_are : (old : Catalog) (keys : Names) (name : List ℕ) → IsNext (remembered old) name → keys ≡ remembered old ++ name ∷ [] → AreNames keys
 names_are old keys name next grows = subst AreNames (sym grows) (names_more (remembered old) name old.are next)
 
-pub ledgers_are : (old : Catalog) (log : GatedLog) → log_id log ≡ log_id old.log → IsPerLedger (log_id log).number
-ledgers_are old log id = subst (λ (i : LogId). IsPerLedger i.number) (sym id) old.ledgers
+pub label_is : (old : Catalog) (log : GatedLog) → log_id log ≡ log_id old.log → (log_id log).label ≡ plain (log_id log).label.number
+label_is old log id = subst (λ (i : LogId). i.label ≡ plain i.label.number) (sym id) old.alone
+
+pub ledgers_are : (old : Catalog) (log : GatedLog) → log_id log ≡ log_id old.log → IsPerLedger (log_id log).label.number
+ledgers_are old log id = subst (λ (i : LogId). IsPerLedger i.label.number) (sym id) old.ledgers
 
 pub file_is : (old : Catalog) (log : GatedLog) → log_id log ≡ log_id old.log → (log_id log).file ≡ catalog_file
 file_is old log id = ap (λ (i : LogId). i.file) id ∙ old.file
@@ -70,8 +74,8 @@ either old id c names name same kept next which =
     (λ is. inr (record { log = in_file (names ++ name ∷ []) is; ledgers = old.ledgers; names_are = names_more names name are (held old names name kept next) }))
     which
   where
-    in_file : (bodies : Names) → LogStands id c bodies → IsLog (per_ledger old) bodies (c catalog_file)
-    in_file bodies is = subst (λ (f : FileId). IsLog (per_ledger old) bodies (c f)) old.file (subst (λ (i : LogId). IsLog i.number bodies (c i.file)) same is)
+    in_file : (bodies : Names) → LogStands id c bodies → IsLog Two (plain (per_ledger old)) bodies (c catalog_file)
+    in_file bodies is = own_log old c bodies (subst (λ (i : LogId). LogStands i c bodies) same is)
 
 pub in_doubt : (old : Catalog) (log log' : GatedLog) (name : List ℕ) (d0 d1 : Disk) (names : Names) → IsNext (remembered old) name → log_id log ≡ log_id old.log → Settled (Holds old) d0 names
     → InDoubt (log_content log') (LogStands (log_id log)) d1 names (names ++ name ∷ []) → InDoubt (log_content log') (StandsFor (per_ledger old)) d1 names (names ++ name ∷ [])

@@ -1,3 +1,6 @@
 mod Adding
+mod Checking
+mod Closing
+mod Copying
 mod Opening
 mod Taking

@@ -1,7 +1,8 @@
 // The names of topics in a log of batches.
 ghost use Rattle.std.specs.Prelude.{◌≡◌};
 ghost use Rattle.std.proofs.Props.{props};
-ghost use Rattle.disk.specs.declared.file_id.FileId.{FileId};
+ghost use Rattle.disk.specs.Areas.{catalog_file};
+ghost use Rattle.gated_log.specs.Labels.{plain};
 ghost use Rattle.gated_log.specs.Logs.{log_id};
 ghost use Rattle.catalog.specs.Names.{AreNames, IsPerLedger};
 
@@ -24,6 +25,7 @@ pub struct Catalog {
     pub(crate) log: GatedLog,
     pub(crate) names: IndexSet<TopicName>,
     ghost are: { AreNames names.keys } by { Prim.hlevel props },
-    ghost ledgers: { IsPerLedger (log_id log).number },
-    ghost file: { (log_id log).file ≡ FileId.Catalog },
+    ghost alone: { (log_id log).label ≡ plain (log_id log).label.number },
+    ghost ledgers: { IsPerLedger (log_id log).label.number },
+    ghost file: { (log_id log).file ≡ catalog_file },
 }

@@ -7,8 +7,8 @@ ghost use Rattle.catalog.specs.Catalogs.{Own, Holds, per_ledger, failed};
 
 use crate::catalog::Catalog;
 use crate::entries_per_ledger::EntriesPerLedger;
-use disk::{DeviceError, FileId, Shelf};
-use gated_log::GatedLog;
+use disk::{CATALOG, DeviceError, Shelf};
+use gated_log::{GatedLog, Label};
 use indexmap::IndexSet;
 use std::alloc::Global;
 
@@ -27,8 +27,8 @@ impl Catalog {
         ensures cause { IsErr result → Failed (S.disk shelf.old) (S.disk shelf.new) }
         ensures kept { Kept (S.disk shelf.old) (S.disk shelf.new) }
     {
-        let number = u64::from(entries_per_ledger.get());
-        let log = GatedLog::create(alloc, shelf, FileId::Catalog, number)?;
+        let label = Label::plain(u64::from(entries_per_ledger.get()));
+        let log = GatedLog::create(alloc, shelf, CATALOG, label)?;
         Ok(Catalog {
             alloc,
             log,

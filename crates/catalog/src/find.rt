@@ -18,7 +18,7 @@ impl Catalog {
         ensures number { result ≡ per_ledger self.now }
         ensures ledgers { IsPerLedger result }
     {
-        self.log.id().number as u32
+        self.log.id().label.number as u32
     }
 
     /// How many topics there are.

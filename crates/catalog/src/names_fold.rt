@@ -1,10 +1,11 @@
 // The bodies of a log are names of topics.
 ghost use Rattle.std.specs.Prelude.{◌≡◌, ◌↔◌, ◌++◌, [], ◌∷◌, true, IfOk, IsTrue};
+ghost use Rattle.catalog.specs.Catalogs.{IsCatalogLabel};
 ghost use Rattle.catalog.specs.Names.{can_follow, IsPerLedger};
 ghost use Rattle.catalog.specs.Folded.{AreCatalogs, HasTaken, taken_form, catalogs_before, catalogs_less};
 
 use crate::catalog::{MAX_ENTRIES_PER_LEDGER, MAX_TOPICS};
-use gated_log::Fold;
+use gated_log::{Fold, Label};
 use indexmap::IndexSet;
 use names::{NameFault, TopicName};
 use std::alloc::{AllocError, Global};
@@ -22,6 +23,13 @@ fn is_per_ledger(number: u64) -> bool
     ensures { IsTrue result ↔ IsPerLedger number }
 {
     1 <= number && number <= u64::from(MAX_ENTRIES_PER_LEDGER)
+}
+
+// Whether the header of a list of topics may have this label.
+pub(crate) fn is_label_of_names(label: Label) -> bool
+    ensures { IsTrue result ↔ IsCatalogLabel label }
+{
+    label == Label::plain(label.number) && is_per_ledger(label.number)
 }
 
 // Takes a body as the next name, and answers whether it is one.
@@ -55,11 +63,11 @@ impl Fold for NamesFold {
 
     ghost holds = { λ fold logs. HasTaken fold.begun fold.names.keys logs };
 
-    fn begin(&mut self, number: u64) -> Result<bool, AllocError> {
+    fn begin(&mut self, label: Label) -> Result<bool, AllocError> {
         if self.begun {
             return Ok(false);
         }
-        if !is_per_ledger(number) {
+        if !is_label_of_names(label) {
             return Ok(false);
         }
         self.begun = true;

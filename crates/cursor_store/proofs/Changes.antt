@@ -2,6 +2,7 @@
 use Rattle.std.proofs.Common.{◌≡◌, ◌∙◌, Bool, refl, ap, ℕ, List, [], ◌∷◌, ◌++◌}
 use Rattle.std.specs.Prelude.{map as each}
 use Rattle.std.specs.List.{flat_map}
+use Rattle.disk.specs.declared.file_id.Folder.{Folder}
 use Rattle.records.specs.declared.record.Record.{Record}
 use Rattle.records.specs.Maps.{Kept}
 use Rattle.records.specs.Records.{AreFormed, after, after_all}
@@ -22,24 +23,24 @@ changes_spelling (r ∷ records) = ap (λ (l : List ℕ). spelling r ++ l) (chan
 pub changes_body : (records : List Record) → body_of records ≡ body_of_items (each Change records)
 changes_body records = ap (λ (l : List ℕ). 0 ∷ l) (changes_spelling records)
 
-changes_formed : (entries : ℕ) (start : Start) (kept : Kept) (records : List Record) → AreFormed entries kept records → StartFrom start.base records → AreItems entries (told_of start kept) (each Change records)
-changes_formed entries start kept [] formed from = tt
-changes_formed entries start kept (r ∷ records) formed from = ((formed.0, from.0), changes_formed entries start (after r kept) records formed.1 from.1)
+changes_formed : (folder : Folder) (entries : ℕ) (start : Start) (kept : Kept) (records : List Record) → AreFormed entries kept records → StartFrom start.base records → AreItems folder entries (told_of start kept) (each Change records)
+changes_formed folder entries start kept [] formed from = tt
+changes_formed folder entries start kept (r ∷ records) formed from = ((formed.0, from.0), changes_formed folder entries start (after r kept) records formed.1 from.1)
 
 changes_told : (start : Start) (kept : Kept) (records : List Record) → told_of start (after_all records kept) ≡ all_told (each Change records) (told_of start kept)
 changes_told start kept [] = refl
 changes_told start kept (r ∷ records) = changes_told start (after r kept) records
 
 -- the body of records of their form
-pub records_body : (entries : ℕ) (start : Start) (kept : Kept) (records : List Record) → AreFormed entries kept records → StartFrom start.base records
-    → IsItemsBody entries (told_of start kept) (body_of records) (told_of start (after_all records kept))
-records_body entries start kept records formed from = record {
+pub records_body : (folder : Folder) (entries : ℕ) (start : Start) (kept : Kept) (records : List Record) → AreFormed entries kept records → StartFrom start.base records
+    → IsItemsBody folder entries (told_of start kept) (body_of records) (told_of start (after_all records kept))
+records_body folder entries start kept records formed from = record {
   items = each Change records;
   body_is = changes_body records;
-  formed = changes_formed entries start kept records formed from;
+  formed = changes_formed folder entries start kept records formed from;
   new_is = changes_told start kept records;
 }
 
 -- a body of records is one of items
-pub records_grown : (due : Bool) (entries : ℕ) (told : Told) (old new base : Bodies) (records : List Record) → IsNextBase due entries told old base → new ≡ base ++ body_of records ∷ [] → AreGrown due entries told old new (each Change records)
-records_grown due entries told old new base records next grown = record { base = base; is_base = next; grown = grown ∙ ap (λ (b : List ℕ). base ++ b ∷ []) (changes_body records) }
+pub records_grown : (due : Bool) (folder : Folder) (entries : ℕ) (told : Told) (old new base : Bodies) (records : List Record) → IsNextBase due folder entries told old base → new ≡ base ++ body_of records ∷ [] → AreGrown due folder entries told old new (each Change records)
+records_grown due folder entries told old new base records next grown = record { base = base; is_base = next; grown = grown ∙ ap (λ (b : List ℕ). base ++ b ∷ []) (changes_body records) }

@@ -5,6 +5,7 @@ use Rattle.std.proofs.lemmas.Bool.{cases_lt}
 use Rattle.std.proofs.lemmas.Bool.Decides.{nat_tests}
 use Rattle.std.proofs.lemmas.List.{map-append}
 use Rattle.std.proofs.lemmas.List.Sums.{sum_by_push}
+use Rattle.disk.specs.declared.file_id.Folder.{Folder}
 use Rattle.gated_log.specs.Batches.{Bodies}
 use Rattle.cursor_store.specs.declared.told.Told.{Told}
 use Rattle.cursor_store.specs.declared.item.Item.{Item}
@@ -47,25 +48,12 @@ is_low count not = elim (cases_lt count 4096) [
   | inr high ↦ let t : nat_le 4096 count ≡ true = grind (arith, nat_tests) in absurd (not_both (nat_le 4096 count) t not)
 ]
 
-by_due : (due : Bool) (entries : ℕ) (told : Told) (base old new : Bodies) (count last : ℕ) (items : List Item) → AreBehind base old count last → (due ≡ false → count < 4096) → AreGrown due entries told old new items
-    → StayFew due entries told base new (counted_on due count (length items)) (length items)
-by_due true entries told base old new count last items behind low grown = record { next = grown.base; is_next = grown.is_base; behind = one_behind grown.base new items grown.grown }
-by_due false entries told base old new count last items behind low grown = record { next = base; is_next = refl; behind = more_behind base old grown.base new count last items behind grown.is_base grown.grown (low refl) }
+by_due : (due : Bool) (folder : Folder) (entries : ℕ) (told : Told) (base old new : Bodies) (count last : ℕ) (items : List Item) → AreBehind base old count last → (due ≡ false → count < 4096) → AreGrown due folder entries told old new items
+    → StayFew due folder entries told base new (counted_on due count (length items)) (length items)
+by_due true folder entries told base old new count last items behind low grown = record { next = grown.base; is_next = grown.is_base; behind = one_behind grown.base new items grown.grown }
+by_due false folder entries told base old new count last items behind low grown = record { next = base; is_next = refl; behind = more_behind base old grown.base new count last items behind grown.is_base grown.grown (low refl) }
 
-pub few_stay : (entries : ℕ) (told : Told) (base old new : Bodies) (count last : ℕ) (can : Bool) (items : List Item) → AreBehind base old count last → AreGrown (is_due_at count can) entries told old new items → can ≡ true
-    → StayFew (is_due_at count can) entries told base new (counted_on (is_due_at count can) count (length items)) (length items)
-few_stay entries told base old new count last false items behind grown is = cc
-few_stay entries told base old new count last true items behind grown is = by_due (nat_le 4096 count && true) entries told base old new count last items behind (λ not. is_low count not) grown
-
--- a trim adds one, whatever is counted
-pub one_trimmed : (base old new : Bodies) (count last : ℕ) (item : Item) → AreBehind base old count last → new ≡ old ++ body_of_items (item ∷ []) ∷ [] → AreBehind base new (counted_on false count 1) (last + 1)
-one_trimmed base old new count last item behind grown =
-    let batches = behind.batches in
-    let all = sum_by_push length batches (item ∷ []) in
-    record {
-      batches = batches ++ (item ∷ []) ∷ [];
-      are = grown ∙ ap (λ (b : Bodies). b ++ body_of_items (item ∷ []) ∷ []) behind.are ∙ append_assoc base (each body_of_items batches) (body_of_items (item ∷ []) ∷ [])
-          ∙ ap (λ (b : Bodies). base ++ b) (sym (map-append body_of_items batches ((item ∷ []) ∷ [])));
-      counted = omega (arith, behind.counted, all);
-      few = omega (arith, behind.few, all);
-    }
+pub few_stay : (folder : Folder) (entries : ℕ) (told : Told) (base old new : Bodies) (count last : ℕ) (can : Bool) (items : List Item) → AreBehind base old count last → AreGrown (is_due_at count can) folder entries told old new items → can ≡ true
+    → StayFew (is_due_at count can) folder entries told base new (counted_on (is_due_at count can) count (length items)) (length items)
+few_stay folder entries told base old new count last false items behind grown is = cc
+few_stay folder entries told base old new count last true items behind grown is = by_due (nat_le 4096 count && true) folder entries told base old new count last items behind (λ not. is_low count not) grown

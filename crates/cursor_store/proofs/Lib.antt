@@ -1,6 +1,7 @@
 mod Appending
 mod Begins
 mod Changes
+mod Copying
 mod Counting
 mod Replacing
 mod Snapshots

@@ -4,6 +4,8 @@ use Rattle.std.proofs.lemmas.Nat.{from_le_bytes-to_le_bytes_8, le_bytes_8}
 use Rattle.std.proofs.lemmas.List.{take-append-drop, length-take, length-take-le, get_or-take, get_or_past}
 use Rattle.std.proofs.lemmas.Bool.Decides.{nat_tests, leb_tells}
 use Rattle.std.specs.Int.{w64, from_le_bytes}
+use Rattle.disk.specs.declared.file_id.Folder.{Folder}
+use Rattle.disk.specs.declared.file_id.Folder.TheVariants as version
 use Rattle.records.specs.declared.record.Record.{Record}
 use Rattle.records.specs.declared.record.Record.TheVariants.{Made, Removed, Acknowledged, AcknowledgedThrough, AcknowledgedRange}
 use Rattle.records.specs.Names.{is_subscription_name}
@@ -26,6 +28,12 @@ abbrev pub HasNumbers : Item → Type 0
 HasNumbers (Change change) = HasPositions change
 HasNumbers (Trim start) = (start.base < 2 ^ 64) × (start.first < 2 ^ 64)
 
+-- version 2 has no trims
+abbrev pub IsIn : Folder → Item → Type 0
+IsIn folder (Change change) = Unit {0}
+IsIn version.One (Trim start) = Unit {0}
+IsIn version.Two (Trim start) = ⊥
+
 -- ---- what was spelled is read
 
 position_read : (p : ℕ) (rest : List ℕ) → p < 2 ^ 64 → first_position (placed p ++ rest) ≡ Some p
@@ -38,16 +46,22 @@ trim_read start rest fits fits' =
     ap (λ (o : Option ℕ). with_base o (placed start.base ++ (placed start.first ++ rest))) (position_read start.base (placed start.first ++ rest) fits)
     ∙ ap (λ (o : Option ℕ). with_segment start.base o (placed start.first ++ rest)) (position_read start.first rest fits')
 
-record_read : (r : Record) (rest : List ℕ) → first_item (spelling r ++ rest) ≡ as_change (first_record (spelling r ++ rest))
-record_read (Made name start) rest = refl
-record_read (Removed name) rest = refl
-record_read (Acknowledged name position) rest = refl
-record_read (AcknowledgedThrough name position) rest = refl
-record_read (AcknowledgedRange name first last) rest = refl
+record_read : (folder : Folder) (r : Record) (rest : List ℕ) → first_item folder (spelling r ++ rest) ≡ as_change (first_record (spelling r ++ rest))
+record_read version.One (Made name start) rest = refl
+record_read version.One (Removed name) rest = refl
+record_read version.One (Acknowledged name position) rest = refl
+record_read version.One (AcknowledgedThrough name position) rest = refl
+record_read version.One (AcknowledgedRange name first last) rest = refl
+record_read version.Two (Made name start) rest = refl
+record_read version.Two (Removed name) rest = refl
+record_read version.Two (Acknowledged name position) rest = refl
+record_read version.Two (AcknowledgedThrough name position) rest = refl
+record_read version.Two (AcknowledgedRange name first last) rest = refl
 
-pub read_item : (item : Item) (rest : List ℕ) → IsNamed item → HasNumbers item → first_item (item_spelling item ++ rest) ≡ Some (item, rest)
-read_item (Change r) rest named fits = record_read r rest ∙ ap (λ (o : Option (Record × List ℕ)). as_change o) (read_spelling r rest named fits)
-read_item (Trim start) rest named fits = ap (λ (l : List ℕ). first_trim l) (append_assoc (placed start.base) (placed start.first) rest) ∙ trim_read start rest fits.0 fits.1
+pub read_item : (folder : Folder) (item : Item) (rest : List ℕ) → IsIn folder item → IsNamed item → HasNumbers item → first_item folder (item_spelling item ++ rest) ≡ Some (item, rest)
+read_item folder (Change r) rest is_in named fits = record_read folder r rest ∙ ap (λ (o : Option (Record × List ℕ)). as_change o) (read_spelling r rest named fits)
+read_item version.One (Trim start) rest is_in named fits = ap (λ (l : List ℕ). first_trim l) (append_assoc (placed start.base) (placed start.first) rest) ∙ trim_read start rest fits.0 fits.1
+read_item version.Two (Trim start) rest is_in named fits = absurd is_in
 
 -- ---- what is read was spelled
 
@@ -111,9 +125,10 @@ change_spelt bytes item rest are is = by_found (first_record bytes) refl is
         subst (λ (x : Item). IsSpelt bytes x rest) (pair_first (Change found.0, found.1) (item, rest) is')
         (record { good = was.good; bytes_are = was.bytes_are ∙ ap (λ (l : List ℕ). spelling found.0 ++ l) (pair_second (Change found.0, found.1) (item, rest) is') })
 
-pub item_spelt : (bytes : List ℕ) (item : Item) (rest : List ℕ) → AreBytes bytes → first_item bytes ≡ Some (item, rest) → IsSpelt bytes item rest
-item_spelt [] item rest are is = absurd (Prim.cc)
-item_spelt (kind ∷ bytes) item rest are is = by_kind (nat_eq kind 6) refl is
+pub item_spelt : (folder : Folder) (bytes : List ℕ) (item : Item) (rest : List ℕ) → AreBytes bytes → first_item folder bytes ≡ Some (item, rest) → IsSpelt bytes item rest
+item_spelt folder [] item rest are is = absurd (Prim.cc)
+item_spelt version.Two (kind ∷ bytes) item rest are is = change_spelt (kind ∷ bytes) item rest are is
+item_spelt version.One (kind ∷ bytes) item rest are is = by_kind (nat_eq kind 6) refl is
   where
     by_kind : (b : Bool) → nat_eq kind 6 ≡ b → cond b (first_trim bytes) (as_change (first_record (kind ∷ bytes))) ≡ Some (item, rest) → IsSpelt (kind ∷ bytes) item rest
     by_kind true six is' =
@@ -123,7 +138,11 @@ item_spelt (kind ∷ bytes) item rest are is = by_kind (nat_eq kind 6) refl is
 
 -- ---- one spelling
 
+in_one : (item : Item) → IsIn version.One item
+in_one (Change change) = tt
+in_one (Trim start) = tt
+
 pub one_spelling : (a b : Item) (x y : List ℕ) → IsNamed a → HasNumbers a → IsNamed b → HasNumbers b → item_spelling a ++ x ≡ item_spelling b ++ y → (a ≡ b) × (x ≡ y)
 one_spelling a b x y good fits good' fits' same =
-    let e : Some (a, x) ≡ Some (b, y) = sym (read_item a x good fits) ∙ ap first_item same ∙ read_item b y good' fits' in
+    let e : Some (a, x) ≡ Some (b, y) = sym (read_item version.One a x (in_one a) good fits) ∙ ap (λ (l : List ℕ). first_item version.One l) same ∙ read_item version.One b y (in_one b) good' fits' in
     (pair_first _ _ e, pair_second _ _ e)

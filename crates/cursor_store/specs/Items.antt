@@ -1,7 +1,8 @@
 -- What the bodies of a slot tell, item by item: where the topic's ledger begins, and its subscriptions.
 use Rattle.std.specs.Prelude.{ℕ, ◌≤◌, ◌^◌, List, [], ◌∷◌}
 use Rattle.std.specs.FinMap as map
-use Rattle.gated_log.specs.Starts.{untrimmed}
+use Rattle.disk.specs.declared.file_id.Folder.{Folder}
+use Rattle.disk.specs.declared.file_id.Folder.TheVariants as version
 use Rattle.records.specs.Maps.{Kept}
 use Rattle.records.specs.Records.{IsFormed, after}
 use Rattle.records.specs.Within.{IsWithin}
@@ -15,9 +16,9 @@ use Rattle.records.specs.Floors.{HaveBelow, StartsFrom}
 abbrev pub told_of : Start → Kept → Told
 told_of start kept = record { start = start; kept = kept }
 
--- before the first item there is no subscription
-abbrev pub untold : Told
-untold = told_of untrimmed map.empty
+-- before the first item there is no subscription, and the ledger begins where the header says
+abbrev pub untold : Start → Told
+untold start = told_of start map.empty
 
 -- what an item makes of it
 abbrev pub told_after : Item → Told → Told
@@ -36,15 +37,16 @@ pub record MayBegin (entries : ℕ) (told : Told) (start : Start) : Type 0 where
   pub acknowledged : HaveBelow start.base told.kept
   pub in_range : start.first ≤ 2 ^ 62
 
--- an item of its form there: a record, which makes no subscription that begins before the ledger does, or a trim
-abbrev pub IsItem : ℕ → Told → Item → Type 0
-IsItem entries told (Change change) = IsFormed entries told.kept change × StartsFrom told.start.base change
-IsItem entries told (Trim start) = MayBegin entries told start
+-- an item of its form there: a record, which makes no subscription that begins before the ledger does, or in version 1 a trim
+abbrev pub IsItem : Folder → ℕ → Told → Item → Type 0
+IsItem folder entries told (Change change) = IsFormed entries told.kept change × StartsFrom told.start.base change
+IsItem version.One entries told (Trim start) = MayBegin entries told start
+IsItem version.Two entries told (Trim start) = ⊥
 
 -- items of their form, each at its place
-abbrev pub AreItems : ℕ → Told → List Item → Type 0
-AreItems entries told [] = Unit {0}
-AreItems entries told (item ∷ items) = IsItem entries told item × AreItems entries (told_after item told) items
+abbrev pub AreItems : Folder → ℕ → Told → List Item → Type 0
+AreItems folder entries told [] = Unit {0}
+AreItems folder entries told (item ∷ items) = IsItem folder entries told item × AreItems folder entries (told_after item told) items
 
 -- what is told fits a ledger of so many entries: this has the kept positions, and may begin where it does
 pub record FitsLedger (entries : ℕ) (told : Told) : Type 0 where

@@ -1,5 +1,6 @@
 -- What a replace writes, and how far it has come.
 use Rattle.std.specs.Prelude.{◌≡◌, ℕ, ◌+◌, ◌≤◌, Bool, true, false, List, Option, None, Some, vec_len}
+use Rattle.disk.specs.declared.file_id.Folder.TheVariants as version
 use Rattle.gated_log.specs.declared.prepared_log.PreparedLog.{PreparedLog}
 use Rattle.gated_log.specs.Batches.{Bodies}
 use Rattle.gated_log.specs.Wholes.{Builds, IsLogOf}
@@ -9,11 +10,11 @@ use Rattle.cursor_store.specs.declared.snapshot_writer.SnapshotWriter.{SnapshotW
 use Rattle.cursor_store.specs.Items.{FitsLedger, AreItems, all_told, untold}
 use Rattle.cursor_store.specs.ItemBytes.{body_of_items, MeansItems}
 
--- bodies that tell this from nothing, beside a ledger of so many entries
+-- behind a header of version 2 that says this start, bodies that tell this from nothing, beside a ledger of so many entries
 pub record IsSnapshot (entries : ℕ) (log : PreparedLog) (told : Told) : Type 0 where
   pub bodies : Bodies
   pub is : IsLogOf log bodies
-  pub means : MeansItems entries untold bodies told
+  pub means : MeansItems version.Two entries (untold told.start) bodies told
 
 -- one where it is due, beside each ledger that it fits; else none
 abbrev pub IsSnapshotIf : Bool → Told → Option PreparedLog → Type 0
@@ -27,10 +28,10 @@ pub record HasWritten (entries : ℕ) (writer : SnapshotWriter) (told : Told) : 
   pub bodies : Bodies
   pub builds : Builds writer.log bodies
   pub before : Told
-  pub means : MeansItems entries untold bodies before
+  pub means : MeansItems version.Two entries (untold told.start) bodies before
   pub items : List Item
   pub body_is : writer.body.items ≡ body_of_items items
-  pub formed : AreItems entries before items
+  pub formed : AreItems version.Two entries before items
   pub told_is : told ≡ all_told items before
 
 -- so many bytes more fit into the body that grows

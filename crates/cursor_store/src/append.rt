@@ -1,5 +1,5 @@
 // Records are appended.
-ghost use Rattle.std.specs.Prelude.{◌≡◌, ◌+◌, ℕ, List, [], ◌∷◌, ◌++◌, Bool, true, false, min, length, OnOk, IsErr, map as each};
+ghost use Rattle.std.specs.Prelude.{◌≡◌, ◌+◌, ℕ, List, [], ◌∷◌, ◌++◌, Bool, true, false, min, length, OnOk, IsErr, if◌then◌else◌, map as each};
 ghost use Rattle.disk.specs.Disk.{Kept as Counted, Failed};
 ghost use Rattle.disk.specs.Contents.{Steady, Appends};
 ghost use Rattle.gated_log.specs.Logs.{IsBatchOf};
@@ -10,7 +10,7 @@ ghost use Rattle.records.specs.Maps.{Kept};
 ghost use Rattle.records.specs.Records.{AreFormed, after_all};
 ghost use Rattle.records.specs.Bytes.{body_of};
 ghost use Rattle.two_slot.specs.Slots.{SlotsOf};
-ghost use Rattle.cursor_store.specs.Cursors.{Holds, StandsFor, IsFor, start_of, content, written, topic_of, failed, counted, is_due};
+ghost use Rattle.cursor_store.specs.Cursors.{Holds, StandsFor, IsFor, start_of, content, written, topic_of, failed, counted, is_due, replaces_left};
 ghost use Rattle.records.specs.Floors.{StartFrom};
 ghost use Rattle.cursor_store.specs.Items.{told_of};
 ghost use Rattle.cursor_store.specs.Behind.{counted_on, AreGrown};
@@ -38,6 +38,7 @@ impl CursorStore {
         ensures count { OnOk result (counted self.new ≡ min 4096 (counted self.old + count)) }
         ensures start { start_of self.new ≡ start_of self.old }
         ensures topic { topic_of self.new ≡ topic_of self.old }
+        ensures left { replaces_left self.new ≡ replaces_left self.old }
         ensures works { OnOk result (failed self.new ≡ false) }
         ensures failed { IsErr result → failed self.new ≡ true }
         ensures remembered { IsErr result → content self.new ≡ content self.old }
@@ -63,8 +64,9 @@ impl CursorStore {
         ensures appends { (entries : ℕ) (start : Start) (kept : Kept) (records : List Record) → IsFor self.old prepared records → AreFormed entries kept records → StartFrom start.base records → Steady (Holds self.old entries start) (written self.old) (S.disk shelf.old) kept →
             Appends result (Steady (Holds self.new entries start) (written self.new)) (λ c. content self.new) (SlotsOf (topic_of self.old)) (StandsFor (topic_of self.old) entries start) (S.disk shelf.old) (S.disk shelf.new) kept (after_all records kept) }
         ensures grows { (entries : ℕ) (start : Start) (kept : Kept) (records : List Record) → IsFor self.old prepared records → Steady (Holds self.old entries start) (written self.old) (S.disk shelf.old) kept →
-            OnOk result (AreGrown (is_due self.old) entries (told_of start kept) (written self.old (S.disk shelf.old).seen) (written self.new (S.disk shelf.new).seen) (each Item.Change records)) }
+            OnOk result (AreGrown (is_due self.old) (topic_of self.old).folder entries (told_of start kept) (written self.old (S.disk shelf.old).seen) (written self.new (S.disk shelf.new).seen) (each Item.Change records)) }
         ensures content { (records : List Record) → IsFor self.old prepared records → OnOk result (content self.new ≡ after_all records (content self.old)) }
+        ensures left { (records : List Record) → IsFor self.old prepared records → OnOk result ((if is_due self.old then replaces_left self.new + 1 else replaces_left self.new) ≡ replaces_left self.old) }
         ensures count { (records : List Record) → IsFor self.old prepared records → OnOk result (counted self.new ≡ counted_on (is_due self.old) (counted self.old) (length records)) }
         ensures start { start_of self.new ≡ start_of self.old }
         ensures topic { topic_of self.new ≡ topic_of self.old }

@@ -1,16 +1,19 @@
 // An opening begins: where do the slots say that the ledger begins, which isn't read yet?
 ghost use Rattle.std.specs.Prelude.{◌≡◌, ◌⊎◌, ◌<◌, true, IsOk, IfOk, IfErr, IsErrOf, IsSome, option_map};
+ghost use Rattle.disk.specs.declared.file_id.CursorSlot.{CursorSlot};
 ghost use Rattle.disk.specs.Disk.{Same, Leaves, Kept as Counted, Failed};
-ghost use Rattle.disk.specs.Areas.{Agree};
+ghost use Rattle.disk.specs.declared.file_id.Folder.{Folder as Version};
+ghost use Rattle.disk.specs.Areas.{Agree, folder_of};
 ghost use Rattle.gated_log.specs.Batches.{Bodies};
 ghost use Rattle.gated_log.specs.Head.{IsHead, head_file};
 ghost use Rattle.gated_log.specs.Reading.{HasRead, reader_id, left_to_read};
+ghost use Rattle.two_slot.specs.Heads.{head_in, heads_topic};
 ghost use Rattle.two_slot.specs.Slots.{SlotsOf};
-ghost use Rattle.cursor_store.specs.Fronts.{BeginsIn, HasHeads, AreSynced, IsNextWhole, topic_of_heads};
+ghost use Rattle.cursor_store.specs.Fronts.{Begins, BeginsIn, HasHeads, AreSynced, IsNextWhole, topic_of_heads};
 
 use crate::read::read_items;
 use crate::{CursorStore, StoreHeads, Told};
-use disk::Shelf;
+use disk::{Folder, Shelf, TopicId};
 use gated_log::{LogHead, LogReader, Refusal, Start, UNTRIMMED};
 use std::alloc::Global;
 use two_slot::SlotHeads;
@@ -54,10 +57,10 @@ fn next_whole<S: Shelf>(reader: &mut LogReader, shelf: &mut S) -> Result<Option<
     }
 }
 
-// Where the front of a slot says that the ledger begins: its whole batches, as far as their bodies are of their form beside some
+// Where the front of a slot of version 1 says that the ledger begins: its whole batches, as far as their bodies are of their form beside some
 // ledger.
 fn front_start<S: Shelf>(alloc: Global, shelf: &mut S, head: &LogHead) -> Result<Start, Refusal>
-    ensures begins { (S.disk shelf.old).honest → IsHead head.now (S.disk shelf.old).seen → IfOk result (λ start. BeginsIn ((S.disk shelf.old).seen (head_file head.now)) start) }
+    ensures begins { folder_of (head_file head.now) ≡ Version.One → (S.disk shelf.old).honest → IsHead head.now (S.disk shelf.old).seen → IfOk result (λ start. BeginsIn ((S.disk shelf.old).seen (head_file head.now)) start) }
     ensures refused { IfErr result (λ e. (e ≡ Refusal.NoMemory) ⊎ (e ≡ Refusal.Device)) }
     ensures cause { IsErrOf result Refusal.Device → Failed (S.disk shelf.old) (S.disk shelf.new) }
     ensures seen { (S.disk shelf.old).honest → Same (S.disk shelf.old).seen (S.disk shelf.new).seen }
@@ -67,22 +70,48 @@ fn front_start<S: Shelf>(alloc: Global, shelf: &mut S, head: &LogHead) -> Result
     let Ok(mut reader) = LogReader::begin(alloc, head) else {
         return Ok(UNTRIMMED);
     };
+    let folder = Folder::One;
     let mut told = Told::new(alloc);
     'bodies: loop {
         let start = told.start;
         let Some(body) = next_whole(&mut reader, shelf)? else {
             return Ok(start);
         };
-        if !read_items(alloc, &body, MOST_ENTRIES, &mut told)? {
+        if !read_items(alloc, folder, &body, MOST_ENTRIES, &mut told)? {
             return Ok(start);
         }
     }
 }
 
+// Where the slots of version 1 say that the ledger begins.
+fn front_of_counting<S: Shelf>(
+    alloc: Global,
+    shelf: &mut S,
+    slots: &SlotHeads,
+) -> Result<Start, Refusal>
+    ensures begins { (heads_topic slots.now).folder ≡ Version.One → (S.disk shelf.old).honest → IsHead (head_in slots.now CursorSlot.Zero) (S.disk shelf.old).seen → IsHead (head_in slots.now CursorSlot.One) (S.disk shelf.old).seen →
+        IfOk result (Begins (heads_topic slots.now) (S.disk shelf.old).seen) }
+    ensures refused { IfErr result (λ e. (e ≡ Refusal.NoMemory) ⊎ (e ≡ Refusal.Device)) }
+    ensures cause { IsErrOf result Refusal.Device → Failed (S.disk shelf.old) (S.disk shelf.new) }
+    ensures seen { (S.disk shelf.old).honest → Same (S.disk shelf.old).seen (S.disk shelf.new).seen }
+    ensures any_moment { (S.disk shelf.old).honest → Leaves (S.disk shelf.old).may_leave (S.disk shelf.old) (S.disk shelf.new) }
+    ensures kept { Counted (S.disk shelf.old) (S.disk shelf.new) }
+{
+    match slots.counting() {
+        Some(slot) => front_start(alloc, shelf, slots.head(slot)),
+        None => Ok(UNTRIMMED),
+    }
+}
+
 impl CursorStore {
-    /// Begins to open the slots of a topic: both are synced, so what is read stays, and the one that counts is read, as far as
-    /// that can be done without the ledger. What stands in them is judged by `open_from`.
-    pub fn begin<S: Shelf>(alloc: Global, shelf: &mut S, topic: u16) -> Result<StoreHeads, Refusal>
+    /// Begins to open the slots of a topic: both are synced, so what is read stays, and where the one that counts
+    /// says that the ledger begins is known; for that a slot of version 1 is read as far as that can be done without the
+    /// ledger. What stands in them is judged by `open_from`.
+    pub fn begin<S: Shelf>(
+        alloc: Global,
+        shelf: &mut S,
+        topic: TopicId,
+    ) -> Result<StoreHeads, Refusal>
         ensures begun { (S.disk shelf.old).honest → IfOk result (λ heads. HasHeads heads (S.disk shelf.new).seen) }
         ensures synced { (S.disk shelf.old).honest → IsOk result → AreSynced (SlotsOf topic) (S.disk shelf.new) }
         ensures topic { IfOk result (λ heads. topic_of_heads heads ≡ topic) }
@@ -97,13 +126,10 @@ impl CursorStore {
         ensures kept { Counted (S.disk shelf.old) (S.disk shelf.new) }
     {
         let slots = SlotHeads::read(shelf, topic)?;
-        let Some(slot) = slots.counting() else {
-            return Ok(StoreHeads {
-                slots,
-                start: UNTRIMMED,
-            });
+        let start = match topic.folder {
+            Folder::One => front_of_counting(alloc, shelf, &slots)?,
+            Folder::Two => slots.start(),
         };
-        let start = front_start(alloc, shelf, slots.head(slot))?;
         Ok(StoreHeads { slots, start })
     }
 }

@@ -10,7 +10,7 @@ ghost use Rattle.cursor_store.specs.Fronts.{HasHeads, AreSynced, topic_of_heads,
 
 use crate::items_fold::ItemsFold;
 use crate::{CursorStore, StoreHeads, Told};
-use disk::Shelf;
+use disk::{Shelf, TopicId};
 use gated_log::Refusal;
 use std::alloc::Global;
 use two_slot::TwoSlot;
@@ -22,7 +22,7 @@ impl CursorStore {
     pub fn open<S: Shelf>(
         alloc: Global,
         shelf: &mut S,
-        topic: u16,
+        topic: TopicId,
         entries: u64,
     ) -> Result<CursorStore, Refusal>
         requires { entries ≤ 2 ^ 62 }
@@ -43,6 +43,7 @@ impl CursorStore {
     {
         let mut fold = ItemsFold {
             alloc,
+            folder: topic.folder,
             entries,
             begun: false,
             told: Told::new(alloc),
@@ -79,6 +80,7 @@ impl CursorStore {
     {
         let mut fold = ItemsFold {
             alloc,
+            folder: heads.slots.topic().folder,
             entries,
             begun: false,
             told: Told::new(alloc),

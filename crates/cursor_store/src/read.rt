@@ -3,12 +3,13 @@ ghost use Rattle.std.specs.Prelude.{◌≡◌, ◌≤◌, ◌^◌, true, false, 
 ghost use Rattle.cursor_store.specs.ItemBytes.{IsItemsBody, first_trim, first_item, HasNoItem, HasItem};
 
 use crate::{Item, Told};
+use disk::Folder;
 use gated_log::Start;
 use records::{RECORDS, first_position, first_record};
 use std::alloc::{AllocError, Global};
 
-// The kind of a trim, its first byte. Our own format.
-pub(crate) const TRIM: u8 = 6;
+// The kind of a trim, its first byte, in a folder of version 1. Our own format.
+const TRIM: u8 = 6;
 
 // The trim whose position and segment begin these bytes, with what stands behind it.
 fn first_trim(bytes: &[u8]) -> Option<(Item, &[u8])>
@@ -19,14 +20,18 @@ fn first_trim(bytes: &[u8]) -> Option<(Item, &[u8])>
     Some((Item::Trim(Start { base, first }), behind))
 }
 
-// The item at the beginning of these bytes, with what stands behind it.
-fn first_item(alloc: Global, bytes: &[u8]) -> Result<Option<(Item, &[u8])>, AllocError>
-    ensures { IfOk result (λ first. option_map (λ found. (found.0, found.1.now)) first ≡ first_item bytes.now) }
+// The item at the beginning of these bytes, with what stands behind it. Version 2 has records alone.
+fn first_item(
+    alloc: Global,
+    folder: Folder,
+    bytes: &[u8],
+) -> Result<Option<(Item, &[u8])>, AllocError>
+    ensures { IfOk result (λ first. option_map (λ found. (found.0, found.1.now)) first ≡ first_item folder bytes.now) }
 {
     let Some((kind, behind)) = bytes.split_first() else {
         return Ok(None);
     };
-    if *kind == TRIM {
+    if folder == Folder::One && *kind == TRIM {
         return Ok(first_trim(behind));
     }
     let Some((change, behind)) = first_record(alloc, bytes)? else {
@@ -38,14 +43,15 @@ fn first_item(alloc: Global, bytes: &[u8]) -> Result<Option<(Item, &[u8])>, Allo
 // Applies the item at the beginning of these bytes, and answers what stands behind it, where one of its form stands there.
 fn apply_first<'a>(
     alloc: Global,
+    folder: Folder,
     bytes: &'a [u8],
     entries: u64,
     told: &mut Told,
 ) -> Result<Option<&'a [u8]>, AllocError>
     requires { entries ≤ 2 ^ 62 }
-    ensures { IfOk result (λ first. MatchOption first (HasNoItem entries told.old bytes.now) (λ behind. HasItem entries told.old told.new bytes.now behind.now)) }
+    ensures { IfOk result (λ first. MatchOption first (HasNoItem folder entries told.old bytes.now) (λ behind. HasItem folder entries told.old told.new bytes.now behind.now)) }
 {
-    let Some((item, behind)) = first_item(alloc, bytes)? else {
+    let Some((item, behind)) = first_item(alloc, folder, bytes)? else {
         return Ok(None);
     };
     let applied = told.apply(&item, entries);
@@ -60,13 +66,14 @@ fn apply_first<'a>(
 // of its form. The items are then applied. Where it isn't, or there is no memory, some may have been.
 pub(crate) fn read_items(
     alloc: Global,
+    folder: Folder,
     body: &[u8],
     entries: u64,
     told: &mut Told,
 ) -> Result<bool, AllocError>
     requires { entries ≤ 2 ^ 62 }
-    ensures formed { IfOk result (λ formed. formed ≡ true → IsItemsBody entries told.old body.now told.new) }
-    ensures unformed { IfOk result (λ formed. formed ≡ false → (after_it : Told) → ¬ IsItemsBody entries told.old body.now after_it) }
+    ensures formed { IfOk result (λ formed. formed ≡ true → IsItemsBody folder entries told.old body.now told.new) }
+    ensures unformed { IfOk result (λ formed. formed ≡ false → (after_it : Told) → ¬ IsItemsBody folder entries told.old body.now after_it) }
 {
     let Some((kind, items)) = body.split_first() else {
         return Ok(false);
@@ -76,7 +83,7 @@ pub(crate) fn read_items(
     }
     let mut rest = items;
     while !rest.is_empty() {
-        let Some(behind) = apply_first(alloc, rest, entries, told)? else {
+        let Some(behind) = apply_first(alloc, folder, rest, entries, told)? else {
             return Ok(false);
         };
         rest = behind;

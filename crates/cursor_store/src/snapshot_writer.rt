@@ -1,40 +1,39 @@
 // A snapshot is written into memory.
-ghost use Rattle.std.specs.Prelude.{◌≤◌, vec_len};
+ghost use Rattle.std.specs.Prelude.{◌≡◌, ◌≤◌, vec_len};
+ghost use Rattle.disk.specs.declared.file_id.Folder.{Folder as Version};
 
-use crate::write::add_trim;
-use gated_log::{LogBuilder, MAX_BODY, PrepareError, PreparedLog, Start, UNTRIMMED};
+use disk::Folder;
+use gated_log::{LogBuilder, MAX_BODY, PrepareError, PreparedLog};
 use records::{RECORDS, add_made, add_range};
 use std::alloc::{AllocError, Global};
 
-/// A snapshot in the making: its whole bodies, and the one that grows.
+/// A snapshot in the making, for a folder of version 2: its whole bodies, and the one that grows.
 #[derive(Drop)]
 pub(crate) struct SnapshotWriter {
     pub(crate) log: LogBuilder,
     pub(crate) body: Vec<u8>,
+    ghost two: { log.folder ≡ Version.Two },
     ghost fits: { vec_len body ≤ 33554432 },
 }
 
 impl SnapshotWriter {
-    ghost use Rattle.std.specs.Prelude.{◌≡◌, ◌+◌, true, ℕ, IfOk, IsErrOf};
-    ghost use Rattle.std.specs.FinMap as map;
+    ghost use Rattle.std.specs.Prelude.{◌+◌, true, ℕ, IfOk, IsErrOf};
     ghost use Rattle.records.specs.declared.record.Record.{Record};
     ghost use Rattle.records.specs.Names.{is_subscription_name};
     ghost use Rattle.cursor_store.specs.declared.told.Told.{Told};
     ghost use Rattle.cursor_store.specs.declared.item.Item.{Item};
-    ghost use Rattle.cursor_store.specs.Items.{MayBegin, IsItem, told_after, told_of, untold};
+    ghost use Rattle.gated_log.specs.declared.start.Start.{Start as Begins};
+    ghost use Rattle.gated_log.specs.Wholes.{folder_in};
+    ghost use Rattle.cursor_store.specs.Items.{IsItem, told_after, untold};
     ghost use Rattle.cursor_store.specs.Snapshots.{HasWritten, IsSnapshot, HasRoom};
 
-    // Nothing is written yet but where the ledger begins, unless that is at its first entry.
-    pub(crate) fn new(alloc: Global, start: Start) -> Result<SnapshotWriter, AllocError>
-        ensures { (entries : ℕ) → MayBegin entries untold start → IfOk result (λ writer. HasWritten entries writer (told_of start map.empty)) }
+    // Nothing is written yet.
+    pub(crate) fn new(alloc: Global) -> Result<SnapshotWriter, AllocError>
+        ensures { (entries : ℕ) (start : Begins) → IfOk result (λ writer. HasWritten entries writer (untold start)) }
     {
-        let log = LogBuilder::new(alloc)?;
+        let log = LogBuilder::new(alloc, Folder::Two)?;
         let mut body = Vec::new(alloc);
         body.push(RECORDS)?;
-        if start == UNTRIMMED {
-            return Ok(SnapshotWriter { log, body });
-        }
-        add_trim(&mut body, start)?;
         Ok(SnapshotWriter { log, body })
     }
 
@@ -67,7 +66,7 @@ impl SnapshotWriter {
     // With the record of a subscription that is made.
     pub(crate) fn with_made(self, name: &str, start: u64) -> Result<SnapshotWriter, PrepareError>
         requires { is_subscription_name name.now ≡ true }
-        ensures written { (entries : ℕ) (told : Told) → HasWritten entries self told → IsItem entries told (Item.Change (Record.Made name.now start)) →
+        ensures written { (entries : ℕ) (told : Told) → HasWritten entries self told → IsItem Version.Two entries told (Item.Change (Record.Made name.now start)) →
             IfOk result (λ writer. HasWritten entries writer (told_after (Item.Change (Record.Made name.now start)) told)) }
         ensures fits { ¬ IsErrOf result PrepareError.TooLarge }
     {
@@ -85,7 +84,7 @@ impl SnapshotWriter {
         last: u64,
     ) -> Result<SnapshotWriter, PrepareError>
         requires { is_subscription_name name.now ≡ true }
-        ensures written { (entries : ℕ) (told : Told) → HasWritten entries self told → IsItem entries told (Item.Change (Record.AcknowledgedRange name.now first last)) →
+        ensures written { (entries : ℕ) (told : Told) → HasWritten entries self told → IsItem Version.Two entries told (Item.Change (Record.AcknowledgedRange name.now first last)) →
             IfOk result (λ writer. HasWritten entries writer (told_after (Item.Change (Record.AcknowledgedRange name.now first last)) told)) }
         ensures fits { ¬ IsErrOf result PrepareError.TooLarge }
     {
@@ -98,6 +97,7 @@ impl SnapshotWriter {
     // The whole snapshot. A body without items is left out.
     pub(crate) fn finish(self) -> Result<PreparedLog, PrepareError>
         ensures written { (entries : ℕ) (told : Told) → HasWritten entries self told → IfOk result (λ log. IsSnapshot entries log told) }
+        ensures two { IfOk result (λ log. folder_in log ≡ Version.Two) }
         ensures fits { ¬ IsErrOf result PrepareError.TooLarge }
     {
         let SnapshotWriter { log, body } = self;

@@ -1,9 +1,10 @@
 // A store of subscriptions in two slots.
 ghost use Rattle.std.specs.Prelude.{◌≡◌};
+ghost use Rattle.std.proofs.Common.{refl};
 
 use crate::snapshot::snapshot_if;
 use crate::{CursorStore, PreparedRecords, PreparedTrim, StoreHeads, SubStore, Told};
-use disk::{DeviceError, Shelf};
+use disk::{DeviceError, Shelf, TopicId};
 use gated_log::{BatchList, MAX_BODY, PrepareError, PreparedBatch, Refusal, Start};
 use records::{KeptCursor, Record, fits, write_records};
 use std::alloc::{AllocError, Global};
@@ -11,7 +12,7 @@ use two_slot::TwoSlot;
 
 impl SubStore for CursorStore {
     ghost use Rattle.two_slot.specs.Slots.{SlotsOf};
-    ghost use Rattle.cursor_store.specs.Cursors.{Holds, StandsFor, IsFor, start_of, content, written, topic_of, counted, can_replace, failed};
+    ghost use Rattle.cursor_store.specs.Cursors.{Holds, StandsFor, IsFor, start_of, content, written, topic_of, counted, can_replace, replaces_left, failed};
     ghost use Rattle.cursor_store.specs.Fronts as fronts;
     ghost use Rattle.cursor_store.specs.FrontLaws as front;
     ghost use Rattle.cursor_store.specs.Trimming as trimming;
@@ -52,13 +53,15 @@ impl SubStore for CursorStore {
 
     ghost can_replace = { can_replace };
 
+    ghost replaces_left = { replaces_left };
+
     ghost failed = { failed };
 
     ghost is_for = { IsFor };
 
     ghost trims = { trimming.IsTrimFor };
 
-    fn create<S: Shelf>(alloc: Global, shelf: &mut S, topic: u16) -> Result<Self, DeviceError> {
+    fn create<S: Shelf>(alloc: Global, shelf: &mut S, topic: TopicId) -> Result<Self, DeviceError> {
         let slots = TwoSlot::create(alloc, shelf, topic)?;
         Ok(CursorStore {
             alloc,
@@ -71,13 +74,17 @@ impl SubStore for CursorStore {
     fn open<S: Shelf>(
         alloc: Global,
         shelf: &mut S,
-        topic: u16,
+        topic: TopicId,
         entries: u64,
     ) -> Result<Self, Refusal> {
         CursorStore::open(alloc, shelf, topic, entries)
     }
 
-    fn begin<S: Shelf>(alloc: Global, shelf: &mut S, topic: u16) -> Result<StoreHeads, Refusal> {
+    fn begin<S: Shelf>(
+        alloc: Global,
+        shelf: &mut S,
+        topic: TopicId,
+    ) -> Result<StoreHeads, Refusal> {
         CursorStore::begin(alloc, shelf, topic)
     }
 
@@ -94,8 +101,8 @@ impl SubStore for CursorStore {
         CursorStore::open_from(alloc, shelf, heads, entries)
     }
 
-    fn topic(&self) -> u16 {
-        self.slots.id()
+    fn topic(&self) -> TopicId {
+        self.slots.id().topic
     }
 
     fn start(&self) -> Start {
@@ -124,7 +131,7 @@ impl SubStore for CursorStore {
         let mut builder = self.slots.builder(body.len())?;
         builder.extend_from_slice(&body)?;
         let batch = PreparedBatch::new(builder)?;
-        let snapshot = snapshot_if(self.is_due(), self.alloc, &self.told)?;
+        let snapshot = snapshot_if(self.is_due(), self.alloc, &self.told.kept)?;
         Ok(PreparedRecords {
             batch,
             count: records.len() as u64,
@@ -147,14 +154,16 @@ impl SubStore for CursorStore {
         start: Start,
     ) -> Result<Option<PreparedTrim>, PrepareError> {
         match prepared {
-            Some(prepared) => self.trim_beside(&prepared.kept, start),
-            None => self.trim_beside(&self.told.kept, start),
+            Some(prepared) => self.trim_beside(&prepared.kept, prepared.snapshot.is_some(), start),
+            None => self.trim_beside(&self.told.kept, false, start),
         }
     }
 
     fn trim<S: Shelf>(&mut self, shelf: &mut S, prepared: PreparedTrim) -> Result<(), DeviceError> {
-        self.append_trim(shelf, prepared)
+        self.replace_trimmed(shelf, prepared)
     }
+
+    ghost replaces = { λ store. refl };
 
     ghost holds_works = { λ store entries start image kept holds. holds.slots.works };
 
@@ -175,8 +184,6 @@ impl SubStore for CursorStore {
     ghost begins_one = { front.begins_one };
 
     ghost begins_stands = { front.begins_stands };
-
-    ghost begins_in_range = { front.begins_in_range };
 
     ghost begins_local = { front.begins_local };
 

@@ -1,9 +1,10 @@
 // The store of a topic's durable subscriptions.
-ghost use Rattle.std.specs.Prelude.{◌≡◌, ◌⊎◌, ◌<◌, ◌≤◌, ◌^◌, ◌↔◌, ◌++◌, [], ◌∷◌, List, ℕ, Bool, true, false, length, IfOk, IfErr, OnOk, IsOk, IsErr, IsErrOf, IsTrue, option_copied, map as each};
+ghost use Rattle.std.specs.Prelude.{◌≡◌, ◌⊎◌, ◌<◌, ◌≤◌, ◌^◌, ◌↔◌, ◌++◌, [], ◌∷◌, List, ℕ, Bool, true, false, length, IfOk, IfErr, OnOk, IsOk, IsErr, IsErrOf, IsTrue, option_copied, is_some, ◌&&◌, ◌+◌, nat_lt, if◌then◌else◌, map as each};
 ghost use Rattle.std.specs.List.{AllByRecursion};
 ghost use Rattle.std.specs.FinMap as map;
 ghost use Rattle.records.specs.Names.{is_subscription_name};
 ghost use Rattle.records.specs.declared.kept_cursor.KeptCursor.{KeptCursor as Cursor};
+ghost use Rattle.disk.specs.declared.file_id.TopicId.{TopicId};
 ghost use Rattle.disk.specs.declared.file_id.FileId.{FileId};
 ghost use Rattle.disk.specs.Disk.{Disk, Image, Same, Leaves, Kept as Counted, Failed};
 ghost use Rattle.disk.specs.Areas.{Agree, Within};
@@ -19,13 +20,13 @@ ghost use Rattle.records.specs.Bytes.{body_of};
 ghost use Rattle.gated_log.specs.declared.refusal.Refusal.{Refusal};
 ghost use Rattle.gated_log.specs.Batches.{Bodies};
 ghost use Rattle.two_slot.specs.Slots.{SlotsOf};
-ghost use Rattle.cursor_store.specs.ItemBytes.{body_of_items};
 ghost use Rattle.cursor_store.specs.Fronts.{AreSynced};
-ghost use Rattle.cursor_store.specs.Trimming.{IsTrimIf, IsKeptBehind};
+ghost use Rattle.cursor_store.specs.Trimming.{HasGeneration, IsTrimIf, IsKeptBehind};
+ghost use Rattle.cursor_store.specs.ItemBytes.{Means};
 ghost use Rattle.cursor_store.specs.Behind.{is_due_at, counted_on, AreGrown};
 ghost use Rattle.disk.specs.Contents.{Steady, Appends};
 
-use disk::{DeviceError, Shelf};
+use disk::{DeviceError, Shelf, TopicId};
 use gated_log::{PrepareError, Refusal, Start};
 use records::{KeptCursor, Record};
 use std::alloc::{AllocError, Global};
@@ -44,23 +45,23 @@ pub trait SubStore: Drop {
     type PreparedTrim: Drop;
 
     /// The topic whose subscriptions it has.
-    ghost topic_of: { Self → ℕ };
+    ghost topic_of: { Self → TopicId };
 
     /// The files of the store of a topic.
-    ghost area: { ℕ → FileId → Type 0 };
+    ghost area: { TopicId → FileId → Type 0 };
 
     /// What these files alone stand for, beside a ledger of so many entries: whoever opens them finds where it begins, and these
     /// subscriptions.
-    ghost stands: { ℕ → ℕ → Begins → Image → Kept → Type 0 };
+    ghost stands: { TopicId → ℕ → Begins → Image → Kept → Type 0 };
 
     /// Why these files alone are refused, beside a ledger of so many entries: the first fault in them.
-    ghost faulty: { ℕ → ℕ → Image → Refusal → Type 0 };
+    ghost faulty: { TopicId → ℕ → Image → Refusal → Type 0 };
 
     /// Where these files alone say that the ledger begins, as far as they can be read without it.
-    ghost begins: { ℕ → Image → Begins → Type 0 };
+    ghost begins: { TopicId → Image → Begins → Type 0 };
 
     /// The topic of whose files these are the heads.
-    ghost topic_of_heads: { Self.Heads → ℕ };
+    ghost topic_of_heads: { Self.Heads → TopicId };
 
     /// Where these files say that the ledger begins.
     ghost start_of_heads: { Self.Heads → Begins };
@@ -81,11 +82,14 @@ pub trait SubStore: Drop {
     /// The bodies in its files, as many as it remembers.
     ghost written: { Self → Image → Bodies };
 
-    /// How many records were appended since the store was made, opened or written anew, but no more than 4,096; a trim is one.
+    /// How many records were appended since the store was made, opened or written anew, but no more than 4,096.
     ghost counted: { Self → ℕ };
 
     /// What is kept can be written anew once more.
     ghost can_replace: { Self → Bool };
+
+    /// For how many replaces there is a generation.
+    ghost replaces_left: { Self → ℕ };
 
     /// An append failed. It refuses until it is opened again.
     ghost failed: { Self → Bool };
@@ -98,7 +102,7 @@ pub trait SubStore: Drop {
 
     /// Makes a store without subscriptions, whatever was in its files, with eight device calls. Takes no memory. Until the
     /// `Ok` a crash may leave anything of these files.
-    fn create<S: Shelf>(alloc: Global, shelf: &mut S, topic: u16) -> Result<Self, DeviceError>
+    fn create<S: Shelf>(alloc: Global, shelf: &mut S, topic: TopicId) -> Result<Self, DeviceError>
         ensures created { (entries : ℕ) → (S.disk shelf.old).honest → IfOk result (λ store. Steady (holds store entries untrimmed) (written store) (S.disk shelf.new) map.empty) }
         ensures topic { IfOk result (λ store. topic_of store ≡ topic) }
         ensures start { IfOk result (λ store. start_of store ≡ untrimmed) }
@@ -114,7 +118,7 @@ pub trait SubStore: Drop {
     fn open<S: Shelf>(
         alloc: Global,
         shelf: &mut S,
-        topic: u16,
+        topic: TopicId,
         entries: u64,
     ) -> Result<Self, Refusal>
         requires { entries ≤ 2 ^ 62 }
@@ -135,7 +139,7 @@ pub trait SubStore: Drop {
 
     /// Begins to open the store of a topic whose ledger isn't read yet, whatever a crash left of its files. They are synced first,
     /// so what is read stays. No fault in them is told here.
-    fn begin<S: Shelf>(alloc: Global, shelf: &mut S, topic: u16) -> Result<Self::Heads, Refusal>
+    fn begin<S: Shelf>(alloc: Global, shelf: &mut S, topic: TopicId) -> Result<Self::Heads, Refusal>
         ensures begun { (S.disk shelf.old).honest → IfOk result (λ heads. has_heads heads (S.disk shelf.new).seen) }
         ensures synced { (S.disk shelf.old).honest → IsOk result → AreSynced (area topic) (S.disk shelf.new) }
         ensures topic { IfOk result (λ heads. topic_of_heads heads ≡ topic) }
@@ -175,7 +179,7 @@ pub trait SubStore: Drop {
         ensures kept { Counted (S.disk shelf.old) (S.disk shelf.new) };
 
     /// The topic whose subscriptions it has.
-    fn topic(&self) -> u16
+    fn topic(&self) -> TopicId
         ensures { result ≡ topic_of self.now };
 
     /// Where the ledger begins.
@@ -211,6 +215,7 @@ pub trait SubStore: Drop {
         // Whatever it answers, the next append goes the way that this one would.
         ensures counted { counted self.new ≡ counted self.old }
         ensures can_replace { can_replace self.new ≡ can_replace self.old }
+        ensures replaces_left { replaces_left self.new ≡ replaces_left self.old }
         ensures failed { failed self.new ≡ failed self.old }
         ensures too_large { IsErrOf result PrepareError.TooLarge ↔ (33554432 < length (body_of records.now)) };
 
@@ -227,9 +232,12 @@ pub trait SubStore: Drop {
 
         ensures start { start_of self.new ≡ start_of self.old }
         ensures content { (records : List Record) → is_for self.old prepared records → OnOk result (content self.new ≡ after_all records (content self.old)) }
+        // A replace that is due takes a generation.
+        ensures replaces_left { (records : List Record) → is_for self.old prepared records →
+            OnOk result ((if is_due_at (counted self.old) (can_replace self.old) then replaces_left self.new + 1 else replaces_left self.new) ≡ replaces_left self.old) }
         // A body more is written, behind what was there or behind bodies that tell what was told; and its records are counted.
         ensures grows { (entries : ℕ) (start : Begins) (kept : Kept) (records : List Record) → is_for self.old prepared records → Steady (holds self.old entries start) (written self.old) (S.disk shelf.old) kept →
-            OnOk result (AreGrown (is_due_at (counted self.old) (can_replace self.old)) entries (told_of start kept) (written self.old (S.disk shelf.old).seen) (written self.new (S.disk shelf.new).seen) (each Item.Change records)) }
+            OnOk result (AreGrown (is_due_at (counted self.old) (can_replace self.old)) (topic_of self.old).folder entries (told_of start kept) (written self.old (S.disk shelf.old).seen) (written self.new (S.disk shelf.new).seen) (each Item.Change records)) }
         ensures counted { (records : List Record) → is_for self.old prepared records → OnOk result (counted self.new ≡ counted_on (is_due_at (counted self.old) (can_replace self.old)) (counted self.old) (length records)) }
         ensures topic { topic_of self.new ≡ topic_of self.old }
         ensures works { OnOk result (failed self.new ≡ false) }
@@ -246,25 +254,26 @@ pub trait SubStore: Drop {
         prepared: Option<&Self::Prepared>,
         start: Start,
     ) -> Result<Option<Self::PreparedTrim>, PrepareError>
-        ensures prepared { (kept : Kept) → IsKeptBehind (is_for self.now) (content self.now) (option_copied prepared.entry) kept → IfOk result (λ trim. IsTrimIf trims trim (start_of self.now) kept start) }
+        ensures prepared { (kept : Kept) → IsKeptBehind (is_for self.now) (content self.now) (option_copied prepared.entry) kept → IfOk result (λ trim. IsTrimIf trims (HasGeneration (is_some prepared.entry && is_due_at (counted self.now) (can_replace self.now)) (replaces_left self.now)) trim (start_of self.now) kept start) }
         ensures fits { ¬ IsErrOf result PrepareError.TooLarge };
 
-    /// The ledger begins there from now on. Device calls alone: four. It counts as one record. After an error the store is failed:
-    /// each later append answers it without a device call.
+    /// The ledger begins there from now on: what is kept is written anew, beside that. Device calls alone: six. After an error the
+    /// store is failed: each later append answers it without a device call.
     fn trim<S: Shelf>(
         &mut self,
         shelf: &mut S,
         prepared: Self::PreparedTrim,
     ) -> Result<(), DeviceError>
+        requires { 0 < replaces_left self.old }
         // A crash at any moment of the call leaves the old start or this one, with what is kept, and other files as they were.
         ensures trims { (entries : ℕ) (from start : Begins) (kept : Kept) → trims prepared from kept start → start.base ≤ entries → Steady (holds self.old entries from) (written self.old) (S.disk shelf.old) kept →
             Appends result (λ d s. Steady (holds self.new entries s) (written self.new) d kept) (λ c. start_of self.new) (area (topic_of self.old)) (λ image s. stands (topic_of self.old) entries s image kept) (S.disk shelf.old) (S.disk shelf.new) from start }
 
         ensures start { (from start : Begins) (kept : Kept) → trims prepared from kept start → OnOk result (start_of self.new ≡ start) }
-        // A body more is written, behind what was there.
-        ensures grows { (entries : ℕ) (from start : Begins) (kept : Kept) → trims prepared from kept start → Steady (holds self.old entries from) (written self.old) (S.disk shelf.old) kept →
-            OnOk result (written self.new (S.disk shelf.new).seen ≡ written self.old (S.disk shelf.old).seen ++ body_of_items (Item.Trim start ∷ []) ∷ []) }
-        ensures counted { OnOk result (counted self.new ≡ counted_on false (counted self.old) 1) }
+        // Bodies that tell what is kept are written in the place of all.
+        ensures anew { (entries : ℕ) (from start : Begins) (kept : Kept) → trims prepared from kept start → start.base ≤ entries → Steady (holds self.old entries from) (written self.old) (S.disk shelf.old) kept →
+            OnOk result (Means entries start (written self.new (S.disk shelf.new).seen) kept) }
+        ensures counted { OnOk result (counted self.new ≡ 0) }
         ensures content { content self.new ≡ content self.old }
         ensures topic { topic_of self.new ≡ topic_of self.old }
         ensures works { OnOk result (failed self.new ≡ false) }
@@ -273,6 +282,9 @@ pub trait SubStore: Drop {
         ensures stays_failed { failed self.old ≡ true → IsErr result × (shelf.new ≡ shelf.old) }
         ensures cause { failed self.old ≡ false → IsErr result → Failed (S.disk shelf.old) (S.disk shelf.new) }
         ensures kept { Counted (S.disk shelf.old) (S.disk shelf.new) };
+
+    // What is kept can be written anew where there is a generation for it.
+    ghost replaces: { (store : Self) → can_replace store ≡ nat_lt 0 (replaces_left store) };
 
     // The store works where it holds subscriptions, and what it holds is what it remembers.
     ghost holds_works: { (store : Self) (entries : ℕ) (start : Begins) (image : Image) (kept : Kept) → holds store entries start image kept → failed store ≡ false };
@@ -284,23 +296,20 @@ pub trait SubStore: Drop {
     ghost holds_stands: { (store : Self) (entries : ℕ) (start : Begins) (image : Image) (kept : Kept) → holds store entries start image kept → stands (topic_of store) entries start image kept };
 
     // Its files stand for one start and one map of subscriptions, which fit the ledger; and a longer ledger changes nothing.
-    ghost stands_one: { (t entries : ℕ) (start start' : Begins) (image : Image) (one other : Kept) → entries ≤ 2 ^ 62 → stands t entries start image one → stands t entries start' image other → (start ≡ start') × (one ≡ other) };
+    ghost stands_one: { (t : TopicId) (entries : ℕ) (start start' : Begins) (image : Image) (one other : Kept) → entries ≤ 2 ^ 62 → stands t entries start image one → stands t entries start' image other → (start ≡ start') × (one ≡ other) };
 
-    ghost stands_fits: { (t entries : ℕ) (start : Begins) (image : Image) (kept : Kept) → stands t entries start image kept → FitsLedger entries (told_of start kept) };
+    ghost stands_fits: { (t : TopicId) (entries : ℕ) (start : Begins) (image : Image) (kept : Kept) → stands t entries start image kept → FitsLedger entries (told_of start kept) };
 
-    ghost stands_longer: { (t entries more : ℕ) (start : Begins) (image : Image) (kept : Kept) → entries ≤ more → stands t entries start image kept → stands t more start image kept };
+    ghost stands_longer: { (t : TopicId) (entries more : ℕ) (start : Begins) (image : Image) (kept : Kept) → entries ≤ more → stands t entries start image kept → stands t more start image kept };
 
     ghost holds_longer: { (store : Self) (entries more : ℕ) (start : Begins) (image : Image) (kept : Kept) → entries ≤ more → holds store entries start image kept → holds store more start image kept };
 
     // Without the ledger its files say one start, and where they stand for something, that one.
-    ghost begins_one: { (t : ℕ) (image : Image) (one other : Begins) → begins t image one → begins t image other → one ≡ other };
+    ghost begins_one: { (t : TopicId) (image : Image) (one other : Begins) → begins t image one → begins t image other → one ≡ other };
 
-    ghost begins_stands: { (t entries : ℕ) (start said : Begins) (image : Image) (kept : Kept) → entries ≤ 2 ^ 62 → stands t entries start image kept → begins t image said → said ≡ start };
+    ghost begins_stands: { (t : TopicId) (entries : ℕ) (start said : Begins) (image : Image) (kept : Kept) → entries ≤ 2 ^ 62 → stands t entries start image kept → begins t image said → said ≡ start };
 
-    // A ledger may begin there.
-    ghost begins_in_range: { (t : ℕ) (image : Image) (start : Begins) → begins t image start → (start.base ≤ 2 ^ 62) × (start.first ≤ 2 ^ 62) };
-
-    ghost begins_local: { (t : ℕ) (a b : Image) (start : Begins) → Agree (area t) a b → begins t a start → begins t b start };
+    ghost begins_local: { (t : TopicId) (a b : Image) (start : Begins) → Agree (area t) a b → begins t a start → begins t b start };
 
     // The heads say it, too.
     ghost heads_begin: { (heads : Self.Heads) (image : Image) → has_heads heads image → begins (topic_of_heads heads) image (start_of_heads heads) };
@@ -308,14 +317,14 @@ pub trait SubStore: Drop {
     ghost heads_local: { (heads : Self.Heads) (a b : Image) → Agree (area (topic_of_heads heads)) a b → has_heads heads a → has_heads heads b };
 
     // Its files have one first fault, and where they stand for subscriptions they have none.
-    ghost faulty_one: { (t entries : ℕ) (image : Image) (one other : Refusal) → faulty t entries image one → faulty t entries image other → one ≡ other };
+    ghost faulty_one: { (t : TopicId) (entries : ℕ) (image : Image) (one other : Refusal) → faulty t entries image one → faulty t entries image other → one ≡ other };
 
-    ghost stands_sound: { (t entries : ℕ) (start : Begins) (image : Image) (kept : Kept) (refusal : Refusal) → stands t entries start image kept → ¬ faulty t entries image refusal };
+    ghost stands_sound: { (t : TopicId) (entries : ℕ) (start : Begins) (image : Image) (kept : Kept) (refusal : Refusal) → stands t entries start image kept → ¬ faulty t entries image refusal };
 
     // It looks at its own files alone, which are slots.
-    ghost area_slots: { (t : ℕ) (f : FileId) → area t f → SlotsOf t f };
+    ghost area_slots: { (t : TopicId) (f : FileId) → area t f → SlotsOf t f };
 
-    ghost stands_local: { (t entries : ℕ) (start : Begins) (a b : Image) (kept : Kept) → Agree (area t) a b → stands t entries start a kept → stands t entries start b kept };
+    ghost stands_local: { (t : TopicId) (entries : ℕ) (start : Begins) (a b : Image) (kept : Kept) → Agree (area t) a b → stands t entries start a kept → stands t entries start b kept };
 
     ghost holds_local: { (store : Self) (entries : ℕ) (start : Begins) (a b : Image) (kept : Kept) → Agree (area (topic_of store)) a b → holds store entries start a kept → holds store entries start b kept };
 

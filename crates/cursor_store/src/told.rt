@@ -1,5 +1,7 @@
 // What the bodies of a slot tell.
 ghost use Rattle.std.specs.Prelude.{◌≡◌, ◌↔◌, ◌≤◌, ◌^◌, true, IsTrue, IfOk, MatchBool};
+ghost use Rattle.disk.specs.declared.file_id.Folder.{Folder};
+ghost use Rattle.gated_log.specs.Starts.{untrimmed};
 ghost use Rattle.records.specs.Names.{is_subscription_name};
 ghost use Rattle.records.specs.Records.{AreFormed, name_of};
 ghost use Rattle.records.specs.Floors.{HaveBelow, StartsFrom, StartFrom};
@@ -12,7 +14,7 @@ use records::{KeptSubscriptions, Record};
 use std::alloc::{AllocError, Global};
 
 // How many segments a chain has at most.
-const MOST_SEGMENTS: u64 = 1 << 62;
+pub(crate) const MOST_SEGMENTS: u64 = 1 << 62;
 
 /// What the bodies of a slot tell: where the topic's ledger begins, and its subscriptions.
 #[derive(Drop)]
@@ -65,7 +67,7 @@ fn starts_from(change: &Record, base: u64) -> bool
 impl Told {
     // Nothing is told yet.
     pub(crate) fn new(alloc: Global) -> Told
-        ensures { result ≡ untold }
+        ensures { result ≡ untold untrimmed }
     {
         Told {
             start: UNTRIMMED,
@@ -89,7 +91,7 @@ impl Told {
     fn change(&mut self, change: &Record, entries: u64) -> Result<bool, AllocError>
         requires entries { entries ≤ 2 ^ 62 }
         requires name { is_subscription_name (name_of change.now) ≡ true }
-        ensures { IfOk result (λ formed. MatchBool formed (IsItem entries self.old (Item.Change change.now) × (self.new ≡ told_after (Item.Change change.now) self.old)) (¬ IsItem entries self.old (Item.Change change.now))) }
+        ensures { IfOk result (λ formed. MatchBool formed (IsItem Folder.One entries self.old (Item.Change change.now) × (self.new ≡ told_after (Item.Change change.now) self.old)) (¬ IsItem Folder.One entries self.old (Item.Change change.now))) }
     {
         if !starts_from(change, self.start.base) {
             return Ok(false);
@@ -105,7 +107,7 @@ impl Told {
     pub(crate) fn apply(&mut self, item: &Item, entries: u64) -> Result<bool, AllocError>
         requires entries { entries ≤ 2 ^ 62 }
         requires name { IsNamed item.now }
-        ensures { IfOk result (λ formed. MatchBool formed (IsItem entries self.old item.now × (self.new ≡ told_after item.now self.old)) (¬ IsItem entries self.old item.now)) }
+        ensures { IfOk result (λ formed. MatchBool formed (IsItem Folder.One entries self.old item.now × (self.new ≡ told_after item.now self.old)) (¬ IsItem Folder.One entries self.old item.now)) }
     {
         match item {
             Item::Change(change) => self.change(change, entries),

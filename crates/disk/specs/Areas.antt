@@ -1,5 +1,8 @@
 -- The files of a topic, and calls that work on some files alone.
 use Rattle.std.proofs.Common.{◌≡◌, ◌≢◌, inl, ℕ, sym, ◌∙◌, refl, ap, arith}
+use Rattle.disk.specs.declared.file_id.Folder.{Folder}
+use Rattle.disk.specs.declared.file_id.Folder.TheVariants.{Two}
+use Rattle.disk.specs.declared.file_id.TopicId.{TopicId}
 use Rattle.disk.specs.declared.file_id.FileId.{FileId}
 use Rattle.disk.specs.declared.file_id.FileId.TheVariants.{Catalog, Segment, Slot}
 use Rattle.disk.specs.Disk.{Disk, Image, Leaves, Outcome}
@@ -9,11 +12,33 @@ use Rattle.disk.specs.Moments.{joins, weaken}
 abbrev pub Area : Type 1
 Area = FileId → Type 0
 
--- the files of the topic of this number
+-- the version of the folder that a file is of
+abbrev pub folder_of : FileId → Folder
+folder_of (Catalog folder) = folder
+folder_of (Segment topic number) = topic.folder
+folder_of (Slot topic slot) = topic.folder
+
+-- all files of this version
+abbrev pub InFolder : Folder → Area
+InFolder folder f = folder_of f ≡ folder
+
+-- the files of the topic
+abbrev pub FilesOf : TopicId → FileId → Type 0
+FilesOf t (Catalog folder) = ⊥
+FilesOf t (Segment topic number) = topic ≡ t
+FilesOf t (Slot topic slot) = topic ≡ t
+
+-- the topic of this number in a folder that is served
+abbrev pub served : ℕ → TopicId
+served number = record { folder = Two; number = number }
+
+-- the list of topics in a folder that is served
+abbrev pub catalog_file : FileId
+catalog_file = Catalog Two
+
+-- the files of the topic of this number in a folder that is served
 abbrev pub OfTopic : ℕ → FileId → Type 0
-OfTopic t Catalog = ⊥
-OfTopic t (Segment topic number) = topic ≡ t
-OfTopic t (Slot topic slot) = topic ≡ t
+OfTopic t = FilesOf (served t)
 
 -- both have the same in each file of the area
 abbrev pub Agree : Area → Image → Image → Type 0
@@ -27,9 +52,9 @@ pub record Within (area : Area) (P : Image → Type 0) (old new : Disk) : Type 0
 
 -- no file is of two topics
 pub apart : (t k : ℕ) → t ≢ k → (f : FileId) → OfTopic k f → ¬ OfTopic t f
-apart t k differ Catalog own = λ other. own
-apart t k differ (Segment topic number) own = λ other. differ (sym other ∙ own)
-apart t k differ (Slot topic slot) own = λ other. differ (sym other ∙ own)
+apart t k differ (Catalog folder) own = λ other. own
+apart t k differ (Segment topic number) own = λ other. differ (ap (λ (id : TopicId). id.number) (sym other ∙ own))
+apart t k differ (Slot topic slot) own = λ other. differ (ap (λ (id : TopicId). id.number) (sym other ∙ own))
 
 -- a device that nothing was asked of
 pub stays_within : (area : Area) (P : Image → Type 0) (d : Disk) → ((c : Image) → d.may_leave c → P c) → Within area P d d

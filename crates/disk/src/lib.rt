@@ -11,6 +11,6 @@ mod shelf;
 
 pub use crash_shelf::{CrashForm, CrashShelf, Fuse};
 pub use durable::persist;
-pub use file_id::{CursorSlot, FileId};
+pub use file_id::{CATALOG, CursorSlot, FileId, Folder, TopicId, folder_of, served};
 pub use history::History;
 pub use shelf::{DeviceError, Shelf};

@@ -7,7 +7,7 @@ mod steps;
 mod sweeps;
 mod telling;
 
-use disk::{DeviceError, FileId, Shelf};
+use disk::{CATALOG, DeviceError, FileId, Shelf, served};
 use disk_fs::FsShelf;
 use log::sink::Discard;
 use log::{LevelFilter, Logged};
@@ -23,8 +23,11 @@ use watched_files::Watched;
 // The file of a number, of which 0 is the catalog's.
 fn file_of(number: u64) -> FileId {
     match number {
-        0 => FileId::Catalog,
-        _ => FileId::Segment { topic: 3, number },
+        0 => CATALOG,
+        _ => FileId::Segment {
+            topic: served(3),
+            number,
+        },
     }
 }
 

@@ -1,6 +1,6 @@
 -- What a crash may leave after a write, a cut and a sync.
 use Rattle.std.proofs.Common.{◌≡◌, ⊎_elim, ℕ, List, [], ◌∷◌, ◌++◌, refl, sym, ap, subst}
-use Rattle.std.specs.Prelude.{Result, Ok, Err}
+use Rattle.std.specs.Prelude.{Result, Ok, Err, OnOk}
 use Rattle.disk.specs.declared.crash_shelf.CrashForm.{CrashForm}
 use Rattle.disk.specs.declared.crash_shelf.CrashForm.TheVariants.{Old, New, Fill}
 use Rattle.disk.specs.declared.file_id.FileId.{FileId}
@@ -47,6 +47,10 @@ module _ (file : FileId) (old new : MemShelf) where
       (λ same. subst (λ (g : FileId). (states new g).bytes ≡ (states old g).bytes) same (ap (λ (s : FileState). s.bytes) counted.done.there))
       (λ other. ap (λ (s : FileState). s.bytes) (counted.done.elsewhere f other))
       (this_or_other file f)
+
+  pub sync_seen : (outcome : Result (Unit {0}) DeviceError) → Syncs outcome → OnOk outcome (Unit {0} → Same (disk_of old).seen (disk_of new).seen)
+  sync_seen (Err e) counted = tt
+  sync_seen (Ok x) counted = λ honest i f. same_bytes (Ok x) counted f i
 
   pub sync_torn : (outcome : Result (Unit {0}) DeviceError) → Syncs outcome → Changes file (λ was is. LeftOf file (disk_of old) is) (disk_of old).seen (disk_of new).seen
   sync_torn outcome counted = record {

@@ -3,6 +3,7 @@ use Rattle.std.proofs.Common.{◌≡◌, ◌<◌, ◌∙◌, ℕ, false, List, m
 use Rattle.std.specs.Prelude.{slice_get, option_map}
 use Rattle.std.proofs.lemmas.List.{length-map}
 use Rattle.std.proofs.lemmas.Option.{slice_get-map, slice_get_within}
+use Rattle.disk.specs.Areas.{served}
 use Rattle.disk.specs.Disk.{Disk, Image}
 use Rattle.managed_ledger.specs.Entries.{Ledger}
 use Rattle.managed_ledger.specs.Laid.{IsLaidOut}
@@ -25,7 +26,7 @@ use Rattle.folder.specs.Looking.{AreTold, AreCounted, HaveSegments, AreFound}
 
 -- the segments of a topic, as its stores over files have them
 abbrev pub segments_laid : ℕ → Image → List ℕ → Type 0
-segments_laid = lay IsLaidOut SubscriptionsStand
+segments_laid number = lay IsLaidOut SubscriptionsStand (served number)
 
 module _ {T S : Type 0} {store : StoreMembers T} (disk : S → Disk) (files_stand : ℕ → Image → Ledger → Kept → Type 0) (files : Image) (node : Node T S store) (opened : IsJustOpened files_stand files (state_of disk node)) where
   -- its topics, with their stores

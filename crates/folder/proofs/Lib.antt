@@ -1,3 +1,4 @@
 pub mod Counted
 pub mod Once
 pub mod Told
+pub mod Upgraded

@@ -1,7 +1,8 @@
 -- How a node is made.
 use Rattle.std.specs.Prelude.{◌≡◌, ◌⊎◌, ◌++◌, ℕ, Result, List, codes, IsErr, IsErrOf}
 use Rattle.std.specs.Fmt.{decimal}
-use Rattle.disk.specs.declared.file_id.FileId.TheVariants.{Catalog as catalog_file}
+use Rattle.disk.specs.declared.file_id.Folder.TheVariants.{One, Two}
+use Rattle.disk.specs.declared.file_id.FileId.TheVariants.{Catalog}
 use Rattle.disk.specs.Disk.{Disk, Image, Same, Leaves}
 use Rattle.gated_log.specs.Headers.{HasOpenHeader}
 use Rattle.gated_log.specs.declared.refusal.Refusal.{Refusal}
@@ -14,9 +15,9 @@ use Rattle.folder.specs.Faults.{IsOutage}
 abbrev pub initialised_line : ℕ → List ℕ
 initialised_line count = codes "initialised, " ++ (decimal count ++ codes " entries a ledger\n")
 
--- a list of topics is there, sound or not: its file has an open header
+-- a list of topics is there, of either version, sound or not: its file has an open header
 abbrev pub HasList : Image → Type 0
-HasList files = HasOpenHeader (files catalog_file)
+HasList files = HasOpenHeader One (files (Catalog One)) ⊎ HasOpenHeader Two (files (Catalog Two))
 
 -- Why no node is made where the opening of a list of topics is refused so: behind an open header there is one, sound or not.
 abbrev pub fault_of_making : Refusal → FolderFault

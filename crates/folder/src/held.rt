@@ -6,7 +6,7 @@ ghost use Rattle.folder.specs.Faults.{IsFaultOf, IsFaultOfHolding};
 
 use crate::fault::{FolderFault, fault_at, fault_of_lock};
 use crate::holder::tell_holder;
-use disk::{FileId, Shelf};
+use disk::{FileId, Folder as Version, Shelf};
 use disk_fs::FsShelf;
 use gated_log::Refusal;
 use log::Log;
@@ -170,10 +170,15 @@ fn open_lock<R: AllocGlobal + Files<File = File>>(rt: &R, path: &str) -> io::Res
     }
 }
 
-// Whether the file of a list of topics stands in a folder.
+// Whether the file of a list of topics stands in a folder, of either version.
 fn has_list<R: AllocGlobal + Files>(rt: &R, path: &str) -> io::Result<bool> {
-    let list = format!(in rt.alloc(); "{path}/{}", FileId::Catalog)?;
-    fs::exists(rt, list.as_str())
+    for folder in [Version::Two, Version::One] {
+        let list = format!(in rt.alloc(); "{path}/{}", FileId::Catalog(folder))?;
+        if fs::exists(rt, list.as_str())? {
+            return Ok(true);
+        }
+    }
+    Ok(false)
 }
 
 // A lock is taken through a file that may be written, which some file systems want.

@@ -9,9 +9,11 @@ mod holder;
 mod looking;
 mod making;
 mod sink;
+mod upgrading;
 
 pub use fault::{FolderFault, exit_status};
 pub use held::Folder;
 pub use looking::{inspect, inspect_on};
 pub use making::{init, init_on};
 pub use sink::Sink;
+pub use upgrading::{upgrade, upgrade_on};

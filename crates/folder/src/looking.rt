@@ -95,10 +95,13 @@ fn statuses_on<S: Shelf + Drop>(alloc: Global, shelf: S) -> Result<Vec<TopicStat
 {
     let text = String::from_str(alloc, SERVICE_URL)?;
     let url = ReplyText::new(text);
-    match Node::open(alloc, Site { url, shelf }) {
-        Ok(node) => Ok(statuses(alloc, &node)?),
-        Err((refusal, _)) => Err(FolderFault::Refused(refusal)),
-    }
+    let node = match Node::open(alloc, Site { url, shelf }) {
+        Ok(node) => node,
+        Err((refusal, _)) => return Err(FolderFault::Refused(refusal)),
+    };
+    let told = statuses(alloc, &node);
+    drop(node);
+    Ok(told?)
 }
 
 // What all topics of the node have.

@@ -72,7 +72,7 @@ fn holds_topics<R: AllocGlobal + Files>(rt: &R, path: &str) -> io::Result<bool> 
     Ok(false)
 }
 
-// Whether a file of this name is one of a topic, of this version of a folder or of the next one.
+// Whether a file of this name is one of a topic, of a folder of either version.
 fn is_of_a_topic(name: &str) -> bool {
     (name.starts_with('t') || name.starts_with('u')) && name.ends_with(".dat")
 }
@@ -93,7 +93,7 @@ fn look_for_list<R: AllocGlobal + Log + Files<File = File>>(
 ) -> Result<(), FolderFault> {
     let folder = Folder::as_it_is(rt, path)?;
     let mut shelf = folder.reading_shelf(rt)?;
-    match Catalog::open(rt.alloc(), &mut shelf) {
+    match Catalog::open_newest(rt.alloc(), &mut shelf) {
         Ok(_) => Ok(()),
         Err(refusal) => Err(fault_of_making(refusal)),
     }
@@ -113,7 +113,7 @@ pub fn init_on<S: Shelf + Drop>(
     ensures faults { IfErr result IsFaultOfMaking }
     ensures cause { IsErrOf result (FolderFault.Refused Device) → Failed (S.disk shelf.old) (S.disk shelf.new) }
 {
-    match Catalog::open(alloc, shelf) {
+    match Catalog::open_newest(alloc, shelf) {
         Ok(_) => return Err(FolderFault::AlreadyInitialised),
         Err(Refusal::NotInitialised) => {}
         Err(refusal) => return Err(fault_of_making(refusal)),

@@ -10,3 +10,5 @@ mod Further
 mod Folding
 mod Overwriting
 mod Building
+mod Copied
+pub mod Parts

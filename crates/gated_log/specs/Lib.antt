@@ -1,4 +1,5 @@
 pub mod Refusals
+pub mod Labels
 pub mod Batches
 pub mod Gates
 pub mod Headers
@@ -14,3 +15,4 @@ pub mod OneFault
 pub mod Torn
 pub mod Wholes
 pub mod Starts
+pub mod Copies

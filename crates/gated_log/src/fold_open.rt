@@ -15,7 +15,7 @@ use disk::{FileId, Shelf};
 use std::alloc::Global;
 
 impl GatedLog {
-    /// Opens the file of a log, whatever a crash left of it, and hands its number and its bodies to
+    /// Opens the file of a log, whatever a crash left of it, and hands its label and its bodies to
     /// a fold. It is synced first, so what is read stays, and read once. The first fault is told,
     /// with the offset of the gate behind which it stands.
     pub fn open_with<S: Shelf, F: Fold>(
@@ -26,7 +26,7 @@ impl GatedLog {
     ) -> Result<GatedLog, Refusal>
         // The log holds the bodies that the fold has taken; where the device isn't honest it has taken some.
         ensures opened { (before : List Link) → F.holds fold.old before →
-            IfOk result (λ log. (bodies : Bodies) × ((S.disk shelf.old).honest → Settled (LogHolds log) (S.disk shelf.new) bodies) × F.holds fold.new (before ++ record { number = (log_id log).number; bodies = bodies } ∷ [])) }
+            IfOk result (λ log. (bodies : Bodies) × ((S.disk shelf.old).honest → Settled (LogHolds log) (S.disk shelf.new) bodies) × F.holds fold.new (before ++ record { label = (log_id log).label; bodies = bodies } ∷ [])) }
         // Or the fault that stands in the file is told.
         ensures refused { (before : List Link) → (S.disk shelf.old).honest → F.holds fold.old before →
             IfErr result (λ e. (e ≡ Refusal.NoMemory) ⊎ ((e ≡ Refusal.Device) ⊎ IsFault (behind (F.form (F.rule fold.old)) before) file ((S.disk shelf.old).seen file) e)) }
@@ -51,7 +51,7 @@ impl GatedLog {
         fold: &mut F,
     ) -> Result<GatedLog, Refusal>
         ensures opened { (before : List Link) → F.holds fold.old before →
-            IfOk result (λ log. (bodies : Bodies) × ((S.disk shelf.old).honest → HasHead head.now (S.disk shelf.old) → Settled (LogHolds log) (S.disk shelf.new) bodies) × F.holds fold.new (before ++ record { number = (log_id log).number; bodies = bodies } ∷ [])) }
+            IfOk result (λ log. (bodies : Bodies) × ((S.disk shelf.old).honest → HasHead head.now (S.disk shelf.old) → Settled (LogHolds log) (S.disk shelf.new) bodies) × F.holds fold.new (before ++ record { label = (log_id log).label; bodies = bodies } ∷ [])) }
         ensures refused { (before : List Link) → (S.disk shelf.old).honest → HasHead head.now (S.disk shelf.old) → F.holds fold.old before →
             IfErr result (λ e. (e ≡ Refusal.NoMemory) ⊎ ((e ≡ Refusal.Device) ⊎ IsFault (behind (F.form (F.rule fold.old)) before) (head_file head.now) ((S.disk shelf.old).seen (head_file head.now)) e)) }
         ensures rule { F.rule fold.new ≡ F.rule fold.old }
@@ -64,7 +64,7 @@ impl GatedLog {
     {
         let file = head.file;
         let mut reader = LogReader::begin(alloc, head)?;
-        if !fold.begin(reader.id().number)? {
+        if !fold.begin(reader.id().label)? {
             return Err(Refusal::Damaged { file, offset: 0 });
         }
         'bodies: loop {

@@ -1,11 +1,11 @@
 // The head of a file that is being opened.
 ghost use Rattle.std.specs.Prelude.{◌≡◌, ◌≤◌, ◌^◌};
 
-use crate::header::{AtHeader, at_header, number_in};
-use disk::{DeviceError, FileId, Shelf};
+use crate::header::{AtHeader, at_header, header_size, number_in};
+use disk::{DeviceError, FileId, Shelf, folder_of};
 
 /// The head of a file that is being opened: its size in bytes, what its header says, and the number
-/// in its header whatever that says, which is nothing of a file of fewer than sixteen bytes.
+/// in its header whatever that says, which is nothing of a file with fewer bytes than a header has.
 #[derive(Drop)]
 pub struct LogHead {
     pub(crate) file: FileId,
@@ -33,15 +33,23 @@ impl LogHead {
     {
         shelf.sync(file)?;
         let size = shelf.length(file)?;
-        let mut head = [0; 17];
-        let count = shelf.read(file, 0, &mut head)?;
+        let folder = folder_of(file);
+        let mut head = [0; 33];
+        let count = shelf.read(file, 0, &mut head[..header_size(folder) + 1])?;
         let head = &head[..count];
         Ok(LogHead {
             file,
             size,
-            header: at_header(head),
-            number: number_in(head),
+            header: at_header(folder, head),
+            number: number_in(folder, head),
         })
+    }
+
+    /// The file.
+    pub fn file(&self) -> FileId
+        ensures { result ≡ head_file self.now }
+    {
+        self.file
     }
 
     /// Its size, in bytes.

@@ -5,6 +5,7 @@
 
 mod batch_list;
 mod builder;
+mod copy;
 mod create;
 mod fold;
 mod fold_open;
@@ -12,6 +13,7 @@ mod gate;
 mod gated_file;
 mod head;
 mod header;
+mod label;
 mod law;
 mod log;
 mod log_id;
@@ -33,7 +35,8 @@ pub use create::{lay_closed, open_header};
 pub use fold::Fold;
 pub use gated_file::GatedFile;
 pub use head::LogHead;
-pub use header::{AtHeader, at_header};
+pub use header::{AtHeader, at_header, header_size};
+pub use label::Label;
 pub use law::{
     batches_give_their_bodies, bodies_stand_behind_their_gates, every_file_is_a_log_or_has_a_fault,
     file_stands_for_one_list, files_have_one_fault, logs_have_no_fault,

@@ -1,20 +1,20 @@
 // A whole log is built in memory before it is written.
-ghost use Rattle.std.specs.Prelude.{◌≤◌, vec_len};
+ghost use Rattle.std.specs.Prelude.{◌+◌, ◌≤◌, vec_len};
+ghost use Rattle.gated_log.specs.Labels.{header_size};
 
 use crate::prepared::{CLOSED, OPEN};
-use crate::{MAX_BODY, PrepareError};
+use crate::{MAX_BODY, PrepareError, header_size};
+use disk::Folder;
 use std::alloc::{AllocError, Global};
 
-// How many bytes a header has behind its gate.
-pub(crate) const HEADER_BEHIND_GATE: usize = 15;
-
-/// A whole log that is being built: its batches so far, behind open gates, and before them room for the header.
+/// A whole log that is being built for a file of a folder of this version: its batches so far, behind open gates, and before them room for the header.
 #[derive(Drop)]
 pub struct LogBuilder {
     pub(crate) alloc: Global,
+    pub(crate) folder: Folder,
     pub(crate) count: u64,
     pub(crate) bytes: Vec<u8>,
-    ghost roomy: { 15 ≤ vec_len bytes },
+    ghost roomy: { header_size folder ≤ vec_len bytes + 1 },
     ghost few: { count ≤ vec_len bytes },
 }
 
@@ -23,9 +23,10 @@ pub struct LogBuilder {
 #[derive(Drop)]
 pub struct PreparedLog {
     pub(crate) alloc: Global,
+    pub(crate) folder: Folder,
     pub(crate) count: u64,
     pub(crate) bytes: Vec<u8>,
-    ghost roomy: { 16 ≤ vec_len bytes },
+    ghost roomy: { header_size folder ≤ vec_len bytes },
     ghost few: { count ≤ vec_len bytes },
 }
 
@@ -34,14 +35,17 @@ impl LogBuilder {
     ghost use Rattle.gated_log.specs.Batches.{Bodies};
     ghost use Rattle.gated_log.specs.Wholes.{Builds, IsLogOf};
 
-    /// No batch yet.
-    pub fn new(alloc: Global) -> Result<LogBuilder, AllocError>
-        ensures { IfOk result (λ builder. Builds builder []) }
+    /// No batch yet, of a log in a folder of this version.
+    pub fn new(alloc: Global, folder: Folder) -> Result<LogBuilder, AllocError>
+        ensures folder { IfOk result (λ builder. builder.folder ≡ folder) }
+        ensures built { IfOk result (λ builder. Builds builder []) }
     {
-        let mut bytes = Vec::with_capacity(alloc, HEADER_BEHIND_GATE + 1)?;
-        bytes.extend_from_slice(&[0; HEADER_BEHIND_GATE])?;
+        let size = header_size(folder);
+        let mut bytes = Vec::with_capacity(alloc, size)?;
+        bytes.extend_from_slice(&[0; 31][..size - 1])?;
         Ok(LogBuilder {
             alloc,
+            folder,
             count: 0,
             bytes,
         })
@@ -50,6 +54,7 @@ impl LogBuilder {
     /// With the batch of a body more.
     pub fn with_body(mut self, body: &[u8]) -> Result<LogBuilder, PrepareError>
         ensures grown { (bodies : Bodies) → Builds self bodies → IfOk result (λ builder. Builds builder (bodies ++ body.now ∷ [])) }
+        ensures folder { IfOk result (λ builder. builder.folder ≡ self.folder) }
         ensures too_large { IsErrOf result PrepareError.TooLarge ↔ (33554432 < length body.now) }
     {
         if body.len() > MAX_BODY {
@@ -65,11 +70,13 @@ impl LogBuilder {
 
     /// The whole log.
     pub fn finish(mut self) -> Result<PreparedLog, AllocError>
-        ensures { (bodies : Bodies) → Builds self bodies → IfOk result (λ log. IsLogOf log bodies) }
+        ensures folder { IfOk result (λ log. log.folder ≡ self.folder) }
+        ensures built { (bodies : Bodies) → Builds self bodies → IfOk result (λ log. IsLogOf log bodies) }
     {
         self.bytes.push(CLOSED)?;
         Ok(PreparedLog {
             alloc: self.alloc,
+            folder: self.folder,
             count: self.count,
             bytes: self.bytes,
         })

@@ -1,6 +1,7 @@
 // Bytes of a log are read.
 ghost use Rattle.std.specs.Prelude.{◌≡◌, ◌⊎◌, ◌+◌, ◌≤◌, true, false, length, take, drop, IfOk, IfErr, IsErrOf};
 ghost use Rattle.disk.specs.Disk.{Same, Leaves, Kept, Failed};
+ghost use Rattle.disk.specs.Areas.{folder_of};
 ghost use Rattle.gated_log.specs.Batches.{Bodies, opened};
 ghost use Rattle.gated_log.specs.Logs.{LogHolds, log_id, log_failed};
 
@@ -18,9 +19,9 @@ impl GatedLog {
         offset: u64,
         size: u32,
     ) -> Result<Vec<u8>, ReadError>
-        ensures bytes { (bodies : Bodies) → (S.disk shelf.old).honest → LogHolds self.now (S.disk shelf.old).seen bodies → offset + size ≤ length (opened (log_id self.now).number bodies) →
-            IfOk result (λ bytes. bytes.items ≡ take size (drop offset (opened (log_id self.now).number bodies))) }
-        ensures refused { (bodies : Bodies) → (S.disk shelf.old).honest → LogHolds self.now (S.disk shelf.old).seen bodies → offset + size ≤ length (opened (log_id self.now).number bodies) →
+        ensures bytes { (bodies : Bodies) → (S.disk shelf.old).honest → LogHolds self.now (S.disk shelf.old).seen bodies → offset + size ≤ length (opened (folder_of (log_id self.now).file) (log_id self.now).label bodies) →
+            IfOk result (λ bytes. bytes.items ≡ take size (drop offset (opened (folder_of (log_id self.now).file) (log_id self.now).label bodies))) }
+        ensures refused { (bodies : Bodies) → (S.disk shelf.old).honest → LogHolds self.now (S.disk shelf.old).seen bodies → offset + size ≤ length (opened (folder_of (log_id self.now).file) (log_id self.now).label bodies) →
             IfErr result (λ e. (e ≡ ReadError.NoMemory) ⊎ ((e ≡ ReadError.Device) × Failed (S.disk shelf.old) (S.disk shelf.new))) }
         ensures stays_failed { log_failed self.now ≡ true → IsErrOf result ReadError.Device × (shelf.new ≡ shelf.old) }
         ensures cause { log_failed self.now ≡ false → IsErrOf result ReadError.Device → Failed (S.disk shelf.old) (S.disk shelf.new) }

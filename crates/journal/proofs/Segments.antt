@@ -1,6 +1,7 @@
 -- An opening goes from segment to segment.
 use Rattle.std.proofs.Common.{◌≡◌, ◌⊎◌, inl, inr, ℕ, ◌+◌, List, [], ◌∷◌, ◌++◌, length, map, true, false, refl, sym, ◌∙◌, ap, subst, arith}
 use Rattle.std.specs.List.{flat_map}
+use Rattle.disk.specs.declared.file_id.TopicId.{TopicId}
 use Rattle.disk.specs.declared.file_id.FileId.{FileId}
 use Rattle.disk.specs.declared.file_id.FileId.TheVariants.{Segment}
 use Rattle.disk.specs.Disk.{Disk, Image, Leaves, Kept}
@@ -8,7 +9,7 @@ use Rattle.gated_log.specs.declared.log.GatedLog.{GatedLog}
 use Rattle.gated_log.specs.declared.refusal.Refusal.{Refusal}
 use Rattle.gated_log.specs.declared.refusal.Refusal.TheVariants.{Device, NotInitialised, Version, Damaged, NoMemory, TooLarge}
 use Rattle.gated_log.specs.Batches.{Bodies}
-use Rattle.gated_log.specs.Folds.{Link, Form, behind, begun, grown, IsNumberFault, IsBatchFault, IsFault}
+use Rattle.gated_log.specs.Folds.{Link, Form, behind, begun, grown, IsLabelFault, IsBatchFault, IsFault}
 use Rattle.gated_log.specs.Headers.{IsHeaderDamaged}
 use Rattle.disk.specs.Contents.{Settled as LogSettled}
 use Rattle.gated_log.specs.Logs.{LogHolds, log_id}
@@ -16,20 +17,20 @@ use Rattle.journal.specs.declared.journal.Journal.{Journal}
 use Rattle.journal.specs.Chains.{Chain, entry, end_mark, batches_of, closed_batches_of, links_of}
 use Rattle.journal.specs.Journals.{Holds, Settled, LogAt, ClosedHold, body_in}
 use Rattle.journal.specs.Links.{closed_length, closed_push, closed_stand, holds_as}
-use Rattle.journal.specs.Folded.{refusal_of_named}
-use Rattle.journal.specs.Folded.{AreOpen, AreClosed, AllClosed, logs_form, logs_hold, segment_of, segment_form, segments_push, last_so, so_last, last_open_last, closed_logs_last, IsNamedFault, IsChainFault}
+use Rattle.journal.specs.Folded.{refusal_of_named, AreOpen, AreClosed, AllClosed, logs_form, logs_hold, segment_of, segment_form, segments_push, last_so, so_last, last_open_last, closed_logs_last, IsNamedFault, IsChainFault}
+use Rattle.disk.specs.Areas.{folder_of}
 use Rattle.disk.specs.Moments.{joins}
 
 -- the closed segments, in what reads give and in what a crash leaves
-pub record HoldNow (topic from : ℕ) (disk : Disk) (closed : List GatedLog) (links : List Link) : Type 0 where
+pub record HoldNow (topic : TopicId) (from : ℕ) (disk : Disk) (closed : List GatedLog) (links : List Link) : Type 0 where
   pub now : ClosedHold topic from disk.seen closed links
   pub left : (c : Image) → disk.may_leave c → ClosedHold topic from c closed links
 
-pub hold_still : (topic from : ℕ) (mid new : Disk) (closed : List GatedLog) (links : List Link) → HoldNow topic from mid closed links → new.seen ≡ mid.seen → Leaves mid.may_leave mid new → HoldNow topic from new closed links
+pub hold_still : (topic : TopicId) (from : ℕ) (mid new : Disk) (closed : List GatedLog) (links : List Link) → HoldNow topic from mid closed links → new.seen ≡ mid.seen → Leaves mid.may_leave mid new → HoldNow topic from new closed links
 hold_still topic from mid new closed links hold seen leaves = record { now = subst (λ (i : Image). ClosedHold topic from i closed links) (sym seen) hold.now; left = λ c may. hold.left c (leaves.now c may) }
 
 -- what an opening keeps true from segment to segment
-pub record Going (topic from : ℕ) (first now : Disk) (held holds : List Link → Type 0) (closed : List GatedLog) : Type 0 where
+pub record Going (topic : TopicId) (from : ℕ) (first now : Disk) (held holds : List Link → Type 0) (closed : List GatedLog) : Type 0 where
   pub kept : Kept first now
   pub seen : first.honest → now.seen ≡ first.seen
   pub any_moment : first.honest → Leaves first.may_leave first now
@@ -60,10 +61,10 @@ fault_same a b file bytes NotInitialised to from is = is
 fault_same a b file bytes Version to from is = is
 fault_same a b file bytes (Damaged of offset) to from is = (is.0, damage is.1)
   where
-    damage : ((IsHeaderDamaged bytes ⊎ IsNumberFault a bytes) × (offset ≡ 0)) ⊎ IsBatchFault a offset bytes
-        → ((IsHeaderDamaged bytes ⊎ IsNumberFault b bytes) × (offset ≡ 0)) ⊎ IsBatchFault b offset bytes
+    damage : ((IsHeaderDamaged (folder_of file) bytes ⊎ IsLabelFault (folder_of file) a bytes) × (offset ≡ 0)) ⊎ IsBatchFault (folder_of file) a offset bytes
+        → ((IsHeaderDamaged (folder_of file) bytes ⊎ IsLabelFault (folder_of file) b bytes) × (offset ≡ 0)) ⊎ IsBatchFault (folder_of file) b offset bytes
     damage (inl (inl bad, at)) = inl (inl bad, at)
-    damage (inl (inr bad, at)) = inl (inr (record { number = bad.number; long = bad.long; is_open = bad.is_open; bad = λ good. bad.bad (from (begun bad.number) good) }), at)
+    damage (inl (inr bad, at)) = inl (inr (record { label = bad.label; long = bad.long; is_open = bad.is_open; bad = λ good. bad.bad (from (begun bad.label) good) }), at)
     damage (inr there) = inr (record {
       log = there.log;
       rest = there.rest;
@@ -79,7 +80,7 @@ fault_same a b file bytes NoMemory to from is = is
 fault_same a b file bytes TooLarge to from is = is
 
 -- a refusal to open a segment tells the first fault of the chain
-pub chain_fault : (form : List Link → Type 0) (topic from : ℕ) (image : Image) (closed : List GatedLog) (logs : List Link) (told : Refusal) → AllClosed logs → ClosedHold topic from image closed (map segment_of logs) → form (map segment_of logs)
+pub chain_fault : (form : List Link → Type 0) (topic : TopicId) (from : ℕ) (image : Image) (closed : List GatedLog) (logs : List Link) (told : Refusal) → AllClosed logs → ClosedHold topic from image closed (map segment_of logs) → form (map segment_of logs)
     → IsFault (behind (logs_form form) logs) (Segment topic (from + length closed)) (image (Segment topic (from + length closed))) told → IsChainFault form topic from image (refusal_of_named (Segment topic (from + length closed)) told)
 chain_fault form topic from image closed logs told are hold formed is =
     let links = map segment_of logs in
@@ -95,27 +96,27 @@ chain_fault form topic from image closed logs told are hold formed is =
     }
 
 -- no memory, the device, or a fault of the chain
-abbrev pub Refused : (List Link → Type 0) → ℕ → ℕ → Image → Refusal → Type 0
+abbrev pub Refused : (List Link → Type 0) → TopicId → ℕ → Image → Refusal → Type 0
 Refused form topic from image e = (e ≡ NoMemory) ⊎ ((e ≡ Device) ⊎ IsChainFault form topic from image e)
 
-pub named_refused : (form : List Link → Type 0) (topic from : ℕ) (image : Image) (closed : List GatedLog) (logs : List Link) (told : Refusal) → AllClosed logs → ClosedHold topic from image closed (map segment_of logs) → form (map segment_of logs)
+pub named_refused : (form : List Link → Type 0) (topic : TopicId) (from : ℕ) (image : Image) (closed : List GatedLog) (logs : List Link) (told : Refusal) → AllClosed logs → ClosedHold topic from image closed (map segment_of logs) → form (map segment_of logs)
     → (told ≡ NoMemory) ⊎ ((told ≡ Device) ⊎ IsFault (behind (logs_form form) logs) (Segment topic (from + length closed)) (image (Segment topic (from + length closed))) told) → Refused form topic from image (refusal_of_named (Segment topic (from + length closed)) told)
 named_refused form topic from image closed logs told are hold formed (inl none) = inl (ap (refusal_of_named (Segment topic (from + length closed))) none)
 named_refused form topic from image closed logs told are hold formed (inr (inl device)) = inr (inl (ap (refusal_of_named (Segment topic (from + length closed))) device))
 named_refused form topic from image closed logs told are hold formed (inr (inr is)) = inr (inr (chain_fault form topic from image closed logs told are hold formed is))
 
 -- the log of a segment
-log_at : (log : GatedLog) (topic n : ℕ) (image : Image) (bodies batches : Bodies) → (log_id log).file ≡ Segment topic n → bodies ≡ batches → LogHolds log image bodies → LogAt log (record { file = Segment topic n; number = (log_id log).number }) image batches
+log_at : (log : GatedLog) (topic : TopicId) (n : ℕ) (image : Image) (bodies batches : Bodies) → (log_id log).file ≡ Segment topic n → bodies ≡ batches → LogHolds log image bodies → LogAt log (record { file = Segment topic n; label = (log_id log).label }) image batches
 log_at log topic n image bodies batches file_is are holds = record {
-  id_is = (λ i. record { file = file_is i; number = (log_id log).number });
+  id_is = (λ i. record { file = file_is i; label = (log_id log).label });
   holds = subst (λ (b : Bodies). LogHolds log image b) are holds;
 }
 
 abbrev pub read_log : GatedLog → Bodies → Link
-read_log log bodies = record { number = (log_id log).number; bodies = bodies }
+read_log log bodies = record { label = (log_id log).label; bodies = bodies }
 
 -- a segment more
-pub goes_more : (topic from : ℕ) (first mid new : Disk) (held holds holds' : List Link → Type 0) (closed : List GatedLog) (log : GatedLog) → Going topic from first mid held holds closed
+pub goes_more : (topic : TopicId) (from : ℕ) (first mid new : Disk) (held holds holds' : List Link → Type 0) (closed : List GatedLog) (log : GatedLog) → Going topic from first mid held holds closed
     → Kept mid new → (mid.honest → new.seen ≡ mid.seen) → (mid.honest → Leaves mid.may_leave mid new) → (log_id log).file ≡ Segment topic (from + length closed)
     → ((logs : List Link) → logs_hold true holds logs → (bodies : Bodies) × (mid.honest → LogSettled (LogHolds log) new bodies) × logs_hold true holds' (logs ++ read_log log bodies ∷ []))
     → Going topic from first new held holds' (closed ++ log ∷ [])
@@ -147,7 +148,7 @@ goes_more topic from first mid new held holds holds' closed log so_far kept seen
 }
 
 -- the last segment
-pub settles : (topic from : ℕ) (first mid new : Disk) (held holds holds' : List Link → Type 0) (closed : List GatedLog) (journal : Journal) → Going topic from first mid held holds closed → held []
+pub settles : (topic : TopicId) (from : ℕ) (first mid new : Disk) (held holds holds' : List Link → Type 0) (closed : List GatedLog) (journal : Journal) → Going topic from first mid held holds closed → held []
     → journal.failed ≡ false → journal.topic ≡ topic → journal.first ≡ from → journal.closed.items ≡ closed → Kept mid new → (mid.honest → new.seen ≡ mid.seen) → (mid.honest → Leaves mid.may_leave mid new) → (log_id journal.last).file ≡ Segment topic (from + length closed)
     → ((logs : List Link) → logs_hold true holds logs → (bodies : Bodies) × (mid.honest → LogSettled (LogHolds journal.last) new bodies) × logs_hold false holds' (logs ++ read_log journal.last bodies ∷ []))
     → (chain : Chain) × (first.honest → Settled journal new chain) × holds' (links_of chain)

@@ -8,12 +8,12 @@ ghost use Rattle.journal.specs.Drops.{Dropped, IsEmpty, AreEmpty};
 ghost use Rattle.journal.specs.Journals.{Settled, HasRoomToRoll, topic_of, first_of, last_of, failed};
 
 use crate::Journal;
-use disk::{DeviceError, FileId, Shelf};
+use disk::{DeviceError, FileId, Shelf, TopicId};
 use gated_log::GatedLog;
 use std::collections::VecDeque;
 
 // Cuts a segment to 0 and syncs it.
-fn drop_segment<S: Shelf>(shelf: &mut S, topic: u16, number: u64) -> Result<(), DeviceError>
+fn drop_segment<S: Shelf>(shelf: &mut S, topic: TopicId, number: u64) -> Result<(), DeviceError>
     ensures empty { OnOk result ((S.disk shelf.old).honest → IsEmpty (FileId.Segment topic number) (S.disk shelf.new)) }
     ensures within { (S.disk shelf.old).honest → Within (λ f. f ≡ FileId.Segment topic number) (λ c. Unit {0}) (S.disk shelf.old) (S.disk shelf.new) }
     ensures cause { IsErr result → Failed (S.disk shelf.old) (S.disk shelf.new) }
@@ -25,7 +25,12 @@ fn drop_segment<S: Shelf>(shelf: &mut S, topic: u16, number: u64) -> Result<(), 
 }
 
 // The same of each segment from one on and before another one, with two device calls for each.
-fn drop_segments<S: Shelf>(shelf: &mut S, topic: u16, from: u64, to: u64) -> Result<(), DeviceError>
+fn drop_segments<S: Shelf>(
+    shelf: &mut S,
+    topic: TopicId,
+    from: u64,
+    to: u64,
+) -> Result<(), DeviceError>
     ensures empty { OnOk result ((S.disk shelf.old).honest → AreEmpty topic from to (S.disk shelf.new)) }
     ensures within { (S.disk shelf.old).honest → Within (Dropped topic from to) (λ c. Unit {0}) (S.disk shelf.old) (S.disk shelf.new) }
     ensures cause { IsErr result → Failed (S.disk shelf.old) (S.disk shelf.new) }

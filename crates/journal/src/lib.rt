@@ -7,6 +7,7 @@
 
 mod append;
 mod builder;
+mod copy;
 mod drop_before;
 mod journal;
 mod kind;

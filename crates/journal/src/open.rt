@@ -8,7 +8,7 @@ ghost use Rattle.journal.specs.Journals.{Settled, topic_of, first_of, failed};
 
 use crate::Journal;
 use crate::segment_fold::SegmentFold;
-use disk::{FileId, Shelf};
+use disk::{FileId, Shelf, TopicId};
 use gated_log::{Fold, GatedLog, Refusal};
 use std::alloc::Global;
 use std::collections::VecDeque;
@@ -29,13 +29,13 @@ fn named(file: FileId, refusal: Refusal) -> Refusal
 
 impl Journal {
     /// Opens the journal of a topic from this segment on, whatever a crash left of its segments, and
-    /// hands the numbers in their headers and their bodies to a fold. Each segment is synced first, so
+    /// hands the labels in their headers and their bodies to a fold. Each segment is synced first, so
     /// what is read stays, and read once. The first fault is told, with its segment and the offset of
     /// the gate behind which it stands.
     pub fn open_with<S: Shelf, F: Fold + Drop>(
         alloc: Global,
         shelf: &mut S,
-        topic: u16,
+        topic: TopicId,
         first: u64,
         fold: F,
     ) -> Result<(Journal, F), Refusal>

@@ -1,11 +1,11 @@
 use crate::outcome::{Outcome, batch_in, size_of};
 use anyhow::Error;
-use disk::FileId;
+use disk::{CATALOG, FileId};
 use disk_mem::MemShelf;
-use gated_log::{BatchList, GatedLog, MAX_BODY, PreparedBatch};
+use gated_log::{BatchList, GatedLog, Label, MAX_BODY, PreparedBatch};
 use std::alloc::Global;
 
-const FILE: FileId = FileId::Catalog;
+const FILE: FileId = CATALOG;
 
 fn append(log: &mut GatedLog, shelf: &mut MemShelf, body: &[u8]) -> Result<Outcome, Error> {
     let mut builder = log.builder(body.len())?;
@@ -26,7 +26,7 @@ fn append(log: &mut GatedLog, shelf: &mut MemShelf, body: &[u8]) -> Result<Outco
 /// What became of a body that is a byte too long, and of the longest one behind it.
 pub(crate) fn limits(alloc: Global) -> Result<(Outcome, Outcome), Error> {
     let mut shelf = MemShelf::new(alloc);
-    let mut log = GatedLog::create(alloc, &mut shelf, FILE, 7)?;
+    let mut log = GatedLog::create(alloc, &mut shelf, FILE, Label::plain(7))?;
     let mut body = vec![in alloc; 9u8; MAX_BODY]?;
     body.push(9)?;
     let longer = append(&mut log, &mut shelf, &body)?;

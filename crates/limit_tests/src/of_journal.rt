@@ -1,13 +1,16 @@
 use crate::outcome::{Outcome, batch_in, size_of};
 use crate::sizes::Sizes;
 use anyhow::Error;
-use disk::FileId;
+use disk::{FileId, Folder, TopicId};
 use disk_mem::MemShelf;
 use gated_log::MAX_BODY;
 use journal::Journal;
 use std::alloc::Global;
 
-const TOPIC: u16 = 3;
+const TOPIC: TopicId = TopicId {
+    folder: Folder::Two,
+    number: 3,
+};
 
 fn append(journal: &mut Journal, shelf: &mut MemShelf, body: &[u8]) -> Result<Outcome, Error> {
     let mut builder = journal.builder(body.len())?;

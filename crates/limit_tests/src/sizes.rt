@@ -2,7 +2,7 @@ ghost use Rattle.std.specs.Prelude.{◌≡◌, length, map};
 ghost use Rattle.std.specs.List.{flat_map};
 ghost use Rattle.gated_log.specs.Folds.{Link};
 
-use gated_log::Fold;
+use gated_log::{Fold, Label};
 use std::alloc::{AllocError, Global};
 
 /// The size of each body of some logs, in bytes.
@@ -28,7 +28,7 @@ impl Fold for Sizes {
 
     ghost holds = { λ fold logs. fold.sizes.items ≡ flat_map (λ (log : Link). map length log.bodies) logs };
 
-    fn begin(&mut self, _: u64) -> Result<bool, AllocError> {
+    fn begin(&mut self, _: Label) -> Result<bool, AllocError> {
         Ok(true)
     }
 

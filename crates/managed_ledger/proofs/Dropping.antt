@@ -20,6 +20,7 @@ use Rattle.managed_ledger.specs.Settled.{settled_from}
 use Rattle.managed_ledger.specs.Shape.{total, starts_from, start_at, sizes_of, AreInOrder}
 use Rattle.managed_ledger.specs.Totals.{total_push, start_first, last_behind}
 use Rattle.managed_ledger.proofs.Pointing.{start_total}
+use Rattle.disk.specs.declared.file_id.TopicId.{TopicId}
 
 -- tables without the first ones
 sizes_behind : (n : ℕ) (indexes : List SegmentIndex) → sizes_of (drop n indexes) ≡ drop n (sizes_of indexes)
@@ -83,7 +84,7 @@ module _ (ledger : ManagedLedger) (start : Start) (begins : Begins (start_of led
 
     pub first_there : first ≡ start.first
     first_there =
-        let tables = closed_count l.base ledger.closed.items chain.closed s.now.index.before s.now.index.closed_hold in
+        let tables = closed_count (ledger_topic ledger).folder l.base ledger.closed.items chain.closed s.now.index.before s.now.index.closed_hold in
         let logs = links.closed_length ledger.journal.topic ledger.journal.first d.seen ledger.journal.closed.items chain.closed s.now.journal.closed in
         omega (arith, least, begins.first_is, few_before ledger start begins, tables, logs)
 
@@ -97,12 +98,13 @@ module _ (ledger : ManagedLedger) (start : Start) (begins : Begins (start_of led
         (λ c stands. rest_stands ledger start begins chain l s.now.few s.now.index c (subst (λ (n : ℕ). chains.Stands (ledger_topic ledger) n c (behind begins.number chain)) first_there (subst (λ (k : Chain). chains.Stands (ledger_topic ledger) first c k) rest_is stands)))
         within
 
-    pub dropped_settled : (new : ManagedLedger) (d' : Disk) → new.closed.items ≡ drop dropped ledger.closed.items → new.last ≡ ledger.last → journals.Settled new.journal d' (behind (first - (start_of ledger).first) chain) → Settled (Holds new) d' (trimmed start.base l)
-    dropped_settled new d' left last settled =
+    pub dropped_settled : (new : ManagedLedger) (d' : Disk) → new.closed.items ≡ drop dropped ledger.closed.items → new.last ≡ ledger.last → ledger_topic new ≡ ledger_topic ledger → journals.Settled new.journal d' (behind (first - (start_of ledger).first) chain) → Settled (Holds new) d' (trimmed start.base l)
+    dropped_settled new d' left last topic_is settled =
         let tables : new.closed.items ≡ drop begins.number ledger.closed.items = left ∙ ap (λ (n : ℕ). drop n ledger.closed.items) dropped_is in
         settled_from new d' (behind begins.number chain) (trimmed start.base l) (record {
           journal = subst (λ (k : Chain). journals.Settled new.journal d' k) rest_is settled;
-          index = subst (λ (t : List SegmentIndex). IndexHolds t new.last (behind begins.number chain) (trimmed start.base l)) (sym tables)
-              (subst (λ (i : SegmentIndex). IndexHolds (drop begins.number ledger.closed.items) i (behind begins.number chain) (trimmed start.base l)) (sym last) (rest_index ledger start begins chain l s.now.few s.now.index));
+          index = subst (λ (t : TopicId). IndexHolds t.folder new.closed.items new.last (behind begins.number chain) (trimmed start.base l)) (sym topic_is)
+              (subst (λ (t : List SegmentIndex). IndexHolds (ledger_topic ledger).folder t new.last (behind begins.number chain) (trimmed start.base l)) (sym tables)
+              (subst (λ (i : SegmentIndex). IndexHolds (ledger_topic ledger).folder (drop begins.number ledger.closed.items) i (behind begins.number chain) (trimmed start.base l)) (sym last) (rest_index ledger start begins chain l s.now.few s.now.index)));
           few = rest_few ledger start begins chain l s.now.few s.now.index;
         })

@@ -8,6 +8,7 @@
 mod append;
 mod body;
 mod build;
+mod copy;
 mod count;
 mod entry_fold;
 mod entry_store;

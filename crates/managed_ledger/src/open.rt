@@ -13,7 +13,7 @@ use crate::EntryFold;
 use crate::ledger_fold::LedgerFold;
 use crate::ledger_index::LedgerIndex;
 use crate::managed_ledger::ManagedLedger;
-use disk::{FileId, Shelf};
+use disk::{FileId, Shelf, TopicId};
 use gated_log::{Refusal, Start};
 use journal::Journal;
 use std::alloc::Global;
@@ -26,7 +26,7 @@ impl ManagedLedger {
     pub fn open_with<S: Shelf, E: EntryFold + Drop>(
         alloc: Global,
         shelf: &mut S,
-        topic: u16,
+        topic: TopicId,
         entries_per_ledger: u32,
         start: Start,
         fold: E,
@@ -53,6 +53,7 @@ impl ManagedLedger {
         let fold = LedgerFold {
             alloc,
             base: start.base,
+            folder: topic.folder,
             index: None,
             entries: fold,
         };

@@ -12,7 +12,7 @@ use Rattle.topic_core.specs.Messages.{marks_of}
 use Rattle.topic_core.specs.State.{Topic, opened}
 use Rattle.topic_core.specs.Soundness.{IsSoundTopic}
 use Rattle.catalog.specs.Names.{Names}
-use Rattle.catalog.specs.Catalogs.{StandsFor as NamesStand, Holds as NamesHeld, remembered, per_ledger}
+use Rattle.catalog.specs.Catalogs.{StandsFor as NamesStand, Holds as NamesHeld, OldCounts, remembered, per_ledger}
 use Rattle.catalog.specs.Laws.{holds_stands}
 use Rattle.gated_log.specs.declared.refusal.Refusal.{Refusal}
 use Rattle.disk.specs.Contents.{Settled as SettledIn}
@@ -99,10 +99,12 @@ opens_at files_stand n m a b held is same opens = subst (λ k. AreJustOpened fil
 
 module _ {T S : Type 0} {store : StoreMembers T} (disk : S → Disk) where
   -- it stands where its names and each topic do
-  pub node_stands : (t : Topics T S store) → t.doubtful ≡ None → SettledIn (NamesHeld t.catalog) (disk t.shelf) (remembered t.catalog) → AllStand t.held.items (disk t.shelf) → TopicsStand disk t
-  node_stands t none settled all = record {
+  pub node_stands : (t : Topics T S store) → t.doubtful ≡ None → ((files : Image) → (disk t.shelf).may_leave files → ¬ OldCounts files) → SettledIn (NamesHeld t.catalog) (disk t.shelf) (remembered t.catalog)
+      → AllStand t.held.items (disk t.shelf) → TopicsStand disk t
+  node_stands t none newest settled all = record {
     honest = settled.honest;
     each = all;
+    newest = newest;
     names = λ files may. subst (λ d. NamesLeft store.stands d (broker_of t) files) (sym none) (holds_stands t.catalog files (remembered t.catalog) (settled.left files may));
     settled = λ _. settled;
   }
@@ -147,7 +149,7 @@ module _ {T : Type 0} {store : StoreMembers T} (n : ℕ) (url : List ℕ) (names
       subst (λ (u : Topic). end_of u.ledger ≤ 2 ^ 62) (sym x.2) (opens number x.0 x.1).few
 
 -- the first fault of the topics is one of the files before the catalog was opened too
-pub fault_before : (files_stand : ℕ → Image → Ledger → Kept → Type 0) (faulty : ℕ → Image → Refusal → Type 0) (a b : Image) (per_ledger count : ℕ) (names : Names) (why : Refusal) → b ≡ a → NamesStand per_ledger a names → length names ≡ count
+pub fault_before : (files_stand : ℕ → Image → Ledger → Kept → Type 0) (faulty : ℕ → Image → Refusal → Type 0) (a b : Image) (per_ledger count : ℕ) (names : Names) (why : Refusal) → b ≡ a → ¬ OldCounts b → NamesStand per_ledger a names → length names ≡ count
     → IsTopicFault files_stand faulty count b why → IsFirstFault files_stand faulty a why
-fault_before files_stand faulty a b per_ledger count names why same is many fault =
-    inr (per_ledger, names, is, subst (λ (i : Image). IsTopicFault files_stand faulty (length names) i why) same (subst (λ k. IsTopicFault files_stand faulty k b why) (sym many) fault))
+fault_before files_stand faulty a b per_ledger count names why same newest is many fault =
+    inr (subst (λ (i : Image). ¬ OldCounts i) same newest, per_ledger, names, is, subst (λ (i : Image). IsTopicFault files_stand faulty (length names) i why) same (subst (λ k. IsTopicFault files_stand faulty k b why) (sym many) fault))

@@ -5,6 +5,8 @@ use Rattle.std.proofs.lemmas.List.{set-get_or, length-map, length-set, get_or-se
 use Rattle.std.specs.FinMap as map_of
 use Rattle.disk.specs.Disk.{Disk, Image, Leaves, Undisturbed}
 use Rattle.disk.specs.declared.file_id.FileId.{FileId}
+use Rattle.disk.specs.declared.file_id.FileId.TheVariants as file_id
+use Rattle.disk.specs.declared.file_id.Folder.TheVariants.{One}
 use Rattle.disk.specs.Contents.{Settled}
 use Rattle.disk.specs.Moments.{weaken}
 use Rattle.disk.specs.Areas.{OfTopic, Agree, Within, apart}
@@ -26,7 +28,7 @@ use Rattle.topic_core.proofs.Standings.{standing_handed_on, finish_standing}
 use Rattle.topic_core.specs.Crashes.{longer, changed}
 use Rattle.catalog.specs.declared.catalog.Catalog.{Catalog}
 use Rattle.catalog.specs.Names.{Names}
-use Rattle.catalog.specs.Catalogs.{Own, Holds as NamesHeld, remembered, failed}
+use Rattle.catalog.specs.Catalogs.{Own, Holds as NamesHeld, OldCounts, remembered, failed}
 use Rattle.catalog.specs.Laws.{own_file, holds_local}
 use Rattle.session.specs.Broker.{Broker, topic_at, with_topic, fresh}
 use Rattle.session.specs.Client.{Client}
@@ -39,7 +41,7 @@ use Rattle.node.specs.Parts.{TakesPart, FinishesPart}
 use Rattle.node.proofs.UnderWay.{works, fits, takes_before, untaken}
 use Rattle.node.specs.State.{Stage, Resting, Taken, Written, stage_in, stage_after, place_in, over}
 use Rattle.node.specs.Standing.{StandsForBroker, StandsForSome, NamesLeft, view_in, spot_of, phase_in, HeldStands, broker_of, TopicsStand}
-use Rattle.node.specs.Passing.{each_with, count_is, untouched, names_as, formed_of}
+use Rattle.node.specs.Passing.{each_with, count_is, untouched, names_as, newest_moved, formed_of}
 use Rattle.node.specs.Naming.{IsFormed}
 use Rattle.node.specs.Brokers.{set_at}
 use Rattle.node.specs.Steps.{Spot, flushing, amid_work, Amid}
@@ -290,6 +292,12 @@ module _ {T S : Type 0} {store : StoreMembers T} where
         let out = w.any_moment.now files may in
         names_beside t number next files (moved out.from files out.elsewhere (s.names out.from out.left))
 
+    -- and no folder of version 1 counts
+    pub newest_then : (P : Image → Type 0) (d : Disk) → Within (OfTopic number) P (disk t.shelf) d → TopicsStand disk t → (files : Image) → d.may_leave files → ¬ OldCounts files
+    newest_then P d w s files may =
+        let out = w.any_moment.now files may in
+        newest_moved out.from files (out.elsewhere (file_id.Catalog One) (λ no. no)) (s.newest out.from out.left)
+
     pub settled_then : (P : Image → Type 0) (d : Disk) → Within (OfTopic number) P (disk t.shelf) d → d.honest → TopicsStand disk t → failed t.catalog ≡ false → Settled (NamesHeld t.catalog) d (remembered t.catalog)
     settled_then P d w honest s works = settled_still t.catalog (remembered t.catalog) (disk t.shelf) d (names_alone number P (disk t.shelf) d honest w) (s.settled works)
 
@@ -298,6 +306,7 @@ module _ {T S : Type 0} {store : StoreMembers T} where
         → Leaves (StandsForBroker store.stands (with_topic (broker_of t) number amid)) (disk t.shelf) d
     leaves_then amid ledgers d w s = weaken _ _ (disk t.shelf) d w.any_moment (λ files out. record {
       formed = formed_changed (broker_of t) number amid (ledgers ∙ (t.numbered number h was).1) (formed_of t);
+      newest = newest_moved out.from files (out.elsewhere (file_id.Catalog One) (λ no. no)) (s.newest out.from out.left);
       names = names_as store.stands t.doubtful (broker_of t) (with_topic (broker_of t) number amid) files refl refl (length-set (broker_of t).topics number amid) (moved out.from files out.elsewhere (s.names out.from out.left));
       topics = λ j topic is. ⊎_elim
           (λ at. subst (λ (i : ℕ). StandsFor (store.stands i) (IsLeft topic) files) (sym at.0) (subst (λ (u : Topic). StandsFor (store.stands number) (IsLeft u) files) (sym at.1) out.own))

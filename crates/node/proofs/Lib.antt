@@ -3,8 +3,11 @@ pub mod Knowing
 pub mod Frames
 pub mod Commands
 pub mod Making
+pub mod NewFolder
 pub mod AllOpening
 pub mod OneFault
+pub mod Folders
+pub mod UpgradeFault
 pub mod Ports
 pub mod Steps
 pub mod Working

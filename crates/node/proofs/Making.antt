@@ -9,6 +9,8 @@ use Rattle.disk.specs.Contents.{Settled as SettledIn, BeforeOrAfter}
 use Rattle.disk.specs.Moments.{joins, weaken}
 use Rattle.disk.specs.Areas.{OfTopic, Agree, Within, apart}
 use Rattle.disk.specs.declared.file_id.FileId.{FileId}
+use Rattle.disk.specs.declared.file_id.FileId.TheVariants as file_id
+use Rattle.disk.specs.declared.file_id.Folder.TheVariants.{One}
 use Rattle.managed_ledger.specs.Entries.{Ledger, whole}
 use Rattle.records.specs.Maps.{Kept}
 use Rattle.topic_stores.specs.declared.store.TopicStore.{Ghosts as StoreMembers}
@@ -19,7 +21,7 @@ use Rattle.topic_core.specs.Crashes.{IsLeft}
 use Rattle.topic_core.proofs.Floors.{trimmed_at}
 use Rattle.catalog.specs.declared.catalog.Catalog.{Catalog}
 use Rattle.catalog.specs.Names.{Names}
-use Rattle.catalog.specs.Catalogs.{Own, StandsFor as NamesStand, Holds as NamesHeld, remembered, per_ledger, failed}
+use Rattle.catalog.specs.Catalogs.{Own, StandsFor as NamesStand, Holds as NamesHeld, OldCounts, remembered, per_ledger, failed}
 use Rattle.catalog.specs.Laws.{own_file, holds_stands}
 use Rattle.session.specs.Broker.{Broker, fresh, topic_at, sure, doubting, made}
 use Rattle.node.specs.declared.held.Held.{Held}
@@ -29,7 +31,7 @@ use Rattle.node.specs.Flights.{stage_of}
 use Rattle.node.specs.Numbers.{AreNumbered, IsNumbered}
 use Rattle.node.specs.Naming.{IsOneOf, with_names, Gains, Grows}
 use Rattle.node.specs.Standing.{StandsForBroker, StandsForSome, NamesLeft, view_in, phase_in, HeldStands, known_in, known_by, known_of, broker_of, stages_of, TopicsStand, Worked, Works}
-use Rattle.node.specs.Passing.{stands_so, count_is, untouched}
+use Rattle.node.specs.Passing.{stands_so, count_is, untouched, newest_moved, old_beside}
 use Rattle.node.specs.Growing.{doubted_before, gains_none, gained_at}
 use Rattle.node.specs.Brokers.{one_more_at}
 use Rattle.node.specs.Lists.{get_push}
@@ -92,21 +94,23 @@ module _ (stands : ℕ → Image → Ledger → Kept → Type 0) (local : (t : �
   topics_moved b a c same each j t is = same_files stands local j (IsLeft t) a c (same j (slice_get_within b.topics j t is)) (each j t is)
 
   -- and the broker, where no name is in doubt
-  pub broker_moved : (b : Broker) (a c : Image) → b.doubtful ≡ None → Agree Own a c → ((j : ℕ) → j < length b.topics → Agree (OfTopic j) a c) → StandsForBroker stands b a → StandsForBroker stands b c
-  broker_moved b a c none own same s = record {
+  pub broker_moved : (b : Broker) (a c : Image) → b.doubtful ≡ None → c (file_id.Catalog One) ≡ a (file_id.Catalog One) → Agree Own a c → ((j : ℕ) → j < length b.topics → Agree (OfTopic j) a c) → StandsForBroker stands b a → StandsForBroker stands b c
+  broker_moved b a c none old own same s = record {
     formed = s.formed;
+    newest = newest_moved a c old s.newest;
     names = subst (λ d. NamesLeft stands d b c) (sym none) (own_file b.per_ledger a c b.names own (subst (λ d. NamesLeft stands d b a) none s.names));
     topics = topics_moved b a c same s.topics;
   }
 
   -- a name may have been added, of a topic whose files stand for a fresh one
-  pub broker_doubts : (names : List (List ℕ)) (b : Broker) (name : List ℕ) → Contains names name → (a c : Image) → ((j : ℕ) → j < length b.topics → Agree (OfTopic j) a c) → StandsForBroker stands b a
+  pub broker_doubts : (names : List (List ℕ)) (b : Broker) (name : List ℕ) → Contains names name → (a c : Image) → c (file_id.Catalog One) ≡ a (file_id.Catalog One) → ((j : ℕ) → j < length b.topics → Agree (OfTopic j) a c) → StandsForBroker stands b a
       → BeforeOrAfter (NamesStand b.per_ledger) b.names (b.names ++ name ∷ []) c → stands (length b.topics) c (whole []) map_of.empty → StandsForSome stands (λ broker. Gains names b broker) c
-  broker_doubts names b name asked a c same s either new = (
+  broker_doubts names b name asked a c old same s either new = (
     doubting b name,
     record { more = []; doubt = Some name; gained = doubting_is b name; asked = All-nil (IsOneOf names b); doubted = inl asked },
     record {
       formed = record { named = s.formed.named; ledgers = s.formed.ledgers };
+      newest = newest_moved a c old s.newest;
       names = ⊎_elim (λ without. inl without) (λ more. inr (more, new)) either;
       topics = topics_moved b a c same s.topics;
     },
@@ -190,6 +194,7 @@ module _ {T S : Type 0} {store : StoreMembers T} (disk : S → Disk) (asked : Li
               honest = subst (λ (x : S). (disk x).honest) (sym shelf) s.honest;
               each = subst (λ (x : S). (j : ℕ) (h : Held T store) → slice_get new.held.items j ≡ Some h → HeldStands h (disk x)) (sym shelf)
                   (subst (λ (l : List (Held T store)). (j : ℕ) (h : Held T store) → slice_get l j ≡ Some h → HeldStands h (disk t.shelf)) (sym items) s.each);
+              newest = subst (λ (x : S). (files : Image) → (disk x).may_leave files → ¬ OldCounts files) (sym shelf) s.newest;
               names = subst (λ (x : S). (files : Image) → (disk x).may_leave files → NamesLeft store.stands new.doubtful (broker_of new) files) (sym shelf)
                   (λ files may. subst (λ (b : Broker). NamesLeft store.stands b.doubtful b files) (sym broker) (s.names files may));
               settled = subst (λ (x : S). failed new.catalog ≡ false → SettledIn (NamesHeld new.catalog) (disk x) (remembered new.catalog)) (sym shelf)
@@ -233,6 +238,7 @@ module _ {T S : Type 0} {store : StoreMembers T} (disk : S → Disk) (asked : Li
             (record {
               honest = kept.honest s.honest;
               each = subst (λ (l : List (Held T store)). (j : ℕ) (x : Held T store) → slice_get l j ≡ Some x → HeldStands x (disk new.shelf)) (sym items) read_each;
+              newest = λ files may. s.newest files (leaves.now files may);
               names = λ files may. subst (λ (b : Broker). NamesLeft store.stands b.doubtful b files) (sym broker) (s.names files (leaves.now files may));
               settled = λ works. absurd (true≢false (sym fails ∙ works));
             })
@@ -245,6 +251,7 @@ module _ {T S : Type 0} {store : StoreMembers T} (disk : S → Disk) (asked : Li
             (record {
               honest = kept.honest s.honest;
               each = subst (λ (l : List (Held T store)). (j : ℕ) (x : Held T store) → slice_get l j ≡ Some x → HeldStands x (disk new.shelf)) (sym items) read_each;
+              newest = λ files may. s.newest files (leaves.now files may);
               names = λ files may. subst (λ d. NamesLeft store.stands d (broker_of new) files) (sym none) (holds_stands new.catalog files (remembered new.catalog) (settled.left files may));
               settled = λ works. settled;
             })
@@ -258,6 +265,7 @@ module _ {T S : Type 0} {store : StoreMembers T} (disk : S → Disk) (asked : Li
             (record {
               honest = kept.honest s.honest;
               each = subst (λ (l : List (Held T store)). (j : ℕ) (x : Held T store) → slice_get l j ≡ Some x → HeldStands x (disk new.shelf)) (sym items) (each_push (disk new.shelf) h here read_each);
+              newest = λ files may. s.newest files (leaves.now files may);
               names = λ files may. subst (λ d. NamesLeft store.stands d (broker_of new) files) (sym none) (holds_stands new.catalog files (remembered new.catalog) (settled.left files may));
               settled = λ works. settled;
             })
@@ -284,13 +292,18 @@ module _ {T S : Type 0} {store : StoreMembers T} (disk : S → Disk) (asked : Li
             let out = w.any_moment.now files may in
             own_file (per_ledger t.catalog) out.from files (remembered t.catalog) (λ f own. out.elsewhere f (own_beside f own)) (subst (λ d. NamesLeft store.stands d (broker_of t) out.from) none (s.names out.from out.left))
 
+        made_newest : (files : Image) → d1.may_leave files → ¬ OldCounts files
+        made_newest files may =
+            let out = w.any_moment.now files may in
+            newest_moved out.from files (out.elsewhere (file_id.Catalog One) (λ no. no)) (s.newest out.from out.left)
+
         pub made_settled : SettledIn (NamesHeld t.catalog) d1 (remembered t.catalog)
         made_settled = settled_still t.catalog (remembered t.catalog) (disk t.shelf) d1 (names_alone (length t.held.items) (λ c. Unit {0}) (disk t.shelf) d1 (kept.honest s.honest) w) (s.settled works)
 
         -- a crash in the making of its files leaves what it left before
         made_moments : Leaves (StandsForBroker store.stands (broker_of t)) (disk t.shelf) d1
         made_moments = weaken _ _ (disk t.shelf) d1 w.any_moment (λ files out.
-            broker_moved store.stands local (broker_of t) out.from files none (λ f own. out.elsewhere f (own_beside f own))
+            broker_moved store.stands local (broker_of t) out.from files none (out.elsewhere (file_id.Catalog One) (λ no. no)) (λ f own. out.elsewhere f (own_beside f own))
             (λ j low f of. out.elsewhere f (beside j (omega (arith, low, count_is t)) f of)) (stands_so disk t s out.from out.left))
 
         some_moments : Leaves (StandsForSome store.stands (λ broker. Gains asked (broker_of t) broker)) (disk t.shelf) d1
@@ -305,6 +318,7 @@ module _ {T S : Type 0} {store : StoreMembers T} (disk : S → Disk) (asked : Li
               honest = subst (λ (d : Disk). d.honest) (sym is) (kept.honest s.honest);
               each = subst (λ (d : Disk). (j : ℕ) (x : Held T store) → slice_get new.held.items j ≡ Some x → HeldStands x d) (sym is)
                   (subst (λ (l : List (Held T store)). (j : ℕ) (x : Held T store) → slice_get l j ≡ Some x → HeldStands x d1) (sym items) made_each);
+              newest = subst (λ (d : Disk). (files : Image) → d.may_leave files → ¬ OldCounts files) (sym is) made_newest;
               names = subst (λ (d : Disk). (files : Image) → d.may_leave files → NamesLeft store.stands new.doubtful (broker_of new) files) (sym is) (λ files may.
                   subst (λ (b : Broker). NamesLeft store.stands b.doubtful b files) (sym broker) (subst (λ d. NamesLeft store.stands d (broker_of t) files) (sym none) (made_names files may)));
               settled = λ _. subst (λ (d : Disk). SettledIn (NamesHeld new.catalog) d (remembered new.catalog)) (sym is)
@@ -336,9 +350,14 @@ module _ {T S : Type 0} {store : StoreMembers T} (disk : S → Disk) (asked : Li
           added_files : (from files : Image) → d1.may_leave from → ((f : FileId) → ¬ Own f → files f ≡ from f) → store.stands (length t.held.items) files (whole []) map_of.empty
           added_files from files may same = local (length t.held.items) from files (whole []) map_of.empty (λ f of. same f (not_own (length t.held.items) f of)) (files_new from may)
 
+          added_newest : (files : Image) → (disk new.shelf).may_leave files → ¬ OldCounts files
+          added_newest files may =
+              let out = w'.any_moment.now files may in
+              newest_moved out.from files (out.elsewhere (file_id.Catalog One) old_beside) (made_newest out.from out.left)
+
           added_moments : Leaves (StandsForSome store.stands (λ broker. Gains asked (broker_of t) broker)) (disk t.shelf) (disk new.shelf)
           added_moments = joins _ _ _ (disk t.shelf) d1 (disk new.shelf) some_moments w'.any_moment (λ files is. is) (λ files out.
-              broker_doubts store.stands local asked (broker_of t) name is_asked out.from files (λ j low f of. out.elsewhere f (not_own j f of)) (made_moments.now out.from out.left) out.own
+              broker_doubts store.stands local asked (broker_of t) name is_asked out.from files (out.elsewhere (file_id.Catalog One) old_beside) (λ j low f of. out.elsewhere f (not_own j f of)) (made_moments.now out.from out.left) out.own
               (subst (λ n. store.stands n files (whole []) map_of.empty) (sym (count_is t)) (added_files out.from files out.left out.elsewhere)))
 
           -- the device failed in it: the name is in doubt
@@ -348,6 +367,7 @@ module _ {T S : Type 0} {store : StoreMembers T} (disk : S → Disk) (asked : Li
               (record {
                 honest = d2_honest;
                 each = subst (λ (l : List (Held T store)). (j : ℕ) (x : Held T store) → slice_get l j ≡ Some x → HeldStands x (disk new.shelf)) (sym items) added_each;
+                newest = added_newest;
                 names = λ files may. subst (λ (b : Broker). NamesLeft store.stands b.doubtful b files) (sym broker)
                     (let out = w'.any_moment.now files may in ⊎_elim (λ without. inl without) (λ more. inr (more, subst (λ n. store.stands n files (whole []) map_of.empty) (sym (count_is t)) (added_files out.from files out.left out.elsewhere))) out.own);
                 settled = λ works'. absurd (true≢false (sym fails ∙ works'));
@@ -364,6 +384,7 @@ module _ {T S : Type 0} {store : StoreMembers T} (disk : S → Disk) (asked : Li
               (record {
                 honest = d2_honest;
                 each = subst (λ (l : List (Held T store)). (j : ℕ) (x : Held T store) → slice_get l j ≡ Some x → HeldStands x (disk new.shelf)) (sym items) (each_push (disk new.shelf) h added_here added_each);
+                newest = added_newest;
                 names = λ files may. subst (λ d. NamesLeft store.stands d (broker_of new) files) (sym sure_now) (holds_stands new.catalog files (remembered new.catalog) (settled.left files may));
                 settled = λ _. settled;
               })

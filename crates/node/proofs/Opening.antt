@@ -20,8 +20,8 @@ use Rattle.topic_core.specs.Crashes.{IsLeft, IsShorter, TopicCrash, reopened}
 use Rattle.topic_core.specs.Standing.{Before, resting, Match, Standing}
 use Rattle.topic_core.proofs.Standings.{reopened_standing}
 use Rattle.catalog.specs.Names.{Names}
-use Rattle.catalog.specs.Catalogs.{StandsFor as NamesStand}
-use Rattle.catalog.specs.Folded.{IsFault as CatalogFault}
+use Rattle.catalog.specs.Catalogs.{StandsFor as NamesStand, OldCounts}
+use Rattle.catalog.specs.Folded.{IsFault, IsNewestFault as CatalogFault}
 use Rattle.catalog.specs.Laws.{one_list, no_fault}
 use Rattle.session.specs.Broker.{Broker, fresh, topic_at, sure, made, Settles}
 use Rattle.node.specs.State.{State, verdict_for}
@@ -123,18 +123,22 @@ module _ (stands : ℕ → Image → Ledger → Kept → Type 0) (b : Broker) (f
   pub found : Found stands b.doubtful b files n names
   found = found_in b.doubtful s.names
 
-pub no_names_fault : (stands : ℕ → Image → Ledger → Kept → Type 0) (doubt : Option (List ℕ)) (b : Broker) (files : Image) (why : Refusal) → NamesLeft stands doubt b files → ¬ CatalogFault files why
+pub no_names_fault : (stands : ℕ → Image → Ledger → Kept → Type 0) (doubt : Option (List ℕ)) (b : Broker) (files : Image) (why : Refusal) → NamesLeft stands doubt b files → ¬ IsFault files why
 no_names_fault stands None b files why left = no_fault b.per_ledger files b.names why left
 no_names_fault stands (Some name) b files why left = λ fault. ⊎_elim (λ without. no_fault b.per_ledger files b.names why without fault) (λ more. no_fault b.per_ledger files (b.names ++ name ∷ []) why more.0 fault) left
+
+-- nor does a folder of version 1 count
+pub no_list_fault : (stands : ℕ → Image → Ledger → Kept → Type 0) (doubt : Option (List ℕ)) (b : Broker) (files : Image) (why : Refusal) → ¬ OldCounts files → NamesLeft stands doubt b files → ¬ CatalogFault files why
+no_list_fault stands doubt b files why newest left = λ fault. ⊎_elim (λ old. newest old.0) (λ list. no_names_fault stands doubt b files why left list.1) fault
 
 -- such files have no fault
 pub no_first_fault : (stands : ℕ → Image → Ledger → Kept → Type 0) (faulty : ℕ → Image → Refusal → Type 0) → ((t : ℕ) (files : Image) (ledger : Ledger) (k : Kept) (refusal : Refusal) → stands t files ledger k → ¬ faulty t files refusal)
     → (b : Broker) (files : Image) → StandsForBroker stands b files → (why : Refusal) → ¬ IsFirstFault stands faulty files why
 no_first_fault stands faulty sound b files s why = λ fault. ⊎_elim
-    (λ catalog. no_names_fault stands b.doubtful b files why s.names catalog)
+    (λ catalog. no_list_fault stands b.doubtful b files why s.newest s.names catalog)
     (λ topic.
-    let t = topic.3 in
-    let f = (found stands b files s topic.0 topic.1 topic.2).topics t.number t.there in
+    let t = topic.4 in
+    let f = (found stands b files s topic.1 topic.2 topic.3).topics t.number t.there in
     sound t.number files f.ledger f.kept why f.stands t.fault)
     fault
 

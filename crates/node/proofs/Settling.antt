@@ -16,7 +16,7 @@ use Rattle.topic_core.specs.Crashes.{IsLeft}
 use Rattle.catalog.specs.declared.catalog.Catalog.{Catalog}
 use Rattle.catalog.specs.Names.{Names}
 use Rattle.catalog.specs.Catalogs.{StandsFor as NamesStand, Holds as NamesHeld, Follows, remembered, per_ledger, failed}
-use Rattle.catalog.specs.Folded.{IsFault as CatalogFault}
+use Rattle.catalog.specs.Folded.{IsFault}
 use Rattle.catalog.specs.Laws.{holds_stands}
 use Rattle.session.specs.Broker.{Broker, fresh, sure, made, Settles}
 use Rattle.node.specs.declared.held.Held.{Held}
@@ -57,7 +57,7 @@ opened_so core n m is opens = opens ∙ ap (λ k. opened k core.ledger (marks_of
 
 module _ {T S : Type 0} {store : StoreMembers T} (disk : S → Disk) (t : Topics T S store) (s : TopicsStand disk t) (lawful : (disk t.shelf).may_leave (disk t.shelf).seen) where
   -- the catalog's file has no fault
-  pub no_fault_now : (why : Refusal) → ¬ CatalogFault (disk t.shelf).seen why
+  pub no_fault_now : (why : Refusal) → ¬ IsFault (disk t.shelf).seen why
   no_fault_now why = no_names_fault store.stands t.doubtful (broker_of t) (disk t.shelf).seen why (s.names (disk t.shelf).seen lawful)
 
   module _ (fails : failed t.catalog ≡ true) (again : Catalog) (d1 : Disk) (seen : d1.seen ≡ (disk t.shelf).seen) (settled : SettledIn (NamesHeld again) d1 (remembered again)) where

@@ -29,3 +29,5 @@ pub mod Failing
 pub mod Keeping
 pub mod Starting
 pub mod Resuming
+pub mod Upgrading
+pub mod Folders

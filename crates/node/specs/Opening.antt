@@ -12,7 +12,8 @@ use Rattle.topic_core.specs.Crashes.{IsShorter, reopened}
 use Rattle.session.specs.Broker.{Broker, topic_at}
 use Rattle.catalog.specs.Names.{Names}
 use Rattle.catalog.specs.Catalogs.{StandsFor as NamesStand}
-use Rattle.catalog.specs.Folded.{IsFault as CatalogFault}
+use Rattle.catalog.specs.Catalogs.{OldCounts}
+use Rattle.catalog.specs.Folded.{IsNewestFault as CatalogFault}
 use Rattle.node.specs.State.{State, Resting, stage_at}
 use Rattle.node.specs.Naming.{IsFormed}
 use Rattle.node.specs.Laws.{IsAtStart}
@@ -47,10 +48,10 @@ pub record IsTopicFault (files_stand : ℕ → Image → Ledger → Kept → Typ
   pub fault : faulty number files why
   pub first : (before : ℕ) → before < number → (ledger : Ledger) × (kept : Kept) × files_stand before files ledger kept
 
--- the first fault that stands in the files of a node: the catalog's, or that of its topics, by their numbers
+-- the first fault that stands in the files of a node: that a folder of version 1 counts, the catalog's, or that of its topics, by their numbers
 abbrev pub IsFirstFault : (ℕ → Image → Ledger → Kept → Type 0) → (ℕ → Image → Refusal → Type 0) → Image → Refusal → Type 0
 IsFirstFault files_stand faulty files why =
-    CatalogFault files why ⊎ ((per_ledger : ℕ) × (names : Names) × NamesStand per_ledger files names × IsTopicFault files_stand faulty (length names) files why)
+    CatalogFault files why ⊎ ((¬ OldCounts files) × (per_ledger : ℕ) × (names : Names) × NamesStand per_ledger files names × IsTopicFault files_stand faulty (length names) files why)
 
 -- a node's files have one first fault
 abbrev pub HaveOneFault : (ℕ → Image → Ledger → Kept → Type 0) → (ℕ → Image → Refusal → Type 0) → Type 0

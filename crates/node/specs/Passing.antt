@@ -3,10 +3,13 @@ use Rattle.std.proofs.Common.{◌≡◌, ◌≢◌, ℕ, ◌≤◌, inl, inr, �
 use Rattle.std.proofs.lemmas.List.{set-get_or, length-map, length-set}
 use Rattle.std.specs.FinMap as map_of
 use Rattle.std.proofs.lemmas.Option.{slice_get_within, get_or_from_slice_get, slice_get-get_or}
+use Rattle.disk.specs.declared.file_id.FileId.TheVariants as file_id
+use Rattle.disk.specs.declared.file_id.Folder.TheVariants.{One}
 use Rattle.disk.specs.Disk.{Disk, Image, Same, Leaves, Kept as Counted}
 use Rattle.disk.specs.Moments.{starts, joins, weaken}
 use Rattle.disk.specs.Contents.{Settled as SettledIn}
 use Rattle.gated_log.specs.declared.read_error.ReadError.{ReadError}
+use Rattle.gated_log.specs.Headers.{HasOpenHeader}
 use Rattle.gated_log.specs.declared.read_error.ReadError.TheVariants as read
 use Rattle.managed_ledger.specs.Entries.{Ledger, whole, trimmed}
 use Rattle.records.specs.Maps.{Kept}
@@ -20,7 +23,7 @@ use Rattle.topic_core.proofs.Standings.{left_like, standing_goes_on}
 use Rattle.node.specs.declared.held.Held.{Held}
 use Rattle.node.specs.declared.topics.Topics.{Topics}
 use Rattle.catalog.specs.declared.catalog.Catalog.{Catalog}
-use Rattle.catalog.specs.Catalogs.{StandsFor as NamesStand, Holds as NamesHeld, remembered, per_ledger, failed}
+use Rattle.catalog.specs.Catalogs.{Own, StandsFor as NamesStand, Holds as NamesHeld, OldCounts, remembered, per_ledger, failed}
 use Rattle.session.specs.Broker.{Broker, topic_at, with_topic, fresh}
 use Rattle.node.specs.Naming.{IsFormed}
 use Rattle.node.specs.State.{Stage, Resting, MayRefuse, MayRefuseOf, stage_in, over}
@@ -137,6 +140,14 @@ formed_of t = record {
   ledgers = λ number. at_each (λ (u : Topic). u.per_ledger ≡ per_ledger t.catalog) (λ h. h.core) t.held.items number (fresh (per_ledger t.catalog)) refl (λ j h is. (t.numbered j h is).1);
 }
 
+-- the list of topics of version 1 isn't the one of version 2
+pub old_beside : ¬ Own (file_id.Catalog One)
+old_beside own = absurd (cc)
+
+-- whether a folder of version 1 counts is known by its list of topics alone
+pub newest_moved : (a c : Image) → c (file_id.Catalog One) ≡ a (file_id.Catalog One) → ¬ OldCounts a → ¬ OldCounts c
+newest_moved a c same absent counts = absent (subst (λ x. HasOpenHeader One x) same counts)
+
 -- Files that stand for a broker stand for one of the same names, of whose topics a crash leaves what it leaves of that one's.
 pub stands_before : (files_stand : ℕ → Image → Ledger → Kept → Type 0) (b c : Broker) (files : Image) → IsFormed c → c.per_ledger ≡ b.per_ledger → c.names ≡ b.names → c.doubtful ≡ b.doubtful
     → ((number : ℕ) (l : Ledger) (k : Kept) → IsLeft (topic_at b number) l k → IsLeft (topic_at c number) l k) → StandsForBroker files_stand b files → StandsForBroker files_stand c files
@@ -144,6 +155,7 @@ stands_before files_stand b c files formed ledgers names doubtful left s =
     let count : length c.topics ≡ length b.topics = formed.named ∙ ap (λ (l : List (List ℕ)). length l) names ∙ sym s.formed.named in
     record {
       formed = formed;
+      newest = s.newest;
       names = subst (λ d. NamesLeft files_stand d c files) (sym doubtful) (names_as files_stand b.doubtful b c files ledgers names count s.names);
       topics = λ number topic is.
           let low = slice_get_within c.topics number topic is in
@@ -161,6 +173,7 @@ module _ {T S : Type 0} {store : StoreMembers T} (disk : S → Disk) where
   pub stands_so : (t : Topics T S store) → TopicsStand disk t → (files : Image) → (disk t.shelf).may_leave files → StandsForBroker store.stands (broker_of t) files
   stands_so t standing files may = record {
     formed = formed_of t;
+    newest = standing.newest files may;
     names = standing.names files may;
     topics = λ number topic is.
         let x = get_map (λ (h : Held T store). h.core) t.held.items number topic is in
@@ -271,6 +284,7 @@ module _ {T S : Type 0} {store : StoreMembers T} (disk : S → Disk) where
         standing = record {
           honest = subst (λ (s : S). (disk s).honest) (sym shelf) standing.honest;
           each = subst (λ (s : S). (j : ℕ) (x : Held T store) → slice_get new.held.items j ≡ Some x → HeldStands x (disk s)) (sym shelf) (each_on (disk t.shelf) standing.each);
+          newest = subst (λ (s : S). (files : Image) → (disk s).may_leave files → ¬ OldCounts files) (sym shelf) standing.newest;
           names = subst (λ (s : S). (files : Image) → (disk s).may_leave files → NamesLeft store.stands new.doubtful (broker_of new) files) (sym shelf) (λ files may. names_then files (standing.names files may));
           settled = subst (λ (s : S). failed new.catalog ≡ false → SettledIn (NamesHeld new.catalog) (disk s) (remembered new.catalog)) (sym shelf) (settled_on (disk t.shelf) standing.settled);
         };
@@ -293,6 +307,7 @@ module _ {T S : Type 0} {store : StoreMembers T} (disk : S → Disk) where
         standing = record {
           honest = reads.kept.honest standing.honest;
           each = each_on (disk new.shelf) (λ j x is. standing_read store.stands (phase_in x) x.core (view_in x) (disk t.shelf) (disk new.shelf) reads (standing.each j x is));
+          newest = λ files may. standing.newest files ((reads.any_moment standing.honest).now files may);
           names = λ files may. names_then files (standing.names files ((reads.any_moment standing.honest).now files may));
           settled = settled_on (disk new.shelf) (λ works. settled_names (disk t.shelf) (disk new.shelf) t.catalog reads (standing.settled works));
         };

@@ -3,7 +3,7 @@ use Rattle.std.specs.Prelude.{◌≡◌, ◌⊎◌, ◌<◌, ◌≤◌, ℕ, fal
 use Rattle.std.specs.FinMap as map
 use Rattle.disk.specs.Disk.{Disk, Image, Leaves}
 use Rattle.disk.specs.Contents.{Settled}
-use Rattle.catalog.specs.Catalogs.{StandsFor as NamesStand, Holds as NamesHeld, remembered, per_ledger, failed}
+use Rattle.catalog.specs.Catalogs.{StandsFor as NamesStand, Holds as NamesHeld, OldCounts, remembered, per_ledger, failed}
 use Rattle.gated_log.specs.declared.read_error.ReadError.{ReadError}
 use Rattle.managed_ledger.specs.Entries.{Ledger, whole}
 use Rattle.records.specs.Maps.{Kept}
@@ -29,9 +29,10 @@ NamesLeft files_stand None b files = NamesStand b.per_ledger files b.names
 NamesLeft files_stand (Some name) b files =
     NamesStand b.per_ledger files b.names ⊎ (NamesStand b.per_ledger files (b.names ++ name ∷ []) × files_stand (length b.topics) files (whole []) map.empty)
 
--- the files stand for what a crash leaves of the broker: its names, and each topic
+-- the files stand for what a crash leaves of the broker: its names, and each topic; and no folder of version 1 counts beside them
 pub record StandsForBroker (files_stand : ℕ → Image → Ledger → Kept → Type 0) (b : Broker) (files : Image) : Type 0 where
   pub formed : IsFormed b
+  pub newest : ¬ OldCounts files
   pub names : NamesLeft files_stand b.doubtful b files
   pub topics : (number : ℕ) (t : Topic) → slice_get b.topics number ≡ Some t → StandsFor (files_stand number) (IsLeft t) files
 
@@ -109,6 +110,7 @@ module _ {T S : Type 0} {store : StoreMembers T} where
     pub record TopicsStand (t : Topics T S store) : Type 0 where
       pub honest : (disk t.shelf).honest
       pub each : (number : ℕ) (h : Held T store) → slice_get t.held.items number ≡ Some h → HeldStands h (disk t.shelf)
+      pub newest : (files : Image) → (disk t.shelf).may_leave files → ¬ OldCounts files
       pub names : (files : Image) → (disk t.shelf).may_leave files → NamesLeft store.stands t.doubtful (broker_of t) files
       pub settled : failed t.catalog ≡ false → Settled (NamesHeld t.catalog) (disk t.shelf) (remembered t.catalog)
 

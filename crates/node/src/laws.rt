@@ -1,11 +1,13 @@
 ghost use Rattle.node.specs.Cuts.{CutsAreTurns};
 ghost use Rattle.node.specs.Failing.{FailsForACause};
+ghost use Rattle.node.specs.Folders.{FoldersHoldOneContent, NewFoldersAreServed, UpgradesHaveOneFault};
 ghost use Rattle.node.specs.Grounds.{RepliesRestOnFrames};
 ghost use Rattle.node.specs.Hearing.{FramesAreAccountedFor};
 ghost use Rattle.node.specs.Opening.{HaveOneFault};
 ghost use Rattle.node.specs.Laws.{RunsUnfold, LivesUnfold, StaysSound, MovesPublish, ReceiptsAreCovered, ReceiptsAreFound, WordsAreKept, MessagesAreAdmitted, LivesAccount};
 
-use topic_core::TopicStore;
+use disk::Shelf;
+use topic_core::{FileStores, TopicStore};
 
 /// The bytes that go out to each session are frames, each whole, and each topic moves by allowed moves, on which it
 /// hands out just those replies that don't answer a command at once.
@@ -91,4 +93,22 @@ pub fn replies_rest_on_frames()
 /// The files of a node have one first fault: the catalog's, or that of the first of its topics whose files have one.
 pub fn openings_have_one_fault<T: TopicStore>()
     ensures { HaveOneFault T.stands T.faulty }
+{}
+
+/// Files are a folder of one version at most, and of one content: a number of entries a ledger, names, and of each topic its entries and
+/// subscriptions.
+pub fn folders_hold_one_content()
+    ensures { FoldersHoldOneContent }
+{}
+
+/// What an upgrade leaves is served. Where whatever a crash leaves is a folder of version 2 that holds a content, a node of just these
+/// names, entries and subscriptions is at rest: so it opens. The node that is opened has just them, and what a node has that was just
+/// opened is what its files hold.
+pub fn new_folders_are_served<S: Shelf>()
+    ensures { NewFoldersAreServed S.disk (⟦<FileStores as TopicStore>⟧.stands) }
+{}
+
+/// An upgrade is refused for one fault of the files that it finds, and for none where they are a folder of either version.
+pub fn upgrades_have_one_fault()
+    ensures { UpgradesHaveOneFault }
 {}

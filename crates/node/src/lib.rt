@@ -21,6 +21,7 @@ mod serving;
 mod site;
 mod status;
 mod topics;
+mod upgrading;
 
 pub use catalog::EntriesPerLedger;
 pub use commands::ReplyText;
@@ -28,9 +29,10 @@ pub use event::{Event, Happening, Output, TopicEvent, Verdict};
 pub use gated_log::Refusal;
 pub use keeping::{names_are_kept, outputs_tell_no_fault};
 pub use laws::{
-    cuts_are_turns, frames_are_accounted_for, lives_account, lives_unfold, messages_are_admitted,
-    moves_publish, openings_have_one_fault, receipts_are_covered, receipts_are_found,
-    replies_rest_on_frames, runs_unfold, stays_sound, topics_fail_for_a_cause, words_are_kept,
+    cuts_are_turns, folders_hold_one_content, frames_are_accounted_for, lives_account,
+    lives_unfold, messages_are_admitted, moves_publish, new_folders_are_served,
+    openings_have_one_fault, receipts_are_covered, receipts_are_found, replies_rest_on_frames,
+    runs_unfold, stays_sound, topics_fail_for_a_cause, upgrades_have_one_fault, words_are_kept,
 };
 pub use node::Node;
 pub use octets::Octets;
@@ -39,3 +41,4 @@ pub use resuming::{cuts_are_opened, lives_go_on, openings_are_starts};
 pub use session::Fault;
 pub use site::Site;
 pub use status::TopicStatus;
+pub use upgrading::{Upgraded, upgrade};

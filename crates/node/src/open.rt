@@ -1,7 +1,8 @@
 ghost use Rattle.std.specs.Prelude.{◌≡◌, ◌≢◌, ◌⊎◌, ◌<◌, ◌≤◌, ℕ, List, length, IfOk, IfErr, OnOk, IsErrOf};
-ghost use Rattle.disk.specs.Disk.{Same, Leaves, Kept, Failed};
+ghost use Rattle.disk.specs.Disk.{Image, Same, Leaves, Kept, Failed};
 ghost use Rattle.disk.specs.Areas.{Agree, OfTopic};
 ghost use Rattle.gated_log.specs.declared.refusal.Refusal.TheVariants.{Device, NoMemory};
+ghost use Rattle.catalog.specs.Catalogs.{OldCounts};
 ghost use Rattle.node.specs.Numbers.{AreNumbered};
 ghost use Rattle.node.specs.State.{State, fresh_broker};
 ghost use Rattle.node.specs.Standing.{state_of, Stands, AtRest};
@@ -19,14 +20,14 @@ use std::alloc::Global;
 use topic_core::TopicStore;
 
 impl<T: TopicStore, S: Shelf + Drop> Node<T, S> {
-    /// Makes the files of a node without topics, whatever was in the catalog's. Takes no memory, and is refused only where the
-    /// device failed. Until the `Ok` a crash may leave anything of the catalog's file.
+    /// Makes the files of a node without topics, whatever was in the catalog's, beside a folder of version 1 that doesn't count. Takes no
+    /// memory, and is refused only where the device failed. Until the `Ok` a crash may leave anything of the catalog's file.
     pub fn init(
         alloc: Global,
         entries_per_ledger: EntriesPerLedger,
         shelf: &mut S,
     ) -> Result<(), Refusal>
-        ensures made { OnOk result ((S.disk shelf.old).honest → (url : List ℕ) →
+        ensures made { OnOk result ((S.disk shelf.old).honest → ((c : Image) → (S.disk shelf.old).may_leave c → ¬ OldCounts c) → (url : List ℕ) →
             (state : State) × (state.broker ≡ fresh_broker entries_per_ledger.count url) × AtRest T.stands state (S.disk shelf.new)) }
         ensures refused { IfErr result (λ e. (e ≡ Device) × Failed (S.disk shelf.old) (S.disk shelf.new)) }
         ensures kept { Kept (S.disk shelf.old) (S.disk shelf.new) }
@@ -35,7 +36,8 @@ impl<T: TopicStore, S: Shelf + Drop> Node<T, S> {
         Ok(())
     }
 
-    /// Opens the node that the device holds, whatever its files hold: the catalog, and then each topic by its number. Each file
+    /// Opens the node that the device holds, whatever its files hold: where no folder of version 1 counts the catalog, and then each topic by
+    /// its number. Each file
     /// is synced once and read once, and nothing is written. No session is open. The first fault that stands in the files is
     /// told. A refusal hands the site back.
     pub fn open(alloc: Global, site: Site<S>) -> Result<Node<T, S>, (Refusal, Site<S>)>
@@ -59,7 +61,7 @@ impl<T: TopicStore, S: Shelf + Drop> Node<T, S> {
         ensures kept { Kept (S.disk site.shelf) (disk_after S.disk result) }
     {
         let Site { url, mut shelf } = site;
-        let catalog = match Catalog::open(alloc, &mut shelf) {
+        let catalog = match Catalog::open_newest(alloc, &mut shelf) {
             Ok(catalog) => catalog,
             Err(why) => return Err((why, Site { url, shelf })),
         };

@@ -11,7 +11,7 @@ ghost use Rattle.node.specs.Standing.{broker_of, TopicsStand, Works, Fails};
 use crate::held::Held;
 use crate::topics::Topics;
 use catalog::Catalog;
-use disk::{FileId, Shelf};
+use disk::{CATALOG, Shelf};
 use gated_log::Refusal;
 use names::TopicName;
 use session::Found;
@@ -75,7 +75,7 @@ impl<T: TopicStore, S: Shelf> Topics<T, S> {
         if !self.catalog.is_followed_by(&again) {
             drop(again);
             return Err(Refusal::Damaged {
-                file: FileId::Catalog,
+                file: CATALOG,
                 offset: 0,
             });
         }

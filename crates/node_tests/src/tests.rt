@@ -1,11 +1,12 @@
 // Each output was worked out by hand from the protocol.
-use disk::{CursorSlot, DeviceError, FileId, Fuse, Shelf};
+use disk::{CATALOG, CursorSlot, DeviceError, FileId, Folder, Fuse, Shelf, TopicId};
 use disk_mem::MemShelf;
 use node::{
     EntriesPerLedger, Event, Fault, Happening, Machine, Node, Octets, Output, Refusal, ReplyText,
-    Site, TopicEvent, Verdict, drive, lives_account, lives_unfold, messages_are_admitted,
-    moves_publish, openings_have_one_fault, receipts_are_covered, receipts_are_found, runs_unfold,
-    stays_sound, words_are_kept,
+    Site, TopicEvent, Verdict, drive, folders_hold_one_content, lives_account, lives_unfold,
+    messages_are_admitted, moves_publish, new_folders_are_served, openings_have_one_fault,
+    receipts_are_covered, receipts_are_found, runs_unfold, stays_sound, upgrades_have_one_fault,
+    words_are_kept,
 };
 use std::alloc::{AllocError, Global};
 use std::test::Fail;
@@ -15,6 +16,7 @@ use topic_core::FileStores;
 mod exchanges;
 mod steps;
 mod stops;
+mod upgrades;
 
 /// A node and a machine whose device is in memory.
 type MemNode = Node<FileStores, MemShelf>;
@@ -65,31 +67,42 @@ fn octets(alloc: Global, bytes: &[u8]) -> Result<Octets, AllocError> {
     Ok(Octets::from(bytes.to_vec(alloc)?))
 }
 
+/// Its topics.
+const FIRST: TopicId = TopicId {
+    folder: Folder::Two,
+    number: 0,
+};
+
+const SECOND: TopicId = TopicId {
+    folder: Folder::Two,
+    number: 1,
+};
+
 /// The files of a node of two topics.
 const FILES: [FileId; 7] = [
-    FileId::Catalog,
+    CATALOG,
     FileId::Segment {
-        topic: 0,
+        topic: FIRST,
         number: 0,
     },
     FileId::Slot {
-        topic: 0,
+        topic: FIRST,
         slot: CursorSlot::Zero,
     },
     FileId::Slot {
-        topic: 0,
+        topic: FIRST,
         slot: CursorSlot::One,
     },
     FileId::Segment {
-        topic: 1,
+        topic: SECOND,
         number: 0,
     },
     FileId::Slot {
-        topic: 1,
+        topic: SECOND,
         slot: CursorSlot::Zero,
     },
     FileId::Slot {
-        topic: 1,
+        topic: SECOND,
         slot: CursorSlot::One,
     },
 ];
@@ -402,4 +415,7 @@ fn laws_cost_nothing() {
     words_are_kept();
     messages_are_admitted();
     lives_account();
+    folders_hold_one_content();
+    upgrades_have_one_fault();
+    new_folders_are_served::<MemShelf>();
 }

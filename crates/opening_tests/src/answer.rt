@@ -7,7 +7,7 @@ use crate::reading::{TOPIC, slot};
 use crate::taken::Taken;
 use anyhow::{Error, bail};
 use cursor::Cursor;
-use disk::{CrashShelf, CursorSlot, FileId, Shelf};
+use disk::{CrashShelf, CursorSlot, FileId, Shelf, served};
 use disk_mem::MemShelf;
 use gated_log::Refusal;
 use records::KeptCursor;
@@ -123,7 +123,7 @@ fn all_contents(alloc: Global, shelf: &mut MemShelf) -> Result<Vec<Vec<u8>>, Err
     let mut files = Vec::new(alloc);
     for number in 0..SEGMENTS {
         let file = FileId::Segment {
-            topic: TOPIC,
+            topic: served(TOPIC),
             number,
         };
         files.push(contents(alloc, shelf, file)?)?;

@@ -1,7 +1,7 @@
 // What the words of a line spell.
 
 use anyhow::{Error, bail};
-use disk::{CursorSlot, FileId};
+use disk::{CursorSlot, FileId, served};
 use std::alloc::{AllocError, Global};
 
 /// The topic whose files are laid.
@@ -15,7 +15,7 @@ pub(crate) fn words<'a>(alloc: Global, asked: &'a str) -> Result<Vec<&'a str>, A
 pub(crate) fn file(kind: &str, number: &str) -> Result<FileId, Error> {
     match (kind, number) {
         ("segment", number) => Ok(FileId::Segment {
-            topic: TOPIC,
+            topic: served(TOPIC),
             number: number.parse()?,
         }),
         ("slot", "0") => Ok(slot(CursorSlot::Zero)),
@@ -25,5 +25,8 @@ pub(crate) fn file(kind: &str, number: &str) -> Result<FileId, Error> {
 }
 
 pub(crate) fn slot(slot: CursorSlot) -> FileId {
-    FileId::Slot { topic: TOPIC, slot }
+    FileId::Slot {
+        topic: served(TOPIC),
+        slot,
+    }
 }

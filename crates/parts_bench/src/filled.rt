@@ -6,7 +6,7 @@ use crate::counted::CountedShelf;
 use anyhow::{Error, bail};
 use bytes::Bytes;
 use commands::read_entry;
-use disk::Shelf;
+use disk::{Shelf, served};
 use managed_ledger::{EntryStore, ManagedLedger, has_message_count};
 use std::alloc::Global;
 
@@ -69,7 +69,7 @@ pub fn filled<S: Shelf>(
 ) -> Result<ManagedLedger, Error> {
     let entry = entry(alloc)?;
     let entries = copies(alloc, &entry, batch)?;
-    let mut ledger = ManagedLedger::create(alloc, shelf, TOPIC, PER_LEDGER)?;
+    let mut ledger = ManagedLedger::create(alloc, shelf, served(TOPIC), PER_LEDGER)?;
     for _ in 0..count.div_ceil(batch.max(1)) {
         shelf.take_counts();
         append(&mut ledger, shelf, entries.as_slice())?;

@@ -1,7 +1,7 @@
 use crate::counted::{CountedShelf, Counts};
 use crate::filled::{PER_LEDGER, TOPIC, filled};
 use anyhow::{Error, bail};
-use disk::{FileId, Shelf};
+use disk::{FileId, Shelf, served};
 use disk_mem::MemShelf;
 use gated_log::UNTRIMMED;
 use managed_ledger::{EntryStore, ManagedLedger};
@@ -14,7 +14,7 @@ pub(crate) fn bytes_of(shelf: &mut Device, segments: u64) -> Result<u64, Error> 
     let mut bytes: u64 = 0;
     for number in 0..segments {
         let file = FileId::Segment {
-            topic: TOPIC,
+            topic: served(TOPIC),
             number,
         };
         bytes = bytes.saturating_add(shelf.length(file)?);
@@ -23,7 +23,7 @@ pub(crate) fn bytes_of(shelf: &mut Device, segments: u64) -> Result<u64, Error> 
 }
 
 fn again(alloc: Global, shelf: &mut Device) -> Result<ManagedLedger, Error> {
-    let (ledger, ()) = ManagedLedger::open(alloc, shelf, TOPIC, PER_LEDGER, UNTRIMMED, ())?;
+    let (ledger, ()) = ManagedLedger::open(alloc, shelf, served(TOPIC), PER_LEDGER, UNTRIMMED, ())?;
     Ok(ledger)
 }
 

@@ -5,7 +5,7 @@ use crate::filled::{PER_LEDGER, TOPIC, filled};
 use crate::ledger::{Device, bytes_of};
 use anyhow::{Error, bail};
 use cursor_store::{CursorStore, SubStore};
-use disk::{CursorSlot, FileId, Shelf};
+use disk::{CursorSlot, FileId, Shelf, served};
 use disk_mem::MemShelf;
 use managed_ledger::EntryStore;
 use records::{Name, Record};
@@ -45,7 +45,7 @@ fn append(store: &mut CursorStore, shelf: &mut Device, changes: &[Record]) -> Re
 
 /// Makes the subscriptions, each with as many records.
 fn subscribe(alloc: Global, shelf: &mut Device, records: u64) -> Result<(), Error> {
-    let mut store = CursorStore::create(alloc, shelf, TOPIC)?;
+    let mut store = CursorStore::create(alloc, shelf, served(TOPIC))?;
     for number in 0..SUBSCRIPTIONS {
         let changes = changes(alloc, number, records / SUBSCRIPTIONS)?;
         append(&mut store, shelf, changes.as_slice())?;
@@ -57,7 +57,10 @@ fn subscribe(alloc: Global, shelf: &mut Device, records: u64) -> Result<(), Erro
 fn slot_bytes(shelf: &mut Device) -> Result<u64, Error> {
     let mut bytes: u64 = 0;
     for slot in [CursorSlot::Zero, CursorSlot::One] {
-        let file = FileId::Slot { topic: TOPIC, slot };
+        let file = FileId::Slot {
+            topic: served(TOPIC),
+            slot,
+        };
         bytes = bytes.saturating_add(shelf.length(file)?);
     }
     Ok(bytes)

@@ -33,6 +33,7 @@ pub(crate) fn command<'a>(alloc: Global) -> Result<Command<'a>, AllocError> {
         .subcommand(init_command(alloc)?)?
         .subcommand(serve_command(alloc)?)?
         .subcommand(inspect_command(alloc)?)?
+        .subcommand(upgrade_command(alloc)?)?
         .subcommand(replay)
 }
 
@@ -90,6 +91,12 @@ fn inspect_command<'a>(alloc: Global) -> Result<Command<'a>, AllocError> {
         .about(
             "Prints a line for each topic in a folder, and behind it one for each of its subscriptions",
         )
+        .arg(folder_argument(alloc))
+}
+
+fn upgrade_command<'a>(alloc: Global) -> Result<Command<'a>, AllocError> {
+    Command::new(alloc, "upgrade")
+        .about("Makes a folder of version 2 of one of version 1, whose files stay")
         .arg(folder_argument(alloc))
 }
 

@@ -19,6 +19,7 @@ use clap::ArgMatches;
 use clap::error::ErrorKind;
 use folder::FolderFault;
 use log::{Log, Logged, error};
+use node::Refusal;
 use replay::{FromReader, ProgramFault, ToWriter, exit_status, replay, write_fault};
 use server::{ServeFault, Settings};
 use std::fs::File;
@@ -116,6 +117,7 @@ where
         Some(("init", words)) => Ok(init(rt, words)),
         Some(("serve", words)) => Ok(serve(rt, words)),
         Some(("inspect", words)) => Ok(inspect(rt, words)),
+        Some(("upgrade", words)) => Ok(upgrade(rt, words)),
         Some(_) | None => {
             replay_input(rt, matches)?;
             Ok(0)
@@ -197,6 +199,14 @@ fn inspect<R: AllocGlobal + Print + Eprint + Log + Files<File = File>>(
     status_of(rt, done)
 }
 
+fn upgrade<R: AllocGlobal + Print + Eprint + Log + Files<File = File>>(
+    rt: &R,
+    words: &ArgMatches<'_>,
+) -> u8 {
+    let done = folder::upgrade(rt, folder_of(words), &mut io::writer(rt));
+    status_of(rt, done)
+}
+
 // The status of a command on a folder, which says on standard error why it ended early.
 fn status_of<R: Eprint + Log>(rt: &R, done: Result<(), FolderFault>) -> u8
     ensures done { OnOk done (result ≡ 0) }
@@ -208,6 +218,9 @@ fn status_of<R: Eprint + Log>(rt: &R, done: Result<(), FolderFault>) -> u8
     match fault {
         FolderFault::HoldsTopics => {
             error!(rt; "the folder holds files of topics, but its list of topics isn't open; nothing was made")
+        }
+        FolderFault::Refused(Refusal::Version) => {
+            error!(rt; "the folder, or a file in it, is of another version; `pulsar_node upgrade DIR` makes version 2 of a folder of version 1")
         }
         FolderFault::Refused(_) | FolderFault::AlreadyInitialised | FolderFault::InUse => {}
     }

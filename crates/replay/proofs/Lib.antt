@@ -1,4 +1,5 @@
 pub mod Counted
+pub mod Fresh
 pub mod Written
 pub mod Worked
 pub mod Told

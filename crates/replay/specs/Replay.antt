@@ -2,6 +2,7 @@
 use Rattle.std.specs.Prelude.{◌≡◌, ℕ, ◌+◌, Bool, true, false, List, [], ◌∷◌, ◌++◌, length, take, slice_get, codes, ◌⊎◌, Option, Some, None, Result, Ok, Err, IfOk}
 use Rattle.std.specs.List.{flat_map}
 use Rattle.std.specs.Io.KnownBytes.{Appends, Keeps}
+use Rattle.disk.specs.Areas.{served}
 use Rattle.disk.specs.Disk.{Image}
 use Rattle.disk.specs.declared.crash_shelf.CrashForm.{CrashForm}
 use Rattle.disk.specs.declared.crash_shelf.Fuse.{Fuse}
@@ -44,7 +45,7 @@ pub record Moment : Type 0 where
 
 -- the segments of a topic, from where its slots say that its ledger begins on, have so many entries each, by the files alone
 abbrev pub segments_laid : ℕ → Image → List ℕ → Type 0
-segments_laid = lay IsLaidOut SubscriptionsStand
+segments_laid number = lay IsLaidOut SubscriptionsStand (served number)
 
 -- An event of the node, and its output is printed. What the stores know of their segments goes on.
 pub record Happens (number : ℕ) (old : Moment) (event : Event) (text : List ℕ) (new : Moment) : Type 0 where

@@ -6,7 +6,7 @@ use crate::taken::Taken;
 use anyhow::{Error, bail};
 use disk::{DeviceError, FileId, Shelf};
 use gated_log::{
-    AtHeader, BatchBuilder, BatchList, GatedLog, LogHead, PreparedBatch, ReadError, Refusal,
+    AtHeader, BatchBuilder, BatchList, GatedLog, Label, LogHead, PreparedBatch, ReadError, Refusal,
 };
 use std::alloc::Global;
 
@@ -70,7 +70,12 @@ impl Logs {
     }
 
     fn create(&mut self, device: &mut Device, number: u64) -> Result<(), Refusal> {
-        self.log = Some(GatedLog::create(self.alloc, &mut device.shelf, FILE, number)?);
+        self.log = Some(GatedLog::create(
+            self.alloc,
+            &mut device.shelf,
+            FILE,
+            Label::plain(number),
+        )?);
         Ok(())
     }
 
@@ -111,7 +116,7 @@ impl Logs {
             AtHeader::Closed => "closed",
             AtHeader::Damaged => "damaged",
             AtHeader::OtherVersion => "version",
-            AtHeader::Number(_) => "number",
+            AtHeader::Labelled(_) => "number",
         };
         let text = format!(in self.alloc; "{} {header} {}", head.size(), head.number())?;
         self.head = Some(head);
@@ -148,7 +153,7 @@ impl Logs {
         let text = format!(in self.alloc;
             "{} {}, {} to {}, {}",
             id.file,
-            id.number,
+            id.label.number,
             log.count(),
             log.end(),
             standing(log.is_failed())

@@ -2,7 +2,7 @@
 
 use crate::reading::{bytes, yes};
 use anyhow::{Error, bail};
-use disk::{CursorSlot, DeviceError, FileId};
+use disk::{CATALOG, CursorSlot, DeviceError, FileId, served};
 use names::{NameFault, TopicName, is_name_part, is_topic_name};
 use records::{Name, is_subscription_name};
 use std::alloc::Global;
@@ -34,17 +34,17 @@ fn tell_topic(alloc: Global, text: &str, said: &mut String) -> Result<(), Error>
 /// The file of a kind, of any topic.
 fn file(words: &[&str]) -> Result<FileId, Error> {
     match words {
-        ["catalog"] => Ok(FileId::Catalog),
+        ["catalog"] => Ok(CATALOG),
         ["segment", topic, number] => Ok(FileId::Segment {
-            topic: topic.parse()?,
+            topic: served(topic.parse()?),
             number: number.parse()?,
         }),
         ["slot", topic, "0"] => Ok(FileId::Slot {
-            topic: topic.parse()?,
+            topic: served(topic.parse()?),
             slot: CursorSlot::Zero,
         }),
         ["slot", topic, "1"] => Ok(FileId::Slot {
-            topic: topic.parse()?,
+            topic: served(topic.parse()?),
             slot: CursorSlot::One,
         }),
         _ => bail!("no file has these words"),

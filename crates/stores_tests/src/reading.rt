@@ -1,12 +1,15 @@
 // What the words of a line spell, and how answers are spelled.
 
 use anyhow::{Error, bail};
-use disk::{CrashForm, CursorSlot, FileId};
+use disk::{CATALOG, CrashForm, CursorSlot, FileId, Folder, TopicId};
 use gated_log::Start;
 use std::alloc::{AllocError, Global};
 
 /// The topic whose files there are.
-pub(crate) const TOPIC: u16 = 3;
+pub(crate) const TOPIC: TopicId = TopicId {
+    folder: Folder::Two,
+    number: 3,
+};
 
 pub(crate) fn words<'a>(alloc: Global, asked: &'a str) -> Result<Vec<&'a str>, AllocError> {
     asked.split(' ').collect(alloc)
@@ -42,7 +45,7 @@ pub(crate) fn file(word: &str) -> Result<FileId, Error> {
         _ => match word {
             "c0" => Ok(slot(CursorSlot::Zero)),
             "c1" => Ok(slot(CursorSlot::One)),
-            "catalog" => Ok(FileId::Catalog),
+            "catalog" => Ok(CATALOG),
             _ => bail!("no file is called {word}"),
         },
     }

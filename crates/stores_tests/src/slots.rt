@@ -1,10 +1,14 @@
 // Two slots.
+ghost use Rattle.std.specs.Prelude.{◌≡◌, IfOk};
+ghost use Rattle.disk.specs.declared.file_id.Folder.{Folder};
+ghost use Rattle.gated_log.specs.Wholes.{folder_in};
 
 use crate::device::Device;
 use crate::logs::append;
 use crate::reading::{TOPIC, bytes, standing, yes};
 use crate::taken::Taken;
 use anyhow::{Error, bail};
+use disk::Folder;
 use disk_mem::MemShelf;
 use gated_log::{BatchList, LogBuilder, PreparedLog, Refusal};
 use std::alloc::Global;
@@ -19,21 +23,29 @@ pub(crate) struct Slots {
 }
 
 /// A log of the bodies that words spell.
-fn log_of(alloc: Global, words: &[&str]) -> Result<PreparedLog, Error> {
-    let mut log = LogBuilder::new(alloc)?;
-    for word in words {
+fn log_of(alloc: Global, words: &[&str]) -> Result<PreparedLog, Error>
+    ensures { IfOk result (λ log. folder_in log ≡ Folder.Two) }
+{
+    let mut log = LogBuilder::new(alloc, Folder::Two)?;
+    'words: for word in words {
         let body = bytes(alloc, word)?;
         log = log.with_body(&body)?;
     }
     Ok(log.finish()?)
 }
 
-/// Where there is no generation for it, nothing is replaced.
-fn replace(slots: &mut TwoSlot, shelf: &mut MemShelf, log: PreparedLog) -> Result<(), Refusal> {
+/// Where there is no generation for it, or the slots are of version 1, nothing is replaced.
+fn replace(slots: &mut TwoSlot, shelf: &mut MemShelf, log: PreparedLog) -> Result<(), Refusal>
+    requires { folder_in log ≡ Folder.Two }
+{
     if !slots.can_replace() {
         return Err(Refusal::TooLarge);
     }
-    slots.replace(shelf, log)?;
+    if slots.id().topic.folder == Folder::One {
+        return Err(Refusal::Version);
+    }
+    let start = slots.start();
+    slots.replace(shelf, log, start)?;
     Ok(())
 }
 
@@ -66,7 +78,7 @@ impl Slots {
         };
         let text = format!(in self.alloc;
             "topic {}, {}, {}, {}",
-            slots.id(),
+            slots.id().topic,
             slots.count(),
             standing(slots.is_failed()),
             yes(slots.can_replace())

@@ -2,7 +2,7 @@
 
 use crate::reading::spelled;
 use commands::MessageMeta;
-use gated_log::Fold;
+use gated_log::{Fold, Label};
 use managed_ledger::EntryFold;
 use std::alloc::{AllocError, Global};
 
@@ -50,8 +50,8 @@ impl Fold for Taken {
 
     ghost holds = { λ taken logs. Unit {0} };
 
-    fn begin(&mut self, number: u64) -> Result<bool, AllocError> {
-        let text = format!(in self.alloc; " |{number}")?;
+    fn begin(&mut self, label: Label) -> Result<bool, AllocError> {
+        let text = format!(in self.alloc; " |{}", label.number)?;
         self.text.push_str(text.as_str())?;
         Ok(true)
     }

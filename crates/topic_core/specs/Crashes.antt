@@ -1,6 +1,7 @@
 -- What a crash leaves of a topic, and what an opening makes of a failed one.
 use Rattle.std.specs.Prelude.{◌≡◌, ℕ, ◌<◌, Bool, true, false, Result, Ok, Err}
 use Rattle.disk.specs.declared.file_id.FileId.TheVariants.{Segment}
+use Rattle.disk.specs.Areas.{served}
 use Rattle.disk.specs.Disk.{Image}
 use Rattle.gated_log.specs.declared.refusal.Refusal.{Refusal}
 use Rattle.gated_log.specs.declared.refusal.Refusal.TheVariants as refusal
@@ -57,4 +58,4 @@ pub record IsShorter (files_stand : ℕ → Image → Ledger → Kept → Type 0
   pub kept : Kept
   pub stands : files_stand topic files ledger kept
   pub fewer : end_of ledger < core.committed
-  pub told : why ≡ refusal.Damaged (Segment topic 0) 0
+  pub told : why ≡ refusal.Damaged (Segment (served topic) 0) 0

@@ -19,7 +19,7 @@ use crate::found_entries::FoundEntries;
 use crate::producers::Producers;
 use crate::recent::Recent;
 use crate::topic::TopicCore;
-use disk::{FileId, Shelf};
+use disk::{FileId, Shelf, served};
 use gated_log::Refusal;
 use permits::Gauge;
 use reply_queues::ReplyQueues;
@@ -120,7 +120,10 @@ impl<G: Gauge> TopicCore<G> {
         if again.stores.len() < self.committed {
             drop(again);
             return Err(Refusal::Damaged {
-                file: FileId::Segment { topic, number: 0 },
+                file: FileId::Segment {
+                    topic: served(topic),
+                    number: 0,
+                },
                 offset: 0,
             });
         }

@@ -22,7 +22,7 @@ use Rattle.topic_core.specs.Standing.{Before, Match, Standing}
 use Rattle.topic_core.proofs.Standings.{reopened_standing}
 use Rattle.catalog.specs.Names.{Names}
 use Rattle.catalog.specs.declared.catalog.Catalog.{Catalog}
-use Rattle.catalog.specs.Catalogs.{Own, Holds, StandsFor as NamesStand, remembered, per_ledger}
+use Rattle.catalog.specs.Catalogs.{IsList, Holds, StandsFor as NamesStand, remembered, per_ledger}
 use Rattle.catalog.specs.Laws.{holds_stands}
 use Rattle.topic_lock.specs.declared.devices.Devices.{Devices}
 use Rattle.topic_lock.specs.declared.part.OpenPart.{OpenPart}
@@ -236,11 +236,11 @@ pub all_as : {S : Type 0} (disk : S → Disk) (lost lost' : Type 0) (old new : L
 all_as disk lost lost' old new then read j before after was is = reads_as lost lost' (OfTopic j) (disk before) (disk after) then (read j before after was is)
 
 pub no_device_read : {S : Type 0} (disk : S → Disk) (lost : Type 0) (devices : Devices S) → AllOnlyRead disk lost devices devices
-no_device_read disk lost devices = record { catalog = reads_none lost Own (disk devices.catalog); topics = none_read disk lost devices.topics.items }
+no_device_read disk lost devices = record { catalog = reads_none lost IsList (disk devices.catalog); topics = none_read disk lost devices.topics.items }
 
 pub devices_as : {S : Type 0} (disk : S → Disk) (lost lost' : Type 0) (old new : Devices S) → (lost → lost') → AllOnlyRead disk lost old new → AllOnlyRead disk lost' old new
 devices_as disk lost lost' old new then read = record {
-  catalog = reads_as lost lost' Own (disk old.catalog) (disk new.catalog) then read.catalog;
+  catalog = reads_as lost lost' IsList (disk old.catalog) (disk new.catalog) then read.catalog;
   topics = all_as disk lost lost' old.topics.items new.topics.items then read.topics;
 }
 

@@ -12,8 +12,8 @@ use Rattle.topic_core.specs.Standing.{Before, Standing}
 use Rattle.topic_core.specs.State.{Topic, opened}
 use Rattle.catalog.specs.Names.{Names}
 use Rattle.catalog.specs.declared.catalog.Catalog.{Catalog}
-use Rattle.catalog.specs.Catalogs.{Own, Holds, StandsFor as NamesStand, remembered, per_ledger}
-use Rattle.catalog.specs.Folded.{IsFault as CatalogFault}
+use Rattle.catalog.specs.Catalogs.{IsList, Holds, StandsFor as NamesStand, OldCounts, remembered, per_ledger}
+use Rattle.catalog.specs.Folded.{IsNewestFault as CatalogFault}
 use Rattle.topic_lock.specs.declared.devices.Devices.{Devices}
 use Rattle.topic_lock.specs.declared.part.OpenPart.{OpenPart}
 
@@ -65,7 +65,7 @@ module _ {S : Type 0} (disk : S → Disk) where
   -- the first fault that stands in the files: the catalog's, or that of its topics by their numbers
   abbrev pub IsFirstFault : (ℕ → Image → Ledger → Kept → Type 0) → (ℕ → Image → Refusal → Type 0) → Devices S → Refusal → Type 0
   IsFirstFault files_stand faulty devices why = CatalogFault (disk devices.catalog).seen why
-      ⊎ ((per_ledger : ℕ) × (names : Names) × NamesStand per_ledger (disk devices.catalog).seen names × IsTopicFault files_stand faulty (length names) devices.topics.items why)
+      ⊎ ((¬ OldCounts (disk devices.catalog).seen) × (per_ledger : ℕ) × (names : Names) × NamesStand per_ledger (disk devices.catalog).seen names × IsTopicFault files_stand faulty (length names) devices.topics.items why)
 
   -- the catalog's file stands for names, and the files of each topic of them, on its device, for entries and subscriptions
   pub record FilesStand (files_stand : ℕ → Image → Ledger → Kept → Type 0) (devices : Devices S) : Type 0 where
@@ -85,7 +85,7 @@ module _ {S : Type 0} (disk : S → Disk) where
 
   -- each was only read
   pub record AllOnlyRead (lost : Type 0) (old new : Devices S) : Type 0 where
-    pub catalog : OnlyReads lost Own (disk old.catalog) (disk new.catalog)
+    pub catalog : OnlyReads lost IsList (disk old.catalog) (disk new.catalog)
     pub topics : AreOnlyRead lost old.topics.items new.topics.items
 
   -- each topic has what the files on its device stood for, and stands on that device as it is now

@@ -14,7 +14,7 @@ use crate::part::OpenPart;
 use crate::places::Known;
 use crate::tally::Tallies;
 use catalog::Catalog;
-use disk::{FileId, Shelf};
+use disk::{CATALOG, Shelf};
 use gated_log::Refusal;
 use names::TopicName;
 use session::Found;
@@ -96,7 +96,7 @@ impl<'a, T: TopicStore, S: Shelf + Drop, K: Tallies> SharedCatalog<'a, T, S, K> 
         let again = Catalog::open(self.alloc, &mut self.shelf)?;
         if !self.catalog.is_followed_by(&again) {
             return Err(Refusal::Damaged {
-                file: FileId::Catalog,
+                file: CATALOG,
                 offset: 0,
             });
         }

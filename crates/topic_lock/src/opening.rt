@@ -123,7 +123,7 @@ pub(crate) fn open_parts<T: TopicStore, S: Shelf + Drop>(
         catalog: shelf,
         topics: shelves,
     } = devices;
-    let catalog = match Catalog::open(alloc, shelf) {
+    let catalog = match Catalog::open_newest(alloc, shelf) {
         Ok(catalog) => catalog,
         Err(why) => return Err(why),
     };

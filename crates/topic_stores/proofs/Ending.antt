@@ -1,5 +1,6 @@
 -- How a write ends, once all of its batch is there: trimmed, or not.
 use Rattle.std.proofs.Common.{◌≡◌, inr, ⊎_elim, ℕ, ◌≤◌, Option, Some, None, List, refl, sym, ap, subst, ◌∙◌}
+use Rattle.disk.specs.declared.file_id.TopicId.{TopicId}
 use Rattle.disk.specs.declared.file_id.FileId.{FileId}
 use Rattle.disk.specs.Disk.{Disk, Image}
 use Rattle.disk.specs.Contents.{BeforeOrAfter}
@@ -22,7 +23,7 @@ pub kept_behind : {P : Type 0} (is_for : P → List Record → Type 0) (prepared
 kept_behind is_for None changes old later same none = sym same ∙ ap (λ (rs : List Record). after_all rs old) none
 kept_behind is_for (Some prepared) changes old later same it = (changes, it, sym same)
 
-module _ (es : ℕ → Start → Image → Ledger → Type 0) (ss : ℕ → ℕ → Start → Image → Kept → Type 0) (ea ca : ℕ → FileId → Type 0) (e : EntryView) (s : SubView) (el : EntryLaws es ea e) (sl : SubLaws ss ca s) where
+module _ (es : TopicId → Start → Image → Ledger → Type 0) (ss : TopicId → ℕ → Start → Image → Kept → Type 0) (ea ca : TopicId → FileId → Type 0) (e : EntryView) (s : SubView) (el : EntryLaws es ea e) (sl : SubLaws ss ca s) where
   settled_below : (d : Disk) (l : Ledger) (k : Kept) → Settled (both e s) d l k → HaveBelow l.base k
   settled_below d l k x = below es ss ea ca e s el sl d.seen l k (both_stand es ss ea ca e s el sl d.seen l k x.settled.now)
 

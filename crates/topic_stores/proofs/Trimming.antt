@@ -1,11 +1,13 @@
 -- A ledger that is trimmed, or isn't.
-use Rattle.std.proofs.Common.{◌≡◌, ℕ, ◌+◌, ◌-◌, ◌≤◌, max, zero, suc, List, [], ◌∷◌, take, drop, refl, sym, ap, arith}
+use Rattle.std.proofs.Common.{◌≡◌, ℕ, ◌+◌, ◌-◌, ◌≤◌, ◌<◌, Bool, true, false, max, zero, suc, List, [], ◌∷◌, take, drop, refl, sym, ap, arith}
 use Rattle.gated_log.specs.declared.start.Start.{Start}
 use Rattle.managed_ledger.specs.Entries.{Ledger, trimmed}
 use Rattle.managed_ledger.specs.Points.{Begins}
 use Rattle.managed_ledger.specs.Shape.{total}
 use Rattle.records.specs.Floors.{HaveBelow}
+use Rattle.cursor_store.specs.Trimming.{HasGeneration}
 use Rattle.records.specs.Maps.{Kept}
+use Rattle.topic_stores.specs.Appends.{IsOneReplaceLess}
 use Rattle.topic_stores.specs.Writing.{IsTrim}
 
 -- one that begins where it did
@@ -33,3 +35,8 @@ total_front (suc n) (count ∷ counts) = omega (arith, total_front n counts)
 
 pub begins_within : (from to : Start) (counts : List ℕ) (end : ℕ) → from.base + total counts ≡ end → Begins from counts to → to.base ≤ end
 begins_within from to counts end is begins = omega (arith, is, begins.base_is, total_front begins.number counts)
+
+-- where a trim has a generation behind a replace that is due, it has one once that is over
+pub one_left : (due : Bool) (left new : ℕ) → HasGeneration due left → IsOneReplaceLess due left new → 0 < new
+one_left true left new has less = omega (arith, has, less)
+one_left false left new has less = omega (arith, has, less)

@@ -1,5 +1,5 @@
 // The two parts of an append to each store of a topic.
-ghost use Rattle.std.specs.Prelude.{◌≡◌, ◌+◌, ◌<◌, ◌≤◌, ◌^◌, List, ℕ, true, false, length, sum_by, All, IfOk, IfSome, OnOk, IsErr};
+ghost use Rattle.std.specs.Prelude.{◌≡◌, ◌+◌, ◌<◌, ◌≤◌, ◌^◌, ◌&&◌, is_some, List, ℕ, true, false, length, sum_by, All, IfOk, IfSome, OnOk, IsErr};
 ghost use Rattle.disk.specs.Disk.{Image, Kept as Counted, Failed};
 ghost use Rattle.managed_ledger.specs.Entries.{Entries, Ledger, AreEntries, lengthened};
 ghost use Rattle.managed_ledger.specs.Points.{counts_with};
@@ -10,7 +10,8 @@ ghost use Rattle.disk.specs.Contents.{Settled, Steady, Appends, StaysSo};
 ghost use Rattle.records.specs.declared.record.Record.{Record};
 ghost use Rattle.records.specs.Maps.{Kept};
 ghost use Rattle.records.specs.Records.{AreFormed, after_all};
-ghost use Rattle.topic_stores.specs.Appends.{PreparedFor};
+ghost use Rattle.cursor_store.specs.Behind.{is_due_at};
+ghost use Rattle.topic_stores.specs.Appends.{PreparedFor, IsOneReplaceLess};
 ghost use Rattle.topic_stores.specs.Writing.{AreKnownWhole};
 
 use bytes::Bytes;
@@ -64,6 +65,9 @@ pub(crate) fn prepare_changes<C: SubStore>(
     ensures content { C.content store.new ≡ C.content store.old }
     ensures topic { C.topic_of store.new ≡ C.topic_of store.old }
     ensures start { C.start_of store.new ≡ C.start_of store.old }
+    ensures counted { C.counted store.new ≡ C.counted store.old }
+    ensures can_replace { C.can_replace store.new ≡ C.can_replace store.old }
+    ensures replaces_left { C.replaces_left store.new ≡ C.replaces_left store.old }
     ensures failed { C.failed store.new ≡ C.failed store.old }
 {
     if changes.is_empty() {
@@ -119,6 +123,9 @@ pub(crate) fn append_changes<C: SubStore, S: Shelf>(
         Appends result (Steady (C.holds store.new entries said) (C.written store.new)) (λ c. C.content store.new) (C.area (C.topic_of store.old)) (C.stands (C.topic_of store.old) entries said) (S.disk shelf.old) (S.disk shelf.new) kept (after_all changes kept) }
 
     ensures content { (changes : List Record) → PreparedFor (C.is_for store.old) prepared changes → OnOk result (C.content store.new ≡ after_all changes (C.content store.old)) }
+    // A replace that is due takes a generation.
+    ensures replaces_left { (changes : List Record) → PreparedFor (C.is_for store.old) prepared changes →
+        OnOk result (IsOneReplaceLess (is_some prepared && is_due_at (C.counted store.old) (C.can_replace store.old)) (C.replaces_left store.old) (C.replaces_left store.new)) }
     ensures remembered { IsErr result → C.content store.new ≡ C.content store.old }
     ensures topic { C.topic_of store.new ≡ C.topic_of store.old }
     ensures start { C.start_of store.new ≡ C.start_of store.old }

@@ -15,6 +15,7 @@ pub struct FileStores {
 }
 
 impl TopicStore for FileStores {
+    ghost use Rattle.disk.specs.Areas.{served};
     ghost use Rattle.journal.specs.Chains.{SegmentsOf};
     ghost use Rattle.two_slot.specs.Slots.{SlotsOf};
     ghost use Rattle.managed_ledger.specs.Behind as beginnings;
@@ -50,21 +51,21 @@ impl TopicStore for FileStores {
         (sub_laws cursors.topic_of cursors.start_of cursors.content cursors.failed cursors.Holds cursors.written cursors.StandsFor SlotsOf (λ store entries start image kept holds. holds.slots.works) cursor_laws.holds_content cursor_laws.holds_stand cursor_laws.holds_longer cursor_laws.stands_longer cursor_laws.stands_fits (λ t f own. own) cursor_laws.holds_local cursor_laws.written_local s.stores.subscriptions)
         layout.IsLaidOut (λ c l held. layout.held_laid s.stores.entries c l held) files ledger kept x };
 
-    ghost laid_one = { lay_one Stands cursors.StandsFor ledger_laws.stand_one ledger_laws.stand_base (λ t start image ledger stands. stands.ledger.few) cursor_laws.stands_one cursor_laws.stands_longer cursor_laws.stands_fits layout.IsLaidOut layout.laid_one };
+    ghost laid_one = { λ t. lay_one Stands cursors.StandsFor ledger_laws.stand_one ledger_laws.stand_base (λ t start image ledger stands. stands.ledger.few) cursor_laws.stands_one cursor_laws.stands_longer cursor_laws.stands_fits layout.IsLaidOut layout.laid_one (served t) };
 
-    ghost laid_local = { lay_local SegmentsOf SlotsOf (λ t f own. own) (λ t f own. own) cursors.StandsFor cursor_laws.stands_local layout.IsLaidOut layout.laid_local };
+    ghost laid_local = { λ t. lay_local SegmentsOf SlotsOf (λ t f own. own) (λ t f own. own) cursors.StandsFor cursor_laws.stands_local layout.IsLaidOut layout.laid_local (served t) };
 
-    ghost stands_one = { λ t files one other k j few a b. stand_one Stands cursors.StandsFor ledger_laws.stand_one ledger_laws.stand_base (λ t start image ledger stands. stands.ledger.few) cursor_laws.stands_one cursor_laws.stands_longer cursor_laws.stands_fits t files one other k j a b };
+    ghost stands_one = { λ t files one other k j few a b. stand_one Stands cursors.StandsFor ledger_laws.stand_one ledger_laws.stand_base (λ t start image ledger stands. stands.ledger.few) cursor_laws.stands_one cursor_laws.stands_longer cursor_laws.stands_fits (served t) files one other k j a b };
 
-    ghost stands_below = { stand_below Stands cursors.StandsFor ledger_laws.stand_one ledger_laws.stand_base (λ t start image ledger stands. stands.ledger.few) cursor_laws.stands_one cursor_laws.stands_longer cursor_laws.stands_fits };
+    ghost stands_below = { λ t. stand_below Stands cursors.StandsFor ledger_laws.stand_one ledger_laws.stand_base (λ t start image ledger stands. stands.ledger.few) cursor_laws.stands_one cursor_laws.stands_longer cursor_laws.stands_fits (served t) };
 
-    ghost faulty_one = { fault_one fronts.Begins Stands ledger_faults.IsFault cursor_faults.IsFault ledger_laws.stand_one ledger_faults.ledger_no_fault ledger_faults.fault_one cursor_faults.fault_one front_laws.begins_one };
+    ghost faulty_one = { λ t. fault_one fronts.Begins Stands ledger_faults.IsFault cursor_faults.IsFault ledger_laws.stand_one ledger_faults.ledger_no_fault ledger_faults.fault_one cursor_faults.fault_one front_laws.begins_one (served t) };
 
-    ghost stands_sound = { stand_sound fronts.Begins Stands ledger_faults.IsFault cursor_faults.IsFault ledger_laws.stand_one ledger_faults.ledger_no_fault cursors.StandsFor cursor_faults.stands_sound (λ t start image ledger stands. stands.ledger.few) front_laws.begins_stands };
+    ghost stands_sound = { λ t. stand_sound fronts.Begins Stands ledger_faults.IsFault cursor_faults.IsFault ledger_laws.stand_one ledger_faults.ledger_no_fault cursors.StandsFor cursor_faults.stands_sound cursor_laws.stands_fits (λ t start image ledger stands. stands.ledger.few) front_laws.begins_stands (served t) };
 
-    ghost stands_entries = { λ t files ledger k x. ledger_laws.stand_entries t x.0 files ledger x.1 };
+    ghost stands_entries = { λ t files ledger k x. ledger_laws.stand_entries (served t) x.0 files ledger x.1 };
 
-    ghost stands_local = { stand_local SegmentsOf SlotsOf (λ t f own. own) (λ t f own. own) cursors.StandsFor cursor_laws.stands_local Stands ledger_laws.stand_local };
+    ghost stands_local = { λ t. stand_local SegmentsOf SlotsOf (λ t f own. own) (λ t f own. own) cursors.StandsFor cursor_laws.stands_local Stands ledger_laws.stand_local (served t) };
 
     fn create<S: Shelf>(
         alloc: Global,

@@ -1,6 +1,6 @@
 // The parts of a write to both stores of a topic that reach the device.
-ghost use Rattle.std.specs.Prelude.{◌≡◌, ◌⊎◌, ◌+◌, ◌-◌, ◌<◌, ◌≤◌, ◌^◌, ◌||◌, List, ℕ, true, false, length, drop, IfSome, OnOk, IsErr};
-ghost use Rattle.disk.specs.Areas.{OfTopic, Within};
+ghost use Rattle.std.specs.Prelude.{◌≡◌, ◌⊎◌, ◌+◌, ◌-◌, ◌<◌, ◌≤◌, ◌^◌, ◌||◌, ◌&&◌, is_some, List, ℕ, true, false, length, drop, IfSome, OnOk, IsErr};
+ghost use Rattle.disk.specs.Areas.{FilesOf, Within};
 ghost use Rattle.disk.specs.Contents.{BeforeOrAfter};
 ghost use Rattle.disk.specs.Disk.{Kept as Counted, Failed};
 ghost use Rattle.managed_ledger.specs.Entries.{Entries, Ledger, end_of, lengthened, trimmed};
@@ -10,7 +10,8 @@ ghost use Rattle.records.specs.declared.record.Record.{Record};
 ghost use Rattle.records.specs.Maps.{Kept};
 ghost use Rattle.records.specs.Records.{AreFormed, after_all};
 ghost use Rattle.records.specs.Floors.{StartFrom};
-ghost use Rattle.topic_stores.specs.Appends.{PreparedFor};
+ghost use Rattle.cursor_store.specs.Behind.{is_due_at};
+ghost use Rattle.topic_stores.specs.Appends.{PreparedFor, IsOneReplaceLess};
 ghost use Rattle.topic_stores.specs.Views.{Settled, both, entry_view, sub_view, stand};
 ghost use Rattle.topic_stores.specs.Writing.{AreKnownWhole, IsLeft, StandsFor};
 
@@ -52,7 +53,7 @@ impl<E: EntryStore, C: SubStore> TopicStores<E, C> {
         ensures within { (ledger : Ledger) (kept : Kept) (batch : Entries) (records : List Record) (limit : ℕ) → PreparedFor E.is_for entries batch → PreparedFor (C.is_for self.old.subscriptions) changes records →
             AreFormed (end_of (lengthened ledger batch)) kept records → StartFrom (C.start_of self.old.subscriptions).base records →
             Settled (both (entry_view E.topic_of E.start_of E.counts E.per_ledger E.failed E.holds self.old.entries) (sub_view C.topic_of C.start_of C.content C.failed C.holds C.written self.old.subscriptions)) (S.disk shelf.old) ledger kept →
-            Within (OfTopic (E.topic_of self.old.entries)) (StandsFor (stand E.stands C.stands (E.topic_of self.old.entries)) (IsLeft ledger kept batch records limit)) (S.disk shelf.old) (S.disk shelf.new) }
+            Within (FilesOf (E.topic_of self.old.entries)) (StandsFor (stand E.stands C.stands (E.topic_of self.old.entries)) (IsLeft ledger kept batch records limit)) (S.disk shelf.old) (S.disk shelf.new) }
 
         ensures start { E.start_of self.new.entries ≡ E.start_of self.old.entries }
         ensures said { C.start_of self.new.subscriptions ≡ C.start_of self.old.subscriptions }
@@ -62,6 +63,9 @@ impl<E: EntryStore, C: SubStore> TopicStores<E, C> {
         ensures total_either { (batch : Entries) → PreparedFor E.is_for entries batch → (total (E.counts self.new.entries) ≡ total (E.counts self.old.entries)) ⊎ (total (E.counts self.new.entries) ≡ total (E.counts self.old.entries) + length batch) }
         ensures content { (records : List Record) → PreparedFor (C.is_for self.old.subscriptions) changes records → OnOk result (C.content self.new.subscriptions ≡ after_all records (C.content self.old.subscriptions)) }
         ensures remembered { IsErr result → C.content self.new.subscriptions ≡ C.content self.old.subscriptions }
+        // A replace that is due takes a generation.
+        ensures replaces_left { (records : List Record) → PreparedFor (C.is_for self.old.subscriptions) changes records →
+            OnOk result (IsOneReplaceLess (is_some changes && is_due_at (C.counted self.old.subscriptions) (C.can_replace self.old.subscriptions)) (C.replaces_left self.old.subscriptions) (C.replaces_left self.new.subscriptions)) }
         ensures per_ledger { E.per_ledger self.new.entries ≡ E.per_ledger self.old.entries }
         ensures topic { E.topic_of self.new.entries ≡ E.topic_of self.old.entries }
         ensures slots_topic { C.topic_of self.new.subscriptions ≡ C.topic_of self.old.subscriptions }
@@ -83,13 +87,14 @@ impl<E: EntryStore, C: SubStore> TopicStores<E, C> {
     ) -> Result<(), DeviceError>
         requires begins { Begins (E.start_of self.old.entries) (E.counts self.old.entries) trim.start }
         requires in_range { trim.start.first ≤ 2 ^ 62 }
+        requires generation { 0 < C.replaces_left self.old.subscriptions }
         ensures trimmed { (ledger : Ledger) (kept : Kept) → C.trims trim.slots (C.start_of self.old.subscriptions) kept trim.start →
             Settled (both (entry_view E.topic_of E.start_of E.counts E.per_ledger E.failed E.holds self.old.entries) (sub_view C.topic_of C.start_of C.content C.failed C.holds C.written self.old.subscriptions)) (S.disk shelf.old) ledger kept →
             OnOk result (Settled (both (entry_view E.topic_of E.start_of E.counts E.per_ledger E.failed E.holds self.new.entries) (sub_view C.topic_of C.start_of C.content C.failed C.holds C.written self.new.subscriptions)) (S.disk shelf.new) (trimmed trim.start.base ledger) kept) }
         // A crash at any moment of the call leaves the ledger as it was, or from there on.
         ensures within { (ledger : Ledger) (kept : Kept) → C.trims trim.slots (C.start_of self.old.subscriptions) kept trim.start →
             Settled (both (entry_view E.topic_of E.start_of E.counts E.per_ledger E.failed E.holds self.old.entries) (sub_view C.topic_of C.start_of C.content C.failed C.holds C.written self.old.subscriptions)) (S.disk shelf.old) ledger kept →
-            Within (OfTopic (E.topic_of self.old.entries)) (BeforeOrAfter (λ c l. stand E.stands C.stands (E.topic_of self.old.entries) c l kept) ledger (trimmed trim.start.base ledger)) (S.disk shelf.old) (S.disk shelf.new) }
+            Within (FilesOf (E.topic_of self.old.entries)) (BeforeOrAfter (λ c l. stand E.stands C.stands (E.topic_of self.old.entries) c l kept) ledger (trimmed trim.start.base ledger)) (S.disk shelf.old) (S.disk shelf.new) }
 
         ensures said { (kept : Kept) → C.trims trim.slots (C.start_of self.old.subscriptions) kept trim.start → OnOk result ((C.start_of self.new.subscriptions).base ≡ trim.start.base) }
         ensures counts_stay { IsErr result → E.counts self.new.entries ≡ E.counts self.old.entries }

@@ -1,8 +1,9 @@
 // The two parts of a trim of both stores of a topic.
-ghost use Rattle.std.specs.Prelude.{◌≡◌, ◌≤◌, ◌^◌, Some, option_copied, IfOk, IfSome};
+ghost use Rattle.std.specs.Prelude.{◌≡◌, ◌≤◌, ◌^◌, ◌&&◌, Some, is_some, option_copied, IfOk, IfSome};
 ghost use Rattle.managed_ledger.specs.Points.{Begins, counts_with};
 ghost use Rattle.records.specs.Maps.{Kept};
-ghost use Rattle.cursor_store.specs.Trimming.{IsKeptBehind};
+ghost use Rattle.cursor_store.specs.Behind.{is_due_at};
+ghost use Rattle.cursor_store.specs.Trimming.{HasGeneration, IsKeptBehind};
 
 use cursor_store::SubStore;
 use gated_log::{PrepareError, Start};
@@ -33,6 +34,9 @@ pub(crate) fn prepare_trim<E: EntryStore, C: SubStore>(
     ensures in_range { IfOk result (λ trim. IfSome trim (λ t. t.start.first ≤ 2 ^ 62)) }
     ensures slots { (kept : Kept) → IsKeptBehind (C.is_for subscriptions.now) (C.content subscriptions.now) (option_copied changes.entry) kept →
         IfOk result (λ trim. IfSome trim (λ t. C.trims t.slots (C.start_of subscriptions.now) kept t.start)) }
+    // There is a generation for it, behind a replace that is due.
+    ensures generation { (kept : Kept) → IsKeptBehind (C.is_for subscriptions.now) (C.content subscriptions.now) (option_copied changes.entry) kept →
+        IfOk result (λ trim. IfSome trim (λ t. HasGeneration (is_some changes.entry && is_due_at (C.counted subscriptions.now) (C.can_replace subscriptions.now)) (C.replaces_left subscriptions.now))) }
 {
     let Some(start) = entries.trim_point(more, limit) else {
         return Ok(None);

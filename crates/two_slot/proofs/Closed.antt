@@ -4,8 +4,10 @@ use Rattle.std.proofs.lemmas.Bool.{cases_eq}
 use Rattle.disk.specs.declared.file_id.FileId.{FileId}
 use Rattle.disk.specs.Disk.{Disk, Image, Changes, Overwritten, Torn, Leaves, After, Undisturbed}
 use Rattle.disk.specs.Moments.{weaken}
-use Rattle.disk.specs.Areas.{Within}
-use Rattle.gated_log.specs.Batches.{header}
+use Rattle.disk.specs.declared.file_id.Folder.{Folder}
+use Rattle.disk.specs.declared.file_id.Folder.TheVariants.{One, Two}
+use Rattle.disk.specs.Areas.{Within, folder_of}
+use Rattle.gated_log.specs.Labels.{header, header_size}
 use Rattle.gated_log.specs.Headers.{HasOpenHeader, IsShut}
 use Rattle.gated_log.specs.Torn.{torn_behind, written_behind, torn_gate}
 use Rattle.two_slot.specs.declared.spare.Spare.{Spare}
@@ -14,32 +16,34 @@ use Rattle.two_slot.specs.Slots.{Yields, IsLower}
 use Rattle.two_slot.specs.TwoSlots.{IsSpare}
 use Rattle.two_slot.specs.Closing.{closing}
 
-not_open : (gate : ℕ) (rest file : List ℕ) → gate ≢ 1 → file ≡ gate ∷ rest → ¬ HasOpenHeader file
-not_open gate rest file closed is = λ is_open. closed (ap (λ (l : List ℕ). get_or l 0 0) (sym is ∙ is_open.bytes))
+not_open : (folder : Folder) (gate : ℕ) (rest file : List ℕ) → gate ≢ 1 → file ≡ gate ∷ rest → ¬ HasOpenHeader folder file
+not_open folder gate rest file closed is = λ is_open. closed (ap (λ (l : List ℕ). get_or l 0 0) (sym is ∙ is_open.bytes))
 
 -- a long file without an open header begins with a closed gate
-shut_of : (file : List ℕ) → ¬ HasOpenHeader file → 16 ≤ length file → IsShut file
-shut_of [] none long = absurd (omega (arith, long))
-shut_of (gate ∷ rest) none long = record {
+shut_of : (folder : Folder) (file : List ℕ) → ¬ HasOpenHeader folder file → header_size folder ≤ length file → IsShut file
+shut_of One [] none long = absurd (omega (arith, long))
+shut_of Two [] none long = absurd (omega (arith, long))
+shut_of folder (gate ∷ rest) none long = record {
   gate = gate;
   rest = rest;
-  closed = λ is. none (record { rest = rest; bytes = ap (λ (g : ℕ). g ∷ rest) is; whole = omega (arith, long) });
+  closed = λ is. none (record { rest = rest; bytes = ap (λ (g : ℕ). g ∷ rest) is; whole = long });
   bytes = refl;
 }
 
--- a slot below 16 bytes stays so where its first byte is written
-short_torn : (g : ℕ) (old new : List ℕ) → length old < 16 → Torn 0 1 old new → Yields g new
-short_torn g old new short torn = inl (λ is_open. omega (arith, short, torn.no_longer, ap length is_open.bytes, is_open.whole))
+-- a slot with fewer bytes than a header stays so where its first byte is written
+short_torn : (folder : Folder) (g : ℕ) (old new : List ℕ) → length old < header_size folder → Torn 0 1 old new → Yields folder g new
+short_torn One g old new short torn = inl (λ is_open. omega (arith, short, torn.no_longer, is_open.whole))
+short_torn Two g old new short torn = inl (λ is_open. omega (arith, short, torn.no_longer, is_open.whole))
 
 -- a byte behind a closed gate
-shut_torn : (g : ℕ) (old new : List ℕ) → IsShut old → Torn 1 1 old new → Yields g new
-shut_torn g old new is torn =
-    inl (not_open is.gate (drop 1 new) new is.closed (torn_behind [] is.rest is.gate 0 refl 1 new (subst (λ (f : List ℕ). Torn 1 1 f new) is.bytes torn)))
+shut_torn : (folder : Folder) (g : ℕ) (old new : List ℕ) → IsShut old → Torn 1 1 old new → Yields folder g new
+shut_torn folder g old new is torn =
+    inl (not_open folder is.gate (drop 1 new) new is.closed (torn_behind [] is.rest is.gate 0 refl 1 new (subst (λ (f : List ℕ). Torn 1 1 f new) is.bytes torn)))
 
 -- the gate of a lower generation
-lower_torn : (g : ℕ) (old new : List ℕ) → IsLower g old → Torn 0 1 old new → Yields g new
-lower_torn g old new low torn =
-    let rest = drop 1 (header 1 low.earlier) ++ low.is_open.rest in
+lower_torn : (folder : Folder) (g : ℕ) (old new : List ℕ) → IsLower folder g old → Torn 0 1 old new → Yields folder g new
+lower_torn folder g old new low torn =
+    let rest = drop 1 (header folder 1 low.earlier) ++ low.is_open.rest in
     let bytes = torn_gate [] rest 1 0 refl new (subst (λ (f : List ℕ). Torn 0 1 f new) low.is_open.bytes torn) in
     elim (cases_eq (get_or new 0 0) 1) [
       | inl is ↦ inr (record {
@@ -48,20 +52,20 @@ lower_torn g old new low torn =
         long = omega (arith, low.long, torn.no_shorter);
         is_open = record { rest = low.is_open.rest; in_range = low.is_open.in_range; bytes = bytes ∙ ap (λ (b : ℕ). b ∷ rest) is };
       })
-      | inr closed ↦ inl (not_open (get_or new 0 0) rest new closed bytes)
+      | inr closed ↦ inl (not_open folder (get_or new 0 0) rest new closed bytes)
     ]
 
-torn : (spare : Spare) (g : ℕ) (old new : List ℕ) → IsSpare spare g old → Torn (closing spare).0 1 old new → Yields g new
-torn Short g old new is cut = short_torn g old new is cut
-torn Shut g old new is cut = shut_torn g old new (shut_of old is.0 is.1) cut
-torn Lower g old new is cut = lower_torn g old new is cut
+torn : (folder : Folder) (spare : Spare) (g : ℕ) (old new : List ℕ) → IsSpare folder spare g old → Torn (closing spare).0 1 old new → Yields folder g new
+torn folder Short g old new is cut = short_torn folder g old new is cut
+torn folder Shut g old new is cut = shut_torn folder g old new (shut_of folder old is.0 is.1) cut
+torn folder Lower g old new is cut = lower_torn folder g old new is cut
 
 -- what is written is closed
-pub shut : (spare : Spare) (g : ℕ) (old new : List ℕ) → IsSpare spare g old → Overwritten (closing spare).0 ((closing spare).1 ∷ []) old new → IsShut new
-shut Short g old new is over = record { gate = 0; rest = drop 1 old; closed = λ e. cc; bytes = over }
-shut Lower g old new is over = record { gate = 0; rest = drop 1 old; closed = λ e. cc; bytes = over }
-shut Shut g old new is over =
-    let was = shut_of old is.0 is.1 in
+pub shut : (folder : Folder) (spare : Spare) (g : ℕ) (old new : List ℕ) → IsSpare folder spare g old → Overwritten (closing spare).0 ((closing spare).1 ∷ []) old new → IsShut new
+shut folder Short g old new is over = record { gate = 0; rest = drop 1 old; closed = λ e. cc; bytes = over }
+shut folder Lower g old new is over = record { gate = 0; rest = drop 1 old; closed = λ e. cc; bytes = over }
+shut folder Shut g old new is over =
+    let was = shut_of folder old is.0 is.1 in
     record {
       gate = was.gate;
       rest = 0x50 ∷ drop 2 (was.gate ∷ was.rest);
@@ -70,20 +74,21 @@ shut Shut g old new is over =
     }
 
 -- and the byte stands in the file, or at its end
-pub there : (spare : Spare) (g : ℕ) (old : List ℕ) → IsSpare spare g old → (closing spare).0 ≤ length old
-there Short g old is = omega arith
-there Shut g old is = omega (arith, is.1)
-there Lower g old is = omega arith
+pub there : (folder : Folder) (spare : Spare) (g : ℕ) (old : List ℕ) → IsSpare folder spare g old → (closing spare).0 ≤ length old
+there folder Short g old is = omega arith
+there One Shut g old is = omega (arith, is.1)
+there Two Shut g old is = omega (arith, is.1)
+there folder Lower g old is = omega arith
 
-pub closed_within : (file : FileId) (spare : Spare) (g at : ℕ) (d0 d1 : Disk) → at ≡ (closing spare).0 → ((c : Image) → d0.may_leave c → IsSpare spare g (c file)) → Undisturbed (λ f. f ≢ file) d0 d1
-    → Leaves (After d0 (Changes file (Torn at 1))) d0 d1 → Within (λ f. f ≡ file) (λ c. Yields g (c file)) d0 d1
+pub closed_within : (file : FileId) (spare : Spare) (g at : ℕ) (d0 d1 : Disk) → at ≡ (closing spare).0 → ((c : Image) → d0.may_leave c → IsSpare (folder_of file) spare g (c file)) → Undisturbed (λ f. f ≢ file) d0 d1
+    → Leaves (After d0 (Changes file (Torn at 1))) d0 d1 → Within (λ f. f ≡ file) (λ c. Yields (folder_of file) g (c file)) d0 d1
 closed_within file spare g at d0 d1 place left calm leaves = record {
   seen = calm.seen;
   any_moment = weaken _ _ d0 d1 leaves (λ c after. record {
     from = after.0;
     left = after.1;
     elsewhere = after.2.elsewhere;
-    own = torn spare g (after.0 file) (c file) (left after.0 after.1) (subst (λ (n : ℕ). Torn n 1 (after.0 file) (c file)) place after.2.there);
+    own = torn (folder_of file) spare g (after.0 file) (c file) (left after.0 after.1) (subst (λ (n : ℕ). Torn n 1 (after.0 file) (c file)) place after.2.there);
   });
 }
 

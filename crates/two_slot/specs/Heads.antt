@@ -1,5 +1,5 @@
 -- What is known of two slots by their heads.
-use Rattle.std.specs.Prelude.{ℕ}
+use Rattle.disk.specs.declared.file_id.TopicId.{TopicId}
 use Rattle.disk.specs.declared.file_id.CursorSlot.{CursorSlot}
 use Rattle.disk.specs.declared.file_id.CursorSlot.TheVariants.{Zero, One}
 use Rattle.disk.specs.Disk.{Disk}
@@ -7,7 +7,7 @@ use Rattle.gated_log.specs.declared.head.LogHead.{LogHead}
 use Rattle.gated_log.specs.Head.{HasHead}
 use Rattle.two_slot.specs.declared.heads.SlotHeads.{SlotHeads}
 
-abbrev pub heads_topic : SlotHeads → ℕ
+abbrev pub heads_topic : SlotHeads → TopicId
 heads_topic heads = heads.topic
 
 abbrev pub head_in : SlotHeads → CursorSlot → LogHead

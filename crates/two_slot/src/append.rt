@@ -1,7 +1,7 @@
 // A body is added.
 ghost use Rattle.std.specs.Prelude.{◌≡◌};
 
-use crate::TwoSlot;
+use crate::{SlotsId, TwoSlot};
 use disk::{DeviceError, Shelf};
 use gated_log::{BatchBuilder, BatchList, PreparedBatch};
 use std::alloc::AllocError;
@@ -9,17 +9,17 @@ use std::alloc::AllocError;
 impl BatchList for TwoSlot {
     ghost use Rattle.gated_log.specs.Content.{held_content};
     ghost use Rattle.two_slot.specs.Slots.{SlotsOf, Stands};
-    ghost use Rattle.two_slot.specs.TwoSlots.{Holds, content, topic_of, failed};
+    ghost use Rattle.two_slot.specs.TwoSlots.{Holds, content, slots_id, failed};
     ghost use Rattle.two_slot.specs.Local.{stands_local_lem, holds_local_lem, content_local_lem, holds_stand};
     ghost use Rattle.two_slot.specs.One.{slots_one};
 
-    type Id = u16;
+    type Id = SlotsId;
 
-    ghost id = { topic_of };
+    ghost id = { slots_id };
 
-    ghost area = { SlotsOf };
+    ghost area = { λ id. SlotsOf id.topic };
 
-    ghost stands = { Stands };
+    ghost stands = { λ id image bodies. Stands id.topic image id.start bodies };
 
     ghost holds = { Holds };
 
@@ -27,8 +27,12 @@ impl BatchList for TwoSlot {
 
     ghost failed = { failed };
 
-    fn id(&self) -> u16 {
-        self.topic
+    fn id(&self) -> SlotsId {
+        SlotsId {
+            topic: self.topic,
+            start: self.start(),
+            generation: self.log.id().label.number,
+        }
     }
 
     fn count(&self) -> u64 {
@@ -63,9 +67,9 @@ impl BatchList for TwoSlot {
 
     ghost holds_stands = { holds_stand };
 
-    ghost stands_one = { slots_one };
+    ghost stands_one = { λ id image one other is is'. (slots_one id.topic image id.start id.start one other is is').1 };
 
-    ghost stands_local = { stands_local_lem };
+    ghost stands_local = { λ id a b bodies. stands_local_lem id.topic a b id.start bodies };
 
     ghost holds_local = { holds_local_lem };
 

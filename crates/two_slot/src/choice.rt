@@ -1,10 +1,11 @@
 // Which slot counts.
 ghost use Rattle.std.specs.Prelude.{◌≡◌};
-ghost use Rattle.two_slot.specs.Choices.{choice, if_open, if_closed};
+ghost use Rattle.two_slot.specs.Choices.{choice, if_open, if_closed, generation_in, start_in, start_by};
 
 use crate::Spare;
 use crate::slot_header::{HeaderFault, SlotHeader};
 use disk::CursorSlot;
+use gated_log::{Label, Start, UNTRIMMED};
 
 /// What the headers of two slots say.
 #[derive(Clone, Copy, Debug, PartialEq, Eq)]
@@ -17,24 +18,24 @@ pub enum Choice {
     ReadZero(HeaderFault),
 }
 
-// Where slot 0 is open with a generation.
-fn choose_if_open(generation: u64, one: SlotHeader) -> Choice
-    ensures { result ≡ if_open generation one }
+// Where slot 0 is open with this label.
+fn choose_if_open(label: Label, one: SlotHeader) -> Choice
+    ensures { result ≡ if_open label one }
 {
     match one {
         SlotHeader::CutShort => Choice::Read(CursorSlot::Zero, Spare::Short),
         SlotHeader::Closed => Choice::Read(CursorSlot::Zero, Spare::Shut),
         SlotHeader::Open(other) => {
-            if other < generation {
+            if other.number < label.number {
                 return Choice::Read(CursorSlot::Zero, Spare::Lower);
             }
-            if generation < other {
+            if label.number < other.number {
                 return Choice::Read(CursorSlot::One, Spare::Lower);
             }
             Choice::ReadZero(HeaderFault::Damage)
         }
         SlotHeader::Faulty(other, fault) => {
-            if generation < other {
+            if label.number < other {
                 return Choice::Refuse(CursorSlot::One, fault);
             }
             Choice::ReadZero(fault)
@@ -61,7 +62,46 @@ pub(crate) fn choose(zero: SlotHeader, one: SlotHeader) -> Choice
     match zero {
         SlotHeader::CutShort => choose_if_closed(Spare::Short, one),
         SlotHeader::Closed => choose_if_closed(Spare::Shut, one),
-        SlotHeader::Open(generation) => choose_if_open(generation, one),
+        SlotHeader::Open(label) => choose_if_open(label, one),
         SlotHeader::Faulty(_, fault) => Choice::Refuse(CursorSlot::Zero, fault),
+    }
+}
+
+// The generation of an open header, whatever else it says.
+fn generation_in(header: SlotHeader) -> Option<u64>
+    ensures { result ≡ generation_in header }
+{
+    match header {
+        SlotHeader::CutShort | SlotHeader::Closed => None,
+        SlotHeader::Open(label) => Some(label.number),
+        SlotHeader::Faulty(generation, _) => Some(generation),
+    }
+}
+
+// Where the ledger begins, as a header says that isn't refused.
+fn start_in(header: SlotHeader) -> Start
+    ensures { result ≡ start_in header }
+{
+    match header {
+        SlotHeader::CutShort | SlotHeader::Closed | SlotHeader::Faulty(_, _) => UNTRIMMED,
+        SlotHeader::Open(label) => label.start,
+    }
+}
+
+// Where the ledger begins, as the header of slot 0 or slot 1 says that counts.
+pub(crate) fn start_by(zero: SlotHeader, one: SlotHeader) -> Start
+    ensures { result ≡ start_by zero one }
+{
+    match generation_in(one) {
+        None => start_in(zero),
+        Some(of_one) => match generation_in(zero) {
+            None => start_in(one),
+            Some(of_zero) => {
+                if of_zero < of_one {
+                    return start_in(one);
+                }
+                start_in(zero)
+            }
+        },
     }
 }

@@ -9,22 +9,22 @@ ghost use Rattle.gated_log.specs.Folds.{behind};
 ghost use Rattle.gated_log.specs.Head.{IsHead, head_file};
 ghost use Rattle.disk.specs.Contents.{Settled};
 ghost use Rattle.two_slot.specs.Slots.{SlotsOf};
-ghost use Rattle.two_slot.specs.TwoSlots.{Holds, generation_of, topic_of, failed};
+ghost use Rattle.two_slot.specs.TwoSlots.{Holds, label_of, topic_of, failed};
 ghost use Rattle.two_slot.specs.Heads.{HaveHeads, heads_topic, head_in};
-ghost use Rattle.two_slot.specs.Counting.{IsCounting};
+ghost use Rattle.two_slot.specs.Counting.{IsCounting, BeginsBy};
 ghost use Rattle.two_slot.specs.Faults.{IsSlotsFault, header_refusal};
 
 use crate::TwoSlot;
-use crate::choice::{Choice, choose};
+use crate::choice::{Choice, choose, start_by};
 use crate::heads::SlotHeads;
 use crate::slot_header::{HeaderFault, header_of};
-use disk::{CursorSlot, DeviceError, FileId, Shelf};
-use gated_log::{BatchList, Fold, GatedLog, LogHead, Refusal};
+use disk::{CursorSlot, DeviceError, FileId, Shelf, TopicId};
+use gated_log::{BatchList, Fold, GatedLog, LogHead, Refusal, Start};
 use std::alloc::Global;
 
 impl SlotHeads {
     /// Syncs both slots of a topic, so what is read stays, and reads their heads.
-    pub fn read<S: Shelf>(shelf: &mut S, topic: u16) -> Result<SlotHeads, DeviceError>
+    pub fn read<S: Shelf>(shelf: &mut S, topic: TopicId) -> Result<SlotHeads, DeviceError>
         ensures heads { (S.disk shelf.old).honest → IfOk result (λ heads. HaveHeads heads (S.disk shelf.new)) }
         ensures topic { IfOk result (λ heads. heads_topic heads ≡ topic) }
         ensures seen { (S.disk shelf.old).honest → OnOk result (Same (S.disk shelf.old).seen (S.disk shelf.new).seen) }
@@ -41,7 +41,7 @@ impl SlotHeads {
     }
 
     /// The topic whose slots they are of.
-    pub fn topic(&self) -> u16
+    pub fn topic(&self) -> TopicId
         ensures { result ≡ heads_topic self.now }
     {
         self.topic
@@ -58,6 +58,14 @@ impl SlotHeads {
         }
     }
 
+    /// Where the ledger begins, as the header says that counts; at its first entry where none does, or the one that does is refused,
+    /// whatever the other one is.
+    pub fn start(&self) -> Start
+        ensures { (image : Image) → IsHead (head_in self.now CursorSlot.Zero) image → IsHead (head_in self.now CursorSlot.One) image → BeginsBy (heads_topic self.now) image result }
+    {
+        start_by(header_of(&self.zero), header_of(&self.one))
+    }
+
     /// The slot that is read, as the headers of both say; none where they are refused.
     pub fn counting(&self) -> Option<CursorSlot>
         ensures { (image : Image) → IsHead (head_in self.now CursorSlot.Zero) image → IsHead (head_in self.now CursorSlot.One) image → IsCounting (heads_topic self.now) image result }
@@ -71,7 +79,7 @@ impl SlotHeads {
 }
 
 // The refusal of a slot's header.
-fn refusal_of(topic: u16, slot: CursorSlot, fault: HeaderFault) -> Refusal
+fn refusal_of(topic: TopicId, slot: CursorSlot, fault: HeaderFault) -> Refusal
     ensures { result ≡ header_refusal topic slot fault }
 {
     match fault {
@@ -91,7 +99,7 @@ fn open_from<S: Shelf, F: Fold>(
     fold: &mut F,
 ) -> Result<TwoSlot, Refusal>
     ensures opened { (S.disk shelf.old).honest → HaveHeads heads.now (S.disk shelf.old) → F.holds fold.old [] →
-        IfOk result (λ slots. (bodies : Bodies) × Settled (Holds slots) (S.disk shelf.new) bodies × F.holds fold.new (record { number = generation_of slots; bodies = bodies } ∷ [])) }
+        IfOk result (λ slots. (bodies : Bodies) × Settled (Holds slots) (S.disk shelf.new) bodies × F.holds fold.new (record { label = label_of slots; bodies = bodies } ∷ [])) }
     ensures refused { (S.disk shelf.old).honest → HaveHeads heads.now (S.disk shelf.old) → F.holds fold.old [] →
         IfErr result (λ e. (e ≡ Refusal.NoMemory) ⊎ ((e ≡ Refusal.Device) ⊎ IsSlotsFault (behind (F.form (F.rule fold.old)) []) (heads_topic heads.now) (S.disk shelf.old).seen e)) }
     ensures rule { F.rule fold.new ≡ F.rule fold.old }
@@ -130,12 +138,12 @@ impl TwoSlot {
     pub fn open_with<S: Shelf, F: Fold>(
         alloc: Global,
         shelf: &mut S,
-        topic: u16,
+        topic: TopicId,
         fold: &mut F,
     ) -> Result<TwoSlot, Refusal>
         // The slots hold the bodies that the fold has taken.
         ensures opened { (S.disk shelf.old).honest → F.holds fold.old [] →
-            IfOk result (λ slots. (bodies : Bodies) × Settled (Holds slots) (S.disk shelf.new) bodies × F.holds fold.new (record { number = generation_of slots; bodies = bodies } ∷ [])) }
+            IfOk result (λ slots. (bodies : Bodies) × Settled (Holds slots) (S.disk shelf.new) bodies × F.holds fold.new (record { label = label_of slots; bodies = bodies } ∷ [])) }
         // Or the first fault that stands in the slots is told.
         ensures refused { (S.disk shelf.old).honest → F.holds fold.old [] →
             IfErr result (λ e. (e ≡ Refusal.NoMemory) ⊎ ((e ≡ Refusal.Device) ⊎ IsSlotsFault (behind (F.form (F.rule fold.old)) []) topic (S.disk shelf.old).seen e)) }
@@ -163,7 +171,7 @@ impl TwoSlot {
         fold: &mut F,
     ) -> Result<TwoSlot, Refusal>
         ensures opened { (S.disk shelf.old).honest → HaveHeads heads.now (S.disk shelf.old) → F.holds fold.old [] →
-            IfOk result (λ slots. (bodies : Bodies) × Settled (Holds slots) (S.disk shelf.new) bodies × F.holds fold.new (record { number = generation_of slots; bodies = bodies } ∷ [])) }
+            IfOk result (λ slots. (bodies : Bodies) × Settled (Holds slots) (S.disk shelf.new) bodies × F.holds fold.new (record { label = label_of slots; bodies = bodies } ∷ [])) }
         ensures refused { (S.disk shelf.old).honest → HaveHeads heads.now (S.disk shelf.old) → F.holds fold.old [] →
             IfErr result (λ e. (e ≡ Refusal.NoMemory) ⊎ ((e ≡ Refusal.Device) ⊎ IsSlotsFault (behind (F.form (F.rule fold.old)) []) (heads_topic heads.now) (S.disk shelf.old).seen e)) }
         ensures rule { F.rule fold.new ≡ F.rule fold.old }

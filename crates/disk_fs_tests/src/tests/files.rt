@@ -34,7 +34,7 @@ const FOUND: [Step; 2] = [
 #[test]
 fn a_file_stands_by_its_name_and_is_found_again(rt: HostRuntime) -> Result<(), Fail> {
     follow_in_a_new_one(&rt, "disk_fs_again", &WRITTEN)?;
-    let mut file = fs::open(&rt, "disk_fs_again/t00003-e00000012.dat")?;
+    let mut file = fs::open(&rt, "disk_fs_again/u00003-e00000012.dat")?;
     let mut text = [b'-'; 4];
     assert_eq!(rt; file.read(&mut text)?, 3);
     assert_eq!(rt; text, *b"abc-");
@@ -47,9 +47,9 @@ const OF_A_MISSING_FILE: [Step; 9] = [
     Step::Works(&[FILE], Ask::Sync),
     Step::Works(&[FILE], Ask::Length(0)),
     Step::Works(&[FILE], Ask::Read(0, 0, *b"---------")),
-    Step::Stands("disk_fs_missing/t00003-e00000012.dat", false),
+    Step::Stands("disk_fs_missing/u00003-e00000012.dat", false),
     Step::Works(&[FILE], Ask::Write(0, b"")),
-    Step::Stands("disk_fs_missing/t00003-e00000012.dat", true),
+    Step::Stands("disk_fs_missing/u00003-e00000012.dat", true),
     Step::Works(&[FILE], Ask::Length(0)),
 ];
 
@@ -117,7 +117,7 @@ const ALL_FAIL_ON_ONE: [Step; 7] = [
 #[test]
 fn a_folder_in_the_place_of_a_file_fails(rt: HostRuntime) -> Result<(), Fail> {
     empty_folder(&rt, "disk_fs_folder")?;
-    fs::create_dir(&rt, "disk_fs_folder/t00003-e00000012.dat")?;
+    fs::create_dir(&rt, "disk_fs_folder/u00003-e00000012.dat")?;
     follow_over_files(&rt, "disk_fs_folder", &ALL_FAIL_ON_ONE)
 }
 
@@ -131,6 +131,6 @@ fn a_file_in_the_place_of_the_folder_fails(rt: HostRuntime) -> Result<(), Fail> 
 #[test]
 fn an_empty_path_names_no_folder(rt: HostRuntime) -> Result<(), Fail> {
     follow_over_files(&rt, "", &ALL_FAIL)?;
-    assert!(rt; !fs::exists(&rt, "/t00003-e00000012.dat")?);
+    assert!(rt; !fs::exists(&rt, "/u00003-e00000012.dat")?);
     Ok(())
 }

@@ -43,11 +43,11 @@ const FAILURES: [Step; 24] = [
 ];
 
 const TOLD: [&str; 5] = [
-    "[WARN  disk_fs::shelf] t00003-e00000012.dat: a write failed: no storage space",
-    "[WARN  disk_fs::shelf] t00003-e00000012.dat: a write failed: no storage space",
-    "[WARN  disk_fs::shelf] t00003-e00000012.dat: a sync failed: quota exceeded",
-    "[WARN  disk_fs::shelf] t00003-e00000012.dat: a read at 1 failed: timed out",
-    "[WARN  disk_fs::shelf] t00003-e00000012.dat: a read at 1 failed: timed out",
+    "[WARN  disk_fs::shelf] u00003-e00000012.dat: a write failed: no storage space",
+    "[WARN  disk_fs::shelf] u00003-e00000012.dat: a write failed: no storage space",
+    "[WARN  disk_fs::shelf] u00003-e00000012.dat: a sync failed: quota exceeded",
+    "[WARN  disk_fs::shelf] u00003-e00000012.dat: a read at 1 failed: timed out",
+    "[WARN  disk_fs::shelf] u00003-e00000012.dat: a read at 1 failed: timed out",
 ];
 
 // The first step that goes otherwise, and what the log told.

@@ -164,7 +164,7 @@ fn no_node_is_made_over_files_of_topics(rt: HostRuntime) -> Result<(), Fail> {
         let made = told_of_files(init(&rt, "folder_of_topics", seven(&rt), &mut lines))?;
         assert_eq!(rt; made, Some(FolderFault::HoldsTopics));
         assert!(rt; !fs::exists(&rt, "folder_of_topics/lock")?);
-        assert!(rt; !fs::exists(&rt, "folder_of_topics/catalog.dat")?);
+        assert!(rt; !fs::exists(&rt, "folder_of_topics/catalog2.dat")?);
     }
     assert_eq!(rt; lines.len(), 0);
     Ok(())

@@ -1,5 +1,5 @@
 use super::{PING, PONG, RECEIPT_AND_MESSAGE, SUBSCRIBE, SUBSCRIBE_NEXT, Stage};
-use disk::FileId;
+use disk::{FileId, served};
 use session::{Fault, More, PumpFault};
 use std::alloc::Global;
 use std::process::Abort;
@@ -43,7 +43,7 @@ fn a_device_that_fails_stops_a_pump(rt: HostRuntime) -> Result<(), Fail> {
 
 #[test]
 fn a_damaged_file_stops_a_pump(rt: HostRuntime) -> Result<(), Fail> {
-    let (topic, number) = (0, 3);
+    let (topic, number) = (served(0), 3);
     let file = FileId::Segment { topic, number };
     stops(&rt, rt.alloc(), PumpFault::Damaged { file, offset: 40 })
 }

@@ -1,4 +1,4 @@
-use disk::FileId;
+use disk::CATALOG;
 use frames::Fault as FrameFault;
 use session::{
     Fault, PumpFault, consumers_rise, ended_sessions_leave, pumps_finish, pumps_serve,
@@ -49,11 +49,11 @@ fn texts_of_faults(rt: HostRuntime) -> Result<(), Fail> {
 
 #[test]
 fn texts_of_pump_faults(rt: HostRuntime) -> Result<(), Fail> {
-    let file = FileId::Catalog;
+    let file = CATALOG;
     let damaged = PumpFault::Damaged { file, offset: 40 };
     for (fault, text) in [
         (PumpFault::Device, "device"),
-        (damaged, "damaged catalog.dat at 40"),
+        (damaged, "damaged catalog2.dat at 40"),
     ] {
         assert_eq!(rt; format!(in rt.alloc(); "{fault}")?.as_str(), text);
     }

@@ -3,7 +3,7 @@ ghost use Rattle.std.specs.Prelude.{◌≤◌, IfOk};
 ghost use Rattle.topic_core_tests.specs.Matching.{AreMatched};
 
 use super::{PLAIN, Seen, Topic, producer, refusal, send, subscribe};
-use disk::{CrashShelf, FileId, Fuse, Shelf};
+use disk::{CrashShelf, FileId, Folder, Fuse, Shelf, TopicId};
 use gated_log::Refusal;
 use permits::BothEnds;
 use std::alloc::Global;
@@ -100,7 +100,10 @@ fn a_failing_read_changes_nothing(rt: HostRuntime) -> Result<(), Fail> {
 
 // The first entry of a segment stands at 26: behind a header, the gate, the length and the kind of its batch, and its own length.
 const FIRST: FileId = FileId::Segment {
-    topic: 0,
+    topic: TopicId {
+        folder: Folder::Two,
+        number: 0,
+    },
     number: 0,
 };
 
@@ -109,7 +112,7 @@ fn read_cut(topic: &mut Topic, alloc: Global) -> Result<Seen, Refusal>
     requires { AreMatched topic.old.core topic.old.stores }
 {
     topic.begin(alloc)?;
-    topic.shelf.cut(FIRST, 20)?;
+    topic.shelf.cut(FIRST, 36)?;
     let refused = refusal(topic.next(1).err())?;
     Ok(topic.seen(refused))
 }
@@ -122,7 +125,7 @@ fn a_file_cut_behind_an_open_topic_is_damage(rt: HostRuntime) -> Result<(), Fail
     drop(topic);
     let damage = Refusal::Damaged {
         file: FIRST,
-        offset: 26,
+        offset: 42,
     };
     assert_eq!(rt; seen?, (Some(damage), false, 1));
     Ok(())

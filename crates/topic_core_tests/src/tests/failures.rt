@@ -1,6 +1,6 @@
 // A topic that failed, and want of memory in the midst of a flush and of an opening. One entry a ledger makes each flush of
 // further entries roll, by nine calls of the device; four write the entries, and four the changes. With the first entry acknowledged
-// four more say where the ledger begins, and two cut its first segment.
+// six more replace the slot, whose header says where the ledger begins, and two cut its first segment.
 ghost use Rattle.topic_core_tests.specs.Matching.{AreMatched};
 
 use super::{Seen, Topic, position_in, refusal};
@@ -43,12 +43,12 @@ fn reopen_failed(
     Ok((flushed, reopen_twice(topic, read)?))
 }
 
-// Each read of an opening fails in turn: of the heads of three files, and of the gates and bodies behind them, those of the slot
-// that counts twice. The topic stays failed, until it is opened well.
+// Each read of an opening fails in turn: of the heads of three files, and of the gates and bodies behind them. The topic stays
+// failed, until it is opened well.
 #[test]
 fn a_failing_read_leaves_a_topic_failed(rt: HostRuntime) -> Result<(), Fail> {
     let failed = (Some(Refusal::Device), true, 1);
-    for read in 1..=12u64 {
+    for read in 1..=9u64 {
         let mut topic = Topic::new(rt.alloc())?;
         let seen = reopen_failed(&mut topic, rt.alloc(), read);
         drop(topic);

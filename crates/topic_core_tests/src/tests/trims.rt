@@ -96,18 +96,20 @@ fn unless_short(seen: Left, wanted: Left) -> Result<Left, Refusal> {
     Ok(seen)
 }
 
-// Behind the seventeen calls for the roll, the entries and the changes four say in the slots where the ledger begins, and two cut
-// the first segment. What is said there stands once its gate is written, also where a later call fails.
+// Behind the seventeen calls for the roll, the entries and the changes six replace the slot by one whose header says where the
+// ledger begins, and two cut the first segment. What is said there stands once its gate is written, also where a later call fails.
 #[test]
 fn a_failing_trim_leaves_one_of_both_beginnings(rt: HostRuntime) -> Result<(), Fail> {
     for (call, refused, base) in [
         (18, true, 0),
         (19, true, 0),
         (20, true, 0),
-        (21, true, 1),
-        (22, true, 1),
+        (21, true, 0),
+        (22, true, 0),
         (23, true, 1),
-        (24, false, 1),
+        (24, true, 1),
+        (25, true, 1),
+        (26, false, 1),
     ] {
         let mut topic = Topic::new(rt.alloc())?;
         let seen = fail(&mut topic, rt.alloc(), call);

@@ -13,7 +13,7 @@ use crate::durable::{DurableByStores, DurableByTopics, DurableTally};
 use crate::stores::CountedStores;
 use crate::tally::Tallies;
 use bells::{Bells, Members};
-use disk::{FileId, Shelf};
+use disk::{FileId, Shelf, served};
 use gated_log::Refusal;
 use std::sync::Wait;
 use std::sync::ledger::Share;
@@ -109,7 +109,7 @@ impl<K: Tallies> CountedTopic<K> {
         let before = files.len();
         if core.committed() + *left != before {
             let file = FileId::Segment {
-                topic: files.topic(),
+                topic: served(files.topic()),
                 number: 0,
             };
             return Reopened::as_it_was(*number, Err(Refusal::Damaged { file, offset: 0 }));

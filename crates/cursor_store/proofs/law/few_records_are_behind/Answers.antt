@@ -1,4 +1,4 @@
-use Rattle.cursor_store.proofs.Counting.{none_behind, few_stay, one_trimmed}
+use Rattle.cursor_store.proofs.Counting.{none_behind, few_stay}
 use Rattle.cursor_store.proofs.law.few_records_are_behind.Goals as goal
 
 pub returns-clause-begun : goal.returns-clause-begun
@@ -6,6 +6,3 @@ returns-clause-begun c = none_behind
 
 pub returns-clause-stay : goal.returns-clause-stay
 returns-clause-stay c = few_stay
-
-pub returns-clause-trimmed : goal.returns-clause-trimmed
-returns-clause-trimmed c = one_trimmed

@@ -2,7 +2,7 @@
 ghost use Rattle.std.specs.Prelude.{◌<◌};
 
 use crate::tests::{contents, empty_folder};
-use disk::{CursorSlot, DeviceError, FileId, Shelf};
+use disk::{CATALOG, CursorSlot, DeviceError, FileId, Shelf, served};
 use disk_fs::FsShelf;
 use disk_mem::MemShelf;
 use std::alloc::Global;
@@ -33,16 +33,19 @@ impl Dice {
 // One of twelve files: more than stay open.
 fn file_of(number: u64) -> FileId {
     match number {
-        0 => FileId::Catalog,
+        0 => CATALOG,
         1 => FileId::Slot {
-            topic: 1,
+            topic: served(1),
             slot: CursorSlot::Zero,
         },
         2 => FileId::Slot {
-            topic: 1,
+            topic: served(1),
             slot: CursorSlot::One,
         },
-        _ => FileId::Segment { topic: 1, number },
+        _ => FileId::Segment {
+            topic: served(1),
+            number,
+        },
     }
 }
 

@@ -1,7 +1,7 @@
 // A failure at each call of the system.
 use crate::tests::empty_folder;
 use crate::tests::plan::Plan;
-use disk::{DeviceError, FileId, Shelf};
+use disk::{DeviceError, FileId, Shelf, served};
 use disk_fs::FsShelf;
 use log::sink::Discard;
 use log::{LevelFilter, Logged};
@@ -11,15 +11,23 @@ use watched_files::Watched;
 
 const FOLDER: &str = "disk_fs_each";
 
+// Segment `number` of the first topic.
+fn segment(number: u64) -> FileId {
+    FileId::Segment {
+        topic: served(0),
+        number,
+    }
+}
+
 // Nine files, written, cut, synced and read. How many bytes were read.
 fn work(shelf: &mut impl Shelf) -> Result<usize, DeviceError> {
     for number in 0..9 {
-        shelf.write_at(FileId::Segment { topic: 0, number }, 0, b"abcd")?;
+        shelf.write_at(segment(number), 0, b"abcd")?;
     }
     let mut buffer = [0; 9];
     let mut count = 0usize;
     for number in 0..9 {
-        let file = FileId::Segment { topic: 0, number };
+        let file = segment(number);
         shelf.cut(file, number)?;
         shelf.sync(file)?;
         count = count.wrapping_add(shelf.length(file)? as usize);

@@ -17,7 +17,7 @@ returns-clause-once g c = λ honest listed. absurd (missing_unlisted (g.S.Shelf.
 pub returns-in-Ok-clause-already : goal.returns-in-Ok-clause-already
 returns-in-Ok-clause-already g c = λ honest told.
     let catalog = c.in-Ok.field-0 in
-    let new = (g.S.Shelf.disk c.open.new.shelf).seen in
+    let new = (g.S.Shelf.disk c.open_newest.new.shelf).seen in
     let same : Same (g.S.Shelf.disk c.args.shelf.now).seen new = c.in-Ok.ensures.seen honest (λ bad. let wrong : ⊥ = cc in wrong) in
     let listed : HasList new = names_listed (per_ledger catalog) new (remembered catalog) (holds_stands catalog new (remembered catalog) (c.in-Ok.ensures.opened honest).now) in
     (subst (λ (files : Image). HasList files) same listed, same)

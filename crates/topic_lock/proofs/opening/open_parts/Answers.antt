@@ -1,5 +1,6 @@
-use Rattle.std.proofs.Common.{inl, inr, ⊎_elim}
-use Rattle.catalog.specs.Catalogs.{remembered, per_ledger}
+use Rattle.std.proofs.Common.{inl, inr, ⊎_elim, subst}
+use Rattle.disk.specs.Disk.{Image}
+use Rattle.catalog.specs.Catalogs.{OldCounts, remembered, per_ledger}
 use Rattle.topic_lock.proofs.AllOpening.{err_as, all_as, none_read, names_found}
 use Rattle.topic_lock.proofs.opening.open_parts.Goals as goal
 
@@ -19,8 +20,8 @@ pub returns-in-Err-open_topics-clause-faulty : goal.returns-in-Err-open_topics-c
 returns-in-Err-open_topics-clause-faulty g c = λ honest all.
     let e1 = c.in-Ok.ensures in
     let catalog = c.in-Ok.catalog in
-    let names = names_found catalog (g.S.Shelf.disk c.args.devices.now.catalog) (g.S.Shelf.disk c.open.new.shelf) (e1.seen honest (λ no. cc)) (e1.opened honest) in
-    ⊎_elim (λ memory. inl memory) (λ other. inr (⊎_elim (λ device. inl device) (λ fault. inr (inr (per_ledger catalog, remembered catalog, names, fault))) other)) (c.in-Err-open_topics.ensures.faulty all)
+    let names = names_found catalog (g.S.Shelf.disk c.args.devices.now.catalog) (g.S.Shelf.disk c.open_newest.new.shelf) (e1.seen honest (λ no. cc)) (e1.opened honest) in
+    ⊎_elim (λ memory. inl memory) (λ other. inr (⊎_elim (λ device. inl device) (λ fault. inr (inr (subst (λ (i : Image). ¬ OldCounts i) (e1.seen honest (λ no. cc)) (e1.newest honest).1, per_ledger catalog, remembered catalog, names, fault))) other)) (c.in-Err-open_topics.ensures.faulty all)
 
 pub returns-in-Err-open_topics-clause-cause : goal.returns-in-Err-open_topics-clause-cause
 returns-in-Err-open_topics-clause-cause g c = λ is. inr (c.in-Err-open_topics.ensures.cause (err_as _ _ is))
@@ -34,7 +35,7 @@ pub returns-clause-names : goal.returns-clause-names
 returns-clause-names g c = λ honest.
     let e = c.in-Ok.ensures in
     record {
-      named = names_found c.in-Ok.catalog (g.S.Shelf.disk c.args.devices.now.catalog) (g.S.Shelf.disk c.open.new.shelf) (e.seen honest (λ no. cc)) (e.opened honest);
+      named = names_found c.in-Ok.catalog (g.S.Shelf.disk c.args.devices.now.catalog) (g.S.Shelf.disk c.open_newest.new.shelf) (e.seen honest (λ no. cc)) (e.opened honest);
       settled = e.opened honest;
     }
 

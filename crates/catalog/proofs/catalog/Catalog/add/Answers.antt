@@ -5,7 +5,7 @@ use Rattle.gated_log.specs.Logs.{IsBatchOf}
 use Rattle.disk.specs.Contents.{at_ok, at_err}
 use Rattle.catalog.specs.Names.{Names}
 use Rattle.catalog.specs.Catalogs.{remembered}
-use Rattle.catalog.proofs.Adding.{body_is, next_name, no_memory, names_are, ledgers_are, file_is, log_settled, added, in_doubt, within, unasked, others, stays}
+use Rattle.catalog.proofs.Adding.{body_is, next_name, no_memory, names_are, label_is, ledgers_are, file_is, log_settled, added, in_doubt, within, unasked, others, stays}
 use Rattle.catalog.proofs.catalog.Catalog.add.Goals as goal
 
 pub returns-in_err-prepared-clause-no_memory : goal.returns-in_err-prepared-clause-no_memory
@@ -52,6 +52,7 @@ invariant_of-self-2 g c =
     let id = c.append_prepared.ensures.id in
     record {
       are = names_are c.args.self.now c.put.new.names.keys c.args.name next (c.put.ensures.names ∙ ap (λ (l : Names). l ++ c.args.name ∷ []) c.reserve.ensures.keys);
+      alone = label_is c.args.self.now c.append_prepared.new.self id;
       ledgers = ledgers_are c.args.self.now c.append_prepared.new.self id;
       file = file_is c.args.self.now c.append_prepared.new.self id;
     }

@@ -2,6 +2,7 @@ use Rattle.std.proofs.Common.{refl}
 use Rattle.disk.specs.Contents.{at_ok, at_err}
 use Rattle.records.specs.Records.{after_all}
 use Rattle.records.specs.Bytes.{body_of}
+use Rattle.cursor_store.specs.Cursors.{topic_of}
 use Rattle.cursor_store.specs.Laws.{in_bodies}
 use Rattle.cursor_store.proofs.Appending.{added, in_doubt, within, one_more, swapped}
 use Rattle.cursor_store.proofs.Changes.{records_body}
@@ -12,7 +13,7 @@ returns-in_err-append_prepared-clause-appends g c = λ entries start before reco
     let d0 = g.S.Shelf.disk c.args.shelf.now in
     let d1 = g.S.Shelf.disk c.append_prepared.new.shelf in
     let bodies = s.settled.now.bodies in
-    let says = records_body entries start before records formed from in
+    let says = records_body (topic_of c.args.self.now).folder entries start before records formed from in
     let is = in_bodies c.args.self.now entries start d0 before s in
     let slots = c.in_err-append_prepared.ensures.appends bodies (body_of records) batch is.slots in
     at_err c.from_residual.result _ c.from_residual.ensures.1
@@ -24,11 +25,11 @@ returns-clause-appends g c = λ entries start before records batch kept formed f
     let d0 = g.S.Shelf.disk c.args.shelf.now in
     let d1 = g.S.Shelf.disk c.append_prepared.new.shelf in
     let bodies = s.settled.now.bodies in
-    let says = records_body entries start before records formed from in
+    let says = records_body (topic_of c.args.self.now).folder entries start before records formed from in
     let is = in_bodies c.args.self.now entries start d0 before s in
     let slots = c.in_ok-append_prepared.ensures.appends bodies (body_of records) batch is.slots in
     at_ok
-    (added c.args.self.now _ entries d0 d1 start start before (after_all records before) (body_of records) bodies (swapped c.args.self.now.told start before c.args.kept records is.same kept) says is slots.added)
+    (added c.args.self.now _ entries d0 d1 start before (after_all records before) (body_of records) bodies c.append_prepared.ensures.id (swapped c.args.self.now.told start before c.args.kept records is.same kept) says is slots.added)
     (within c.args.self.now entries d0 d1 start before (after_all records before) (body_of records) bodies says is slots.within)
 
 pub returns-clause-grows : goal.returns-clause-grows

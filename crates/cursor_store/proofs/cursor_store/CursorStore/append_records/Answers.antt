@@ -7,7 +7,7 @@ use Rattle.cursor_store.specs.declared.told.Told.{Told}
 use Rattle.cursor_store.specs.Items.{told_of}
 use Rattle.cursor_store.specs.Cursors.{is_due, topic_of}
 use Rattle.cursor_store.proofs.Changes.{records_grown}
-use Rattle.cursor_store.proofs.Replacing.{first_within, first_doubt, both, counted_so}
+use Rattle.cursor_store.proofs.Replacing.{first_within, first_doubt, both, left_then, counted_so}
 use Rattle.cursor_store.proofs.cursor_store.CursorStore.append_records.Goals as goal
 
 pub returns-in_err-replace_first-clause-appends : goal.returns-in_err-replace_first-clause-appends
@@ -57,4 +57,8 @@ pub returns-clause-grows : goal.returns-clause-grows
 returns-clause-grows g c = λ entries start kept records is s.
     let first = c.in_ok-replace_first.ensures.replaces entries start kept is.snapshot s in
     let base = c.in_ok-replace_first.ensures.base entries start kept is.snapshot s in
-    on_ok_weaker c.append_batch.result (λ grown. records_grown (is_due c.args.self.now) entries (told_of start kept) _ _ _ records base grown) (c.append_batch.ensures.grows entries start kept records is.batch first.added)
+    on_ok_weaker c.append_batch.result (λ grown. records_grown (is_due c.args.self.now) (topic_of c.args.self.now).folder entries (told_of start kept) _ _ _ records base grown) (c.append_batch.ensures.grows entries start kept records is.batch first.added)
+
+pub returns-clause-left : goal.returns-clause-left
+returns-clause-left g c = λ records is.
+    on_ok_weaker c.append_batch.result (λ works. left_then c.args.self.now c.replace_first.new.self _ (c.in_ok-replace_first.ensures.replaced is.snapshot) c.replace_first.ensures.topic c.append_batch.ensures.left) c.append_batch.ensures.works

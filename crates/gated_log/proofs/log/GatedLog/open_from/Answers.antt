@@ -1,7 +1,10 @@
 use Rattle.std.proofs.Common.{◌≡◌, ◌⊎◌, inl, inr, ⊎_elim, ℕ, ◌+◌, ◌≤◌, length, List, ◌++◌, [], ◌∷◌, sym, ◌∙◌, ap, subst}
 use Rattle.std.specs.Option.{option_map, IfSome}
 use Rattle.std.proofs.lemmas.Result.{err_from_is_err_and}
+use Rattle.disk.specs.declared.file_id.FileId.{FileId}
 use Rattle.disk.specs.Disk.{Image}
+use Rattle.disk.specs.Areas.{folder_of}
+use Rattle.gated_log.specs.Labels.{header_size}
 use Rattle.gated_log.specs.declared.log_id.LogId.{LogId}
 use Rattle.gated_log.specs.declared.refusal.Refusal.{Refusal}
 use Rattle.gated_log.specs.declared.refusal.Refusal.TheVariants.{Device, NoMemory, Damaged}
@@ -10,7 +13,7 @@ use Rattle.gated_log.specs.Folds.{FitsFile, behind, IsFault, begun, grown}
 use Rattle.gated_log.specs.Logs.{log_id}
 use Rattle.gated_log.specs.Reading.{reader_at, HasRead, IsNext}
 use Rattle.gated_log.proofs.Further.{still_synced}
-use Rattle.gated_log.proofs.Folding.{log_of, goes_first, goes_more, number_fault, gate_fault, body_fault, last_fits, settles}
+use Rattle.gated_log.proofs.Folding.{log_of, goes_first, goes_more, label_fault, gate_fault, body_fault, last_fits, settles}
 use Rattle.gated_log.proofs.log.GatedLog.open_from.Goals as goal
 
 pub returns-then-not-branch-clause-refused : goal.returns-then-not-branch-clause-refused
@@ -18,8 +21,8 @@ returns-then-not-branch-clause-refused g c = λ before honest has held.
     let reader = c.in_ok-reader.reader in
     let form = behind (g.F.Fold.form (g.F.Fold.rule c.args.fold.now)) before in
     let read = c.in_ok-reader.ensures.begun (g.S.Shelf.disk c.args.shelf.now).seen has.is in
-    let bad : ¬ form (begun reader.id.number) = subst (λ (i : LogId). ¬ form (begun i.number)) c.id.ensures (c.in_ok-begin.ensures.refused before held cc) in
-    inr (inr (number_fault form c.args.head.now.file (g.S.Shelf.disk c.args.shelf.now).seen reader read c.in_ok-reader.ensures.file bad))
+    let bad : ¬ form (begun reader.id.label) = subst (λ (i : LogId). ¬ form (begun i.label)) c.id.ensures (c.in_ok-begin.ensures.refused before held cc) in
+    inr (inr (label_fault form c.args.head.now.file (g.S.Shelf.disk c.args.shelf.now).seen reader read c.in_ok-reader.ensures.file bad))
 
 pub returns-in_err-body-clause-refused : goal.returns-in_err-body-clause-refused
 returns-in_err-body-clause-refused g c = λ before honest has held.
@@ -51,11 +54,11 @@ returns-in_default-clause-opened g c = λ before held.
           let same = c.next.ensures.seen honest1 in
           let there = read.2 honest has in
           let ended = subst (λ o. IsNext old reader mid.seen read.0 (option_map (λ body. body.items) o)) c.in_default.is (c.in_ok-body.ensures.next read.0 honest1 there) in
-          let is : IsLog reader.id.number read.0 (new.seen reader.id.file) = subst (λ (i : LogId). IsLog i.number read.0 (new.seen i.file)) (sym c.next.ensures.id) (subst (λ (i : Image). IsLog old.id.number read.0 (i old.id.file)) (sym same) ended.0) in
+          let is : IsLog (folder_of reader.id.file) reader.id.label read.0 (new.seen reader.id.file) = subst (λ (i : LogId). IsLog (folder_of i.file) i.label read.0 (new.seen i.file)) (sym c.next.ensures.id) (subst (λ (i : Image). IsLog (folder_of old.id.file) old.id.label read.0 (i old.id.file)) (sym same) ended.0) in
           let holds = c.finish.ensures.log new.seen read.0 (subst (λ (i : Image). HasRead reader i read.0) (sym same) ended.1) is in
           let synced = still_synced c.args.head.now.file mid new (so_far.synced honest has) same (c.next.ensures.any_moment honest1) in
           settles log c.args.head.now.file new read.0 (c.next.ensures.kept.honest honest1) synced (ap (λ (i : LogId). i.file) id_is ∙ so_far.file_is) holds,
-      subst (λ (i : LogId). g.F.Fold.holds c.bodies.fold (before ++ record { number = i.number; bodies = read.0 } ∷ [])) (sym id_is) read.3,
+      subst (λ (i : LogId). g.F.Fold.holds c.bodies.fold (before ++ record { label = i.label; bodies = read.0 } ∷ [])) (sym id_is) read.3,
     )
 
 pub returns-then-not-branch-2-clause-refused : goal.returns-then-not-branch-2-clause-refused
@@ -79,8 +82,8 @@ returns-then-not-branch-2-clause-refused g c = λ before honest has held.
 
 pub bodies-init : goal.bodies-init
 bodies-init g c = (
-  goes_first c.args.head.now (g.S.Shelf.disk c.args.shelf.now) (g.F.Fold.holds c.args.fold.now) (g.F.Fold.holds c.begin-2.new.self) c.in_ok-reader.reader c.in_ok-reader.ensures.file c.in_ok-reader.ensures.at (λ has. c.in_ok-reader.ensures.begun (g.S.Shelf.disk c.args.shelf.now).seen has.is)
-      (λ before held. subst (λ (i : LogId). g.F.Fold.holds c.begin-2.new.self (before ++ begun i.number ∷ [])) c.id.ensures (c.in_ok-begin.ensures.taken before held cc)),
+  goes_first c.args.head.now (g.S.Shelf.disk c.args.shelf.now) (g.F.Fold.holds c.args.fold.now) (g.F.Fold.holds c.begin-2.new.self) c.in_ok-reader.reader c.in_ok-reader.ensures.file (c.in_ok-reader.ensures.at ∙ ap (λ (f : FileId). header_size (folder_of f)) (sym c.in_ok-reader.ensures.file)) (λ has. c.in_ok-reader.ensures.begun (g.S.Shelf.disk c.args.shelf.now).seen has.is)
+      (λ before held. subst (λ (i : LogId). g.F.Fold.holds c.begin-2.new.self (before ++ begun i.label ∷ [])) c.id.ensures (c.in_ok-begin.ensures.taken before held cc)),
   c.begin-2.ensures.rule,
 )
 

@@ -9,9 +9,8 @@ use Rattle.gated_log.specs.Batches.{Bodies}
 use Rattle.gated_log.specs.Folds.{Link, behind, IsFault}
 use Rattle.disk.specs.Contents.{Settled as LogSettled}
 use Rattle.gated_log.specs.Logs.{LogHolds, log_id, log_failed}
-use Rattle.journal.specs.Folded.{refusal_of_named}
+use Rattle.journal.specs.Folded.{refusal_of_named, logs_hold, logs_form, segment_of}
 use Rattle.journal.specs.Files.{segment_topic}
-use Rattle.journal.specs.Folded.{logs_hold, logs_form, segment_of}
 use Rattle.journal.proofs.Segments.{Going, Refused, named_refused, goes_more, settles, read_log}
 use Rattle.journal.proofs.journal.Journal.open_with.Goals as goal
 

@@ -24,7 +24,7 @@ pub returns-clause-trimmed : goal.returns-clause-trimmed
 returns-clause-trimmed g c = λ l s.
     let self = c.args.self.now in
     let d = g.S.Shelf.disk c.args.shelf.now in
-    dropped_settled self c.args.start c.requires.begins c.min-first.result (c.min-first.ensures ∙ ap (λ (n : ℕ). min c.args.start.first n) c.last.ensures) d l s _ (g.S.Shelf.disk c.drop_before.new.shelf) (◌∙◌ {A = List SegmentIndex} c.forget_first.ensures (ap (λ (n : ℕ). drop (c.args.start.first - n) c.args.self.now.closed.items) c.first.ensures.first)) refl (c.in_ok-drop_before.ensures.dropped s.now.chain (settled_as self d l s).journal)
+    dropped_settled self c.args.start c.requires.begins c.min-first.result (c.min-first.ensures ∙ ap (λ (n : ℕ). min c.args.start.first n) c.last.ensures) d l s _ (g.S.Shelf.disk c.drop_before.new.shelf) (◌∙◌ {A = List SegmentIndex} c.forget_first.ensures (ap (λ (n : ℕ). drop (c.args.start.first - n) c.args.self.now.closed.items) c.first.ensures.first)) refl c.drop_before.ensures.topic (c.in_ok-drop_before.ensures.dropped s.now.chain (settled_as self d l s).journal)
 
 pub returns-clause-start : goal.returns-clause-start
 returns-clause-start g c = λ l s.

@@ -5,7 +5,7 @@ use Rattle.catalog.specs.Catalogs.{per_ledger}
 use Rattle.session.specs.Broker.{topic_at}
 use Rattle.node.specs.Opening.{TellsOn}
 use Rattle.node.specs.Standing.{broker_of}
-use Rattle.node.proofs.Frames.{keep_numbers, topic_was, topic_now, of_number, of_number_within, stand_then, names_then, settled_then, work_leaves, beyond_leaves}
+use Rattle.node.proofs.Frames.{keep_numbers, topic_was, topic_now, of_number, of_number_within, stand_then, names_then, newest_then, settled_then, work_leaves, beyond_leaves}
 use Rattle.node.proofs.Opening.{unknown_on, tells_at}
 use Rattle.node.proofs.Knowing.{work_knows, know_same}
 use Rattle.node.proofs.Working as working
@@ -57,6 +57,7 @@ returns-clause-stands g c =
     record {
       honest = here.honest;
       each = stand_then disk g.met.T.TopicStore.laws g.met.T.TopicStore.stands_local t k low h next was _ d1 within here s;
+      newest = newest_then disk g.met.T.TopicStore.laws g.met.T.TopicStore.stands_local t k low h next was _ d1 within s;
       names = names_then disk g.met.T.TopicStore.laws g.met.T.TopicStore.stands_local t k low h next was _ d1 within s;
       settled = settled_then disk g.met.T.TopicStore.laws g.met.T.TopicStore.stands_local t k low h next was _ d1 within here.honest s;
     }

@@ -29,3 +29,6 @@ returns-in-Pump-clause-known g c = λ h. passes_know g.S.Shelf.disk _ _ (c.pump.
 
 pub returns-in-Close-clause-known : goal.returns-in-Close-clause-known
 returns-in-Close-clause-known g c = λ h. passes_know g.S.Shelf.disk _ _ (c.close.ensures.passes.1 h)
+
+pub returns-in-OnTopic-clause-any_moment : goal.returns-in-OnTopic-clause-any_moment
+returns-in-OnTopic-clause-any_moment g c = λ h. rw c.in-OnTopic.is (c.on_topic.ensures.any_moment h)

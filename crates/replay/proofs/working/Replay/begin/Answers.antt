@@ -7,12 +7,13 @@ use Rattle.session.specs.Broker.{Broker}
 use Rattle.replay.specs.declared.working.Replay.{Replay}
 use Rattle.replay.specs.contracts.working.ReplayLiving.TheImpl.{lives-value}
 use Rattle.replay.specs.Cause.{NewDeviceFailed}
+use Rattle.replay.proofs.Fresh.{none_counts}
 use Rattle.replay.proofs.Worked.{begin_fails}
 use Rattle.replay.proofs.working.Replay.begin.Goals as goal
 
 pub returns-in_err-write_output-clause-begun : goal.returns-in_err-write_output-clause-begun
 returns-in_err-write_output-clause-begun g c =
-    let made = c.in_ok-init.ensures.made tt (codes "pulsar://replay") in
+    let made = c.in_ok-init.ensures.made tt (none_counts c.new-shelf.result c.new-shelf.ensures.files) (codes "pulsar://replay") in
     let broker : made.0.broker ≡ fresh_broker c.args.per_ledger (codes "pulsar://replay") = made.1 ∙ ap (λ (n : ℕ). fresh_broker n (codes "pulsar://replay")) c.in-Some.ensures.count in
     let url = (c.new-url.ensures ∙ c.in_ok-from_str.ensures.ok) ∙ sym (ap (λ (b : Broker). b.service_url) broker) in
     let s = c.start-machine.ensures.step made.0 made.2 url in
@@ -22,7 +23,7 @@ returns-in_err-write_output-clause-begun g c =
 
 pub returns-clause-begun : goal.returns-clause-begun
 returns-clause-begun g c =
-    let made = c.in_ok-init.ensures.made tt (codes "pulsar://replay") in
+    let made = c.in_ok-init.ensures.made tt (none_counts c.new-shelf.result c.new-shelf.ensures.files) (codes "pulsar://replay") in
     let broker : made.0.broker ≡ fresh_broker c.args.per_ledger (codes "pulsar://replay") = made.1 ∙ ap (λ (n : ℕ). fresh_broker n (codes "pulsar://replay")) c.in-Some.ensures.count in
     let url = (c.new-url.ensures ∙ c.in_ok-from_str.ensures.ok) ∙ sym (ap (λ (b : Broker). b.service_url) broker) in
     let s = c.start-machine.ensures.step made.0 made.2 url in

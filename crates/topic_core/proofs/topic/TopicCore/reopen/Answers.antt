@@ -1,6 +1,7 @@
 use Rattle.std.proofs.Common.{◌≡◌, ◌≤◌, ◌^◌, true, false, refl, sym, ap, subst, ◌∙◌, inr, arith, Ok}
 use Rattle.std.proofs.lemmas.Bool.{true≢false}
 use Rattle.disk.specs.declared.file_id.FileId.TheVariants.{Segment}
+use Rattle.disk.specs.Areas.{served}
 use Rattle.gated_log.specs.declared.refusal.Refusal.TheVariants.{Damaged}
 use Rattle.managed_ledger.specs.Entries.{end_of}
 use Rattle.topic_core.specs.Messages.{marks_of}
@@ -36,7 +37,7 @@ returns-then-len-self-clause-told g c = λ honest.
       stands = again_stands g.T.TopicStore.stands (g.T.TopicStore.view c.args.stores.now) v1 (g.S.Shelf.disk c.args.shelf.now) (g.S.Shelf.disk c.open_stores.new.shelf) c.topic-topic.result again.durable.ledger (g.met.T.TopicStore.laws again.stores)
           (of.settled honest) of.topic c.topic-topic.ensures (of.seen honest (λ is. cc));
       fewer = omega (arith, of.added.0, c.len.ensures.len, c.if-len-self.true, ap (λ (k : Topic). k.committed) c.self.view_is);
-      told = ap (λ n. Damaged (Segment n 0) 0) c.topic-topic.ensures;
+      told = ap (λ t. Damaged (Segment t 0) 0) (c.served.ensures ∙ ap (λ n. served n) c.topic-topic.ensures);
     })))
 
 pub returns-clause-step : goal.returns-clause-step

@@ -1,11 +1,11 @@
 use Rattle.std.proofs.Common.{◌≡◌, length, refl, sym, subst, ◌∙◌}
-use Rattle.disk.specs.Areas.{OfTopic, Within}
+use Rattle.disk.specs.Areas.{FilesOf, Within}
 use Rattle.disk.specs.Contents.{Steady}
 use Rattle.managed_ledger.specs.Entries.{Ledger, end_of, lengthened}
 use Rattle.gated_log.specs.declared.start.Start.{Start}
 use Rattle.records.specs.Records.{after_all}
 use Rattle.topic_stores.specs.Views.{entry_view, sub_view, stand}
-use Rattle.topic_stores.specs.Laws.{entry_laws, sub_laws}
+use Rattle.topic_stores.specs.Laws.{entry_laws, sub_laws, still_served}
 use Rattle.topic_stores.specs.Writing.{IsLeft, StandsFor}
 use Rattle.topic_stores.proofs.Writing.{entries_settled, settled_both, within_entries, within_changes, subs_beside, entries_beside, both_left}
 use Rattle.topic_stores.proofs.Sizes.{known_written}
@@ -46,7 +46,7 @@ returns-in_err-append_changes-clause-within g c = λ ledger kept batch records l
     let raw2 = (c.append_changes.ensures.appends (end_of all) s0.start kept records for_s formed starts x1s).within in
     let w1 = within_entries g.E.EntryStore.stands g.C.SubStore.stands g.E.EntryStore.area g.C.SubStore.area e0 s0 el0 sl0 ledger batch kept records limit d0 d1 x raw in
     let w2 = within_changes g.E.EntryStore.stands g.C.SubStore.stands g.E.EntryStore.area g.C.SubStore.area e1 s0 el1 sl0 ledger batch kept records limit d1 d2 one start x1e raw2 in
-    let w2' = subst (λ t. Within (OfTopic t) (λ i. StandsFor (stand g.E.EntryStore.stands g.C.SubStore.stands t) (λ l k. IsLeft ledger kept batch records limit l k) i) d1 d2) c.append_entries.ensures.topic w2 in
+    let w2' = subst (λ t. Within (FilesOf t) (λ i. StandsFor (stand g.E.EntryStore.stands g.C.SubStore.stands t) (λ l k. IsLeft ledger kept batch records limit l k) i) d1 d2) c.append_entries.ensures.topic w2 in
     both_left g.E.EntryStore.stands g.C.SubStore.stands g.E.EntryStore.area g.C.SubStore.area e0 s0 el0 sl0 ledger batch kept records limit d0 d1 d2 w1 w2'
 
 pub returns-clause-within : goal.returns-clause-within
@@ -71,7 +71,7 @@ returns-clause-within g c = λ ledger kept batch records limit for_e for_s forme
     let raw2 = (c.append_changes.ensures.appends (end_of all) s0.start kept records for_s formed starts x1s).within in
     let w1 = within_entries g.E.EntryStore.stands g.C.SubStore.stands g.E.EntryStore.area g.C.SubStore.area e0 s0 el0 sl0 ledger batch kept records limit d0 d1 x raw in
     let w2 = within_changes g.E.EntryStore.stands g.C.SubStore.stands g.E.EntryStore.area g.C.SubStore.area e1 s0 el1 sl0 ledger batch kept records limit d1 d2 one start x1e raw2 in
-    let w2' = subst (λ t. Within (OfTopic t) (λ i. StandsFor (stand g.E.EntryStore.stands g.C.SubStore.stands t) (λ l k. IsLeft ledger kept batch records limit l k) i) d1 d2) c.append_entries.ensures.topic w2 in
+    let w2' = subst (λ t. Within (FilesOf t) (λ i. StandsFor (stand g.E.EntryStore.stands g.C.SubStore.stands t) (λ l k. IsLeft ledger kept batch records limit l k) i) d1 d2) c.append_entries.ensures.topic w2 in
     both_left g.E.EntryStore.stands g.C.SubStore.stands g.E.EntryStore.area g.C.SubStore.area e0 s0 el0 sl0 ledger batch kept records limit d0 d1 d2 w1 w2'
 
 pub returns-clause-written : goal.returns-clause-written
@@ -97,7 +97,7 @@ returns-clause-written g c = λ ledger kept batch records for_e for_s formed sta
     let s1 = sub_view g.C.SubStore.topic_of g.C.SubStore.start_of g.C.SubStore.content g.C.SubStore.failed g.C.SubStore.holds g.C.SubStore.written c.append_changes.new.store in
     let y2e = entries_beside g.E.EntryStore.stands g.C.SubStore.stands g.E.EntryStore.area g.C.SubStore.area e1 s0 el1 sl0 _ d1 d2 all one (c.append_changes.ensures.kept.honest x1e.honest) x1e raw2 in
     let y2s = (c.in_ok-append_changes.ensures.appends (end_of all) s0.start kept records for_s formed starts x1s).added in
-    settled_both e1 s1 d2 all (after_all records kept) (c.append_changes.ensures.topic ∙ one) (start ∙ sym c.append_changes.ensures.start) y2e
+    settled_both e1 s1 d2 all (after_all records kept) (c.append_changes.ensures.topic ∙ one) (still_served e0.topic e1.topic c.append_entries.ensures.topic x.settled.now.is_served) (start ∙ sym c.append_changes.ensures.start) y2e
     (subst (λ (said : Start). Steady (s1.holds (end_of all) said) s1.written d2 (after_all records kept)) (sym c.append_changes.ensures.start) y2s)
 
 pub returns-in_err-append_entries-clause-known : goal.returns-in_err-append_entries-clause-known

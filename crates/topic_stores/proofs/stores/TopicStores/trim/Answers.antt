@@ -3,7 +3,7 @@ use Rattle.disk.specs.Contents.{Steady}
 use Rattle.managed_ledger.specs.Entries.{end_of}
 use Rattle.gated_log.specs.declared.start.Start.{Start}
 use Rattle.topic_stores.specs.Views.{entry_view, sub_view}
-use Rattle.topic_stores.specs.Laws.{entry_laws, sub_laws}
+use Rattle.topic_stores.specs.Laws.{entry_laws, sub_laws, still_served}
 use Rattle.topic_stores.proofs.Writing.{entries_settled, subs_settled, entries_beside, subs_still}
 use Rattle.topic_stores.proofs.Cutting.{there, within_slots, within_cut, cut_settled, both_trimmed}
 use Rattle.topic_stores.proofs.stores.TopicStores.trim.Goals as goal
@@ -102,4 +102,4 @@ returns-clause-trimmed g c = λ ledger kept trims x.
     let e1 = entry_view g.E.EntryStore.topic_of g.E.EntryStore.start_of g.E.EntryStore.counts g.E.EntryStore.per_ledger g.E.EntryStore.failed g.E.EntryStore.holds c.trim-2.new.self in
     let x2 = c.in_ok-trim-2.ensures.trimmed ledger x1 in
     let y2 = subs_still g.E.EntryStore.stands g.C.SubStore.stands g.E.EntryStore.area g.C.SubStore.area e0 s1 el0 sl1 _ (end_of ledger) d1 d2 kept one (c.trim-2.ensures.kept.honest y1.settled.honest) y1' raw2 in
-    cut_settled g.E.EntryStore.stands g.C.SubStore.stands g.E.EntryStore.area g.C.SubStore.area e0 s0 el0 sl0 ledger kept start s1 sl1 e1 d2 (one ∙ sym c.trim-2.ensures.topic) said (c.in_ok-trim-2.ensures.start ledger x1) low x2 y2
+    cut_settled g.E.EntryStore.stands g.C.SubStore.stands g.E.EntryStore.area g.C.SubStore.area e0 s0 el0 sl0 ledger kept start s1 sl1 e1 d2 (one ∙ sym c.trim-2.ensures.topic) (still_served e0.topic e1.topic c.trim-2.ensures.topic x.settled.now.is_served) said (c.in_ok-trim-2.ensures.start ledger x1) low x2 y2

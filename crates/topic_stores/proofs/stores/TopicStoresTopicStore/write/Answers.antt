@@ -1,14 +1,15 @@
-use Rattle.std.proofs.Common.{◌≡◌, inl, inr, ⊎_elim, ℕ, ◌+◌, ◌-◌, ◌<◌, ◌≤◌, ◌^◌, ◌||◌, List, length, drop, refl, sym, subst, ap, ◌∙◌, arith}
-use Rattle.std.specs.Prelude.{IfSome}
+use Rattle.std.proofs.Common.{◌≡◌, inl, inr, ⊎_elim, ℕ, ◌+◌, ◌-◌, ◌<◌, ◌≤◌, ◌^◌, ◌||◌, ◌&&◌, Bool, List, length, drop, refl, sym, subst, ap, ◌∙◌, arith}
+use Rattle.std.specs.Prelude.{IfSome, is_some}
 use Rattle.std.proofs.lemmas.Bool.{true≢false}
 use Rattle.std.proofs.lemmas.Result.{err_from_is_err_and}
-use Rattle.disk.specs.Areas.{OfTopic, Within, weaken_within}
+use Rattle.disk.specs.Areas.{FilesOf, Within, weaken_within}
 use Rattle.managed_ledger.specs.Shape.{total}
 use Rattle.managed_ledger.specs.Points.{Begins, counts_with}
 use Rattle.gated_log.specs.declared.start.Start.{Start}
 use Rattle.managed_ledger.specs.Entries.{Entries, Ledger, AreEntries, end_of, lengthened}
 use Rattle.records.specs.Floors.{StartFrom}
-use Rattle.cursor_store.specs.Trimming.{IsKeptBehind}
+use Rattle.cursor_store.specs.Behind.{is_due_at}
+use Rattle.cursor_store.specs.Trimming.{HasGeneration, IsKeptBehind}
 use Rattle.records.specs.Maps.{Kept}
 use Rattle.records.specs.Records.{AreFormed, after_all}
 use Rattle.records.specs.declared.record.Record.{Record}
@@ -17,8 +18,9 @@ use Rattle.topic_stores.specs.Views.{entry_view, sub_view, stand}
 use Rattle.topic_stores.specs.Laws.{entry_laws, sub_laws}
 use Rattle.topic_stores.specs.Writing.{AreKnownWhole, IsLeft, StandsFor}
 use Rattle.topic_stores.proofs.Forms.{are_entries, formed_longer, formed_there}
-use Rattle.topic_stores.proofs.Writing.{StaysEntries, StaysSubs, settled_still, within_none, both_left}
+use Rattle.topic_stores.proofs.Writing.{StaysEntries, StaysSubs, settled_still, within_none, served_within, both_left}
 use Rattle.topic_stores.proofs.Ending.{kept_behind, none_settled, none_trimmed, some_settled, some_trimmed, either_left}
+use Rattle.topic_stores.proofs.Trimming.{one_left}
 use Rattle.topic_stores.proofs.Sizes.{known_old, known_written}
 use Rattle.topic_stores.proofs.stores.TopicStoresTopicStore.write.Goals as goal
 
@@ -43,7 +45,8 @@ returns-in_err-check_works-clause-within g c = λ ledger kept x.
     let s0 = sub_view g.C.SubStore.topic_of g.C.SubStore.start_of g.C.SubStore.content g.C.SubStore.failed g.C.SubStore.holds g.C.SubStore.written c.args.self.now.subscriptions in
     let el0 = (entry_laws g.E.EntryStore.topic_of g.E.EntryStore.start_of g.E.EntryStore.counts g.E.EntryStore.per_ledger g.E.EntryStore.failed g.E.EntryStore.holds g.E.EntryStore.stands g.E.EntryStore.area g.met.E.EntryStore.holds_works g.met.E.EntryStore.holds_counts g.met.E.EntryStore.holds_stands g.met.E.EntryStore.holds_behind g.met.E.EntryStore.stands_base g.met.E.EntryStore.stands_few g.met.E.EntryStore.area_segments g.met.E.EntryStore.holds_local) c.args.self.now.entries in
     let sl0 = (sub_laws g.C.SubStore.topic_of g.C.SubStore.start_of g.C.SubStore.content g.C.SubStore.failed g.C.SubStore.holds g.C.SubStore.written g.C.SubStore.stands g.C.SubStore.area g.met.C.SubStore.holds_works g.met.C.SubStore.holds_content g.met.C.SubStore.holds_stands g.met.C.SubStore.holds_longer g.met.C.SubStore.stands_longer g.met.C.SubStore.stands_fits g.met.C.SubStore.area_slots g.met.C.SubStore.holds_local g.met.C.SubStore.written_local) c.args.self.now.subscriptions in
-    within_none g.E.EntryStore.stands g.C.SubStore.stands g.E.EntryStore.area g.C.SubStore.area e0 s0 el0 sl0 ledger batch kept changes limit d0 x
+    served_within g.E.EntryStore.stands g.C.SubStore.stands g.E.EntryStore.area g.C.SubStore.area e0 s0 el0 sl0 ledger batch kept changes limit d0 d0 x.settled.now.is_served
+    (within_none g.E.EntryStore.stands g.C.SubStore.stands g.E.EntryStore.area g.C.SubStore.area e0 s0 el0 sl0 ledger batch kept changes limit d0 x)
 
 pub returns-in_err-entries-clause-within : goal.returns-in_err-entries-clause-within
 returns-in_err-entries-clause-within g c = λ ledger kept x.
@@ -55,7 +58,8 @@ returns-in_err-entries-clause-within g c = λ ledger kept x.
     let s0 = sub_view g.C.SubStore.topic_of g.C.SubStore.start_of g.C.SubStore.content g.C.SubStore.failed g.C.SubStore.holds g.C.SubStore.written c.args.self.now.subscriptions in
     let el0 = (entry_laws g.E.EntryStore.topic_of g.E.EntryStore.start_of g.E.EntryStore.counts g.E.EntryStore.per_ledger g.E.EntryStore.failed g.E.EntryStore.holds g.E.EntryStore.stands g.E.EntryStore.area g.met.E.EntryStore.holds_works g.met.E.EntryStore.holds_counts g.met.E.EntryStore.holds_stands g.met.E.EntryStore.holds_behind g.met.E.EntryStore.stands_base g.met.E.EntryStore.stands_few g.met.E.EntryStore.area_segments g.met.E.EntryStore.holds_local) c.args.self.now.entries in
     let sl0 = (sub_laws g.C.SubStore.topic_of g.C.SubStore.start_of g.C.SubStore.content g.C.SubStore.failed g.C.SubStore.holds g.C.SubStore.written g.C.SubStore.stands g.C.SubStore.area g.met.C.SubStore.holds_works g.met.C.SubStore.holds_content g.met.C.SubStore.holds_stands g.met.C.SubStore.holds_longer g.met.C.SubStore.stands_longer g.met.C.SubStore.stands_fits g.met.C.SubStore.area_slots g.met.C.SubStore.holds_local g.met.C.SubStore.written_local) c.args.self.now.subscriptions in
-    within_none g.E.EntryStore.stands g.C.SubStore.stands g.E.EntryStore.area g.C.SubStore.area e0 s0 el0 sl0 ledger batch kept changes limit d0 x
+    served_within g.E.EntryStore.stands g.C.SubStore.stands g.E.EntryStore.area g.C.SubStore.area e0 s0 el0 sl0 ledger batch kept changes limit d0 d0 x.settled.now.is_served
+    (within_none g.E.EntryStore.stands g.C.SubStore.stands g.E.EntryStore.area g.C.SubStore.area e0 s0 el0 sl0 ledger batch kept changes limit d0 x)
 
 pub returns-in_err-changes-clause-within : goal.returns-in_err-changes-clause-within
 returns-in_err-changes-clause-within g c = λ ledger kept x.
@@ -67,7 +71,8 @@ returns-in_err-changes-clause-within g c = λ ledger kept x.
     let s0 = sub_view g.C.SubStore.topic_of g.C.SubStore.start_of g.C.SubStore.content g.C.SubStore.failed g.C.SubStore.holds g.C.SubStore.written c.args.self.now.subscriptions in
     let el0 = (entry_laws g.E.EntryStore.topic_of g.E.EntryStore.start_of g.E.EntryStore.counts g.E.EntryStore.per_ledger g.E.EntryStore.failed g.E.EntryStore.holds g.E.EntryStore.stands g.E.EntryStore.area g.met.E.EntryStore.holds_works g.met.E.EntryStore.holds_counts g.met.E.EntryStore.holds_stands g.met.E.EntryStore.holds_behind g.met.E.EntryStore.stands_base g.met.E.EntryStore.stands_few g.met.E.EntryStore.area_segments g.met.E.EntryStore.holds_local) c.args.self.now.entries in
     let sl0 = (sub_laws g.C.SubStore.topic_of g.C.SubStore.start_of g.C.SubStore.content g.C.SubStore.failed g.C.SubStore.holds g.C.SubStore.written g.C.SubStore.stands g.C.SubStore.area g.met.C.SubStore.holds_works g.met.C.SubStore.holds_content g.met.C.SubStore.holds_stands g.met.C.SubStore.holds_longer g.met.C.SubStore.stands_longer g.met.C.SubStore.stands_fits g.met.C.SubStore.area_slots g.met.C.SubStore.holds_local g.met.C.SubStore.written_local) c.args.self.now.subscriptions in
-    within_none g.E.EntryStore.stands g.C.SubStore.stands g.E.EntryStore.area g.C.SubStore.area e0 s0 el0 sl0 ledger batch kept changes limit d0 x
+    served_within g.E.EntryStore.stands g.C.SubStore.stands g.E.EntryStore.area g.C.SubStore.area e0 s0 el0 sl0 ledger batch kept changes limit d0 d0 x.settled.now.is_served
+    (within_none g.E.EntryStore.stands g.C.SubStore.stands g.E.EntryStore.area g.C.SubStore.area e0 s0 el0 sl0 ledger batch kept changes limit d0 x)
 
 pub returns-in_err-point-clause-within : goal.returns-in_err-point-clause-within
 returns-in_err-point-clause-within g c = λ ledger kept x.
@@ -79,7 +84,8 @@ returns-in_err-point-clause-within g c = λ ledger kept x.
     let s0 = sub_view g.C.SubStore.topic_of g.C.SubStore.start_of g.C.SubStore.content g.C.SubStore.failed g.C.SubStore.holds g.C.SubStore.written c.args.self.now.subscriptions in
     let el0 = (entry_laws g.E.EntryStore.topic_of g.E.EntryStore.start_of g.E.EntryStore.counts g.E.EntryStore.per_ledger g.E.EntryStore.failed g.E.EntryStore.holds g.E.EntryStore.stands g.E.EntryStore.area g.met.E.EntryStore.holds_works g.met.E.EntryStore.holds_counts g.met.E.EntryStore.holds_stands g.met.E.EntryStore.holds_behind g.met.E.EntryStore.stands_base g.met.E.EntryStore.stands_few g.met.E.EntryStore.area_segments g.met.E.EntryStore.holds_local) c.args.self.now.entries in
     let sl0 = (sub_laws g.C.SubStore.topic_of g.C.SubStore.start_of g.C.SubStore.content g.C.SubStore.failed g.C.SubStore.holds g.C.SubStore.written g.C.SubStore.stands g.C.SubStore.area g.met.C.SubStore.holds_works g.met.C.SubStore.holds_content g.met.C.SubStore.holds_stands g.met.C.SubStore.holds_longer g.met.C.SubStore.stands_longer g.met.C.SubStore.stands_fits g.met.C.SubStore.area_slots g.met.C.SubStore.holds_local g.met.C.SubStore.written_local) c.args.self.now.subscriptions in
-    within_none g.E.EntryStore.stands g.C.SubStore.stands g.E.EntryStore.area g.C.SubStore.area e0 s0 el0 sl0 ledger batch kept changes limit d0 x
+    served_within g.E.EntryStore.stands g.C.SubStore.stands g.E.EntryStore.area g.C.SubStore.area e0 s0 el0 sl0 ledger batch kept changes limit d0 d0 x.settled.now.is_served
+    (within_none g.E.EntryStore.stands g.C.SubStore.stands g.E.EntryStore.area g.C.SubStore.area e0 s0 el0 sl0 ledger batch kept changes limit d0 x)
 
 pub returns-in_err-append-clause-within : goal.returns-in_err-append-clause-within
 returns-in_err-append-clause-within g c = λ ledger kept x.
@@ -103,7 +109,8 @@ returns-in_err-append-clause-within g c = λ ledger kept x.
     let starts = subst (λ (said : Start). StartFrom said.base changes) (sym c.prepare_changes.ensures.start) c.requires.fits.starts in
     let d1 = g.S.Shelf.disk c.append.new.shelf in
     let w1 = c.append.ensures.within ledger kept batch changes limit for_e for_s formed starts x1 in
-    subst (λ t. Within (OfTopic t) (λ i. StandsFor (stand g.E.EntryStore.stands g.C.SubStore.stands t) (λ l k. IsLeft ledger kept batch changes limit l k) i) d0 d1) c.prepare_entries.ensures.topic w1
+    served_within g.E.EntryStore.stands g.C.SubStore.stands g.E.EntryStore.area g.C.SubStore.area e0 s0 el0 sl0 ledger batch kept changes limit d0 d1 x.settled.now.is_served
+    (subst (λ t. Within (FilesOf t) (λ i. StandsFor (stand g.E.EntryStore.stands g.C.SubStore.stands t) (λ l k. IsLeft ledger kept batch changes limit l k) i) d0 d1) c.prepare_entries.ensures.topic w1)
 
 pub returns-in_default-clause-within : goal.returns-in_default-clause-within
 returns-in_default-clause-within g c = λ ledger kept x.
@@ -127,7 +134,8 @@ returns-in_default-clause-within g c = λ ledger kept x.
     let starts = subst (λ (said : Start). StartFrom said.base changes) (sym c.prepare_changes.ensures.start) c.requires.fits.starts in
     let d1 = g.S.Shelf.disk c.append.new.shelf in
     let w1 = c.append.ensures.within ledger kept batch changes limit for_e for_s formed starts x1 in
-    subst (λ t. Within (OfTopic t) (λ i. StandsFor (stand g.E.EntryStore.stands g.C.SubStore.stands t) (λ l k. IsLeft ledger kept batch changes limit l k) i) d0 d1) c.prepare_entries.ensures.topic w1
+    served_within g.E.EntryStore.stands g.C.SubStore.stands g.E.EntryStore.area g.C.SubStore.area e0 s0 el0 sl0 ledger batch kept changes limit d0 d1 x.settled.now.is_served
+    (subst (λ t. Within (FilesOf t) (λ i. StandsFor (stand g.E.EntryStore.stands g.C.SubStore.stands t) (λ l k. IsLeft ledger kept batch changes limit l k) i) d0 d1) c.prepare_entries.ensures.topic w1)
 
 pub returns-in_default-clause-written : goal.returns-in_default-clause-written
 returns-in_default-clause-written g c = λ ledger kept x.
@@ -230,11 +238,12 @@ returns-in_err-trim-clause-within g c = λ ledger kept x.
     let slots = subst (λ p. IfSome p (λ t. g.C.SubStore.trims t.slots s1.start later t.start)) c.in-Some.is (c.in_ok-point.ensures.slots later behind) in
     let trims = subst (λ (said : Start). g.C.SubStore.trims trim.slots said later trim.start) (sym c.append.ensures.said) slots in
     let d2 = g.S.Shelf.disk c.trim.new.shelf in
-    let w2 = weaken_within (OfTopic e2.topic) _ (λ i. StandsFor (stand g.E.EntryStore.stands g.C.SubStore.stands e2.topic) (λ l k. IsLeft ledger kept batch changes limit l k) i) d1 d2
+    let w2 = weaken_within (FilesOf e2.topic) _ (λ i. StandsFor (stand g.E.EntryStore.stands g.C.SubStore.stands e2.topic) (λ l k. IsLeft ledger kept batch changes limit l k) i) d1 d2
     (either_left g.E.EntryStore.stands g.C.SubStore.stands g.E.EntryStore.area g.C.SubStore.area e2 s2 el2 sl2 ledger batch kept changes limit trim.start.base low) (c.trim.ensures.within all later trims x2) in
-    let w2' = subst (λ t. Within (OfTopic t) (λ i. StandsFor (stand g.E.EntryStore.stands g.C.SubStore.stands t) (λ l k. IsLeft ledger kept batch changes limit l k) i) d1 d2) c.append.ensures.topic w2 in
+    let w2' = subst (λ t. Within (FilesOf t) (λ i. StandsFor (stand g.E.EntryStore.stands g.C.SubStore.stands t) (λ l k. IsLeft ledger kept batch changes limit l k) i) d1 d2) c.append.ensures.topic w2 in
     let w = both_left g.E.EntryStore.stands g.C.SubStore.stands g.E.EntryStore.area g.C.SubStore.area e1 s1 ((entry_laws g.E.EntryStore.topic_of g.E.EntryStore.start_of g.E.EntryStore.counts g.E.EntryStore.per_ledger g.E.EntryStore.failed g.E.EntryStore.holds g.E.EntryStore.stands g.E.EntryStore.area g.met.E.EntryStore.holds_works g.met.E.EntryStore.holds_counts g.met.E.EntryStore.holds_stands g.met.E.EntryStore.holds_behind g.met.E.EntryStore.stands_base g.met.E.EntryStore.stands_few g.met.E.EntryStore.area_segments g.met.E.EntryStore.holds_local) c.prepare_entries.new.store) ((sub_laws g.C.SubStore.topic_of g.C.SubStore.start_of g.C.SubStore.content g.C.SubStore.failed g.C.SubStore.holds g.C.SubStore.written g.C.SubStore.stands g.C.SubStore.area g.met.C.SubStore.holds_works g.met.C.SubStore.holds_content g.met.C.SubStore.holds_stands g.met.C.SubStore.holds_longer g.met.C.SubStore.stands_longer g.met.C.SubStore.stands_fits g.met.C.SubStore.area_slots g.met.C.SubStore.holds_local g.met.C.SubStore.written_local) c.prepare_changes.new.store) ledger batch kept changes limit d0 d1 d2 w1 w2' in
-    subst (λ t. Within (OfTopic t) (λ i. StandsFor (stand g.E.EntryStore.stands g.C.SubStore.stands t) (λ l k. IsLeft ledger kept batch changes limit l k) i) d0 d2) c.prepare_entries.ensures.topic w
+    served_within g.E.EntryStore.stands g.C.SubStore.stands g.E.EntryStore.area g.C.SubStore.area e0 s0 el0 sl0 ledger batch kept changes limit d0 d2 x.settled.now.is_served
+    (subst (λ t. Within (FilesOf t) (λ i. StandsFor (stand g.E.EntryStore.stands g.C.SubStore.stands t) (λ l k. IsLeft ledger kept batch changes limit l k) i) d0 d2) c.prepare_entries.ensures.topic w)
 
 pub returns-clause-within : goal.returns-clause-within
 returns-clause-within g c = λ ledger kept x.
@@ -273,11 +282,12 @@ returns-clause-within g c = λ ledger kept x.
     let slots = subst (λ p. IfSome p (λ t. g.C.SubStore.trims t.slots s1.start later t.start)) c.in-Some.is (c.in_ok-point.ensures.slots later behind) in
     let trims = subst (λ (said : Start). g.C.SubStore.trims trim.slots said later trim.start) (sym c.append.ensures.said) slots in
     let d2 = g.S.Shelf.disk c.trim.new.shelf in
-    let w2 = weaken_within (OfTopic e2.topic) _ (λ i. StandsFor (stand g.E.EntryStore.stands g.C.SubStore.stands e2.topic) (λ l k. IsLeft ledger kept batch changes limit l k) i) d1 d2
+    let w2 = weaken_within (FilesOf e2.topic) _ (λ i. StandsFor (stand g.E.EntryStore.stands g.C.SubStore.stands e2.topic) (λ l k. IsLeft ledger kept batch changes limit l k) i) d1 d2
     (either_left g.E.EntryStore.stands g.C.SubStore.stands g.E.EntryStore.area g.C.SubStore.area e2 s2 el2 sl2 ledger batch kept changes limit trim.start.base low) (c.trim.ensures.within all later trims x2) in
-    let w2' = subst (λ t. Within (OfTopic t) (λ i. StandsFor (stand g.E.EntryStore.stands g.C.SubStore.stands t) (λ l k. IsLeft ledger kept batch changes limit l k) i) d1 d2) c.append.ensures.topic w2 in
+    let w2' = subst (λ t. Within (FilesOf t) (λ i. StandsFor (stand g.E.EntryStore.stands g.C.SubStore.stands t) (λ l k. IsLeft ledger kept batch changes limit l k) i) d1 d2) c.append.ensures.topic w2 in
     let w = both_left g.E.EntryStore.stands g.C.SubStore.stands g.E.EntryStore.area g.C.SubStore.area e1 s1 ((entry_laws g.E.EntryStore.topic_of g.E.EntryStore.start_of g.E.EntryStore.counts g.E.EntryStore.per_ledger g.E.EntryStore.failed g.E.EntryStore.holds g.E.EntryStore.stands g.E.EntryStore.area g.met.E.EntryStore.holds_works g.met.E.EntryStore.holds_counts g.met.E.EntryStore.holds_stands g.met.E.EntryStore.holds_behind g.met.E.EntryStore.stands_base g.met.E.EntryStore.stands_few g.met.E.EntryStore.area_segments g.met.E.EntryStore.holds_local) c.prepare_entries.new.store) ((sub_laws g.C.SubStore.topic_of g.C.SubStore.start_of g.C.SubStore.content g.C.SubStore.failed g.C.SubStore.holds g.C.SubStore.written g.C.SubStore.stands g.C.SubStore.area g.met.C.SubStore.holds_works g.met.C.SubStore.holds_content g.met.C.SubStore.holds_stands g.met.C.SubStore.holds_longer g.met.C.SubStore.stands_longer g.met.C.SubStore.stands_fits g.met.C.SubStore.area_slots g.met.C.SubStore.holds_local g.met.C.SubStore.written_local) c.prepare_changes.new.store) ledger batch kept changes limit d0 d1 d2 w1 w2' in
-    subst (λ t. Within (OfTopic t) (λ i. StandsFor (stand g.E.EntryStore.stands g.C.SubStore.stands t) (λ l k. IsLeft ledger kept batch changes limit l k) i) d0 d2) c.prepare_entries.ensures.topic w
+    served_within g.E.EntryStore.stands g.C.SubStore.stands g.E.EntryStore.area g.C.SubStore.area e0 s0 el0 sl0 ledger batch kept changes limit d0 d2 x.settled.now.is_served
+    (subst (λ t. Within (FilesOf t) (λ i. StandsFor (stand g.E.EntryStore.stands g.C.SubStore.stands t) (λ l k. IsLeft ledger kept batch changes limit l k) i) d0 d2) c.prepare_entries.ensures.topic w)
 
 pub returns-clause-written : goal.returns-clause-written
 returns-clause-written g c = λ ledger kept x.
@@ -497,3 +507,16 @@ trim-requires-clause-begins g c =
     let counts = ap (λ (n : ℕ). counts_with (g.E.EntryStore.per_ledger e1) n (g.E.EntryStore.counts e1)) many ∙ sym (c.in_ok-append.ensures.counts c.args.batch.now.entries.items for_e some) in
     subst (λ (start : Start). Begins start (g.E.EntryStore.counts c.append.new.self.entries) c.in-Some.point.start) (sym c.append.ensures.start)
     (subst (λ (l : List ℕ). Begins (g.E.EntryStore.start_of e1) l c.in-Some.point.start) counts begins)
+
+pub trim-requires-clause-generation : goal.trim-requires-clause-generation
+trim-requires-clause-generation g c =
+    let subscriptions = c.prepare_changes.new.store in
+    let changes = c.args.batch.now.changes.items in
+    let kept = g.C.SubStore.content subscriptions in
+    let is_for = g.C.SubStore.is_for subscriptions in
+    let for_s = subst (λ (l : List Record). PreparedFor is_for c.in_ok-changes.changes l) c.as_slice-2.ensures.value c.in_ok-changes.ensures.prepared in
+    let behind = subst (λ o. IsKeptBehind is_for kept o (after_all changes kept)) (sym c.as_ref.ensures.value) (kept_behind is_for c.in_ok-changes.changes changes kept (after_all changes kept) refl for_s) in
+    let left = g.C.SubStore.replaces_left subscriptions in
+    let due : Bool → Bool = λ some. some && is_due_at (g.C.SubStore.counted subscriptions) (g.C.SubStore.can_replace subscriptions) in
+    let has = subst (λ p. IfSome p (λ t. HasGeneration (due (is_some c.as_ref.result)) left)) c.in-Some.is (c.in_ok-point.ensures.generation (after_all changes kept) behind) in
+    one_left (due (is_some c.in_ok-changes.changes)) left (g.C.SubStore.replaces_left c.append.new.self.subscriptions) (subst (λ some. HasGeneration (due some) left) c.as_ref.ensures.variant has) (c.in_ok-append.ensures.replaces_left changes for_s)
