@@ -13,7 +13,7 @@ from itertools import combinations
 sys.dont_write_bytecode = True
 from encoding import entry_of, number, text
 from plain_reader import (END_MARK, ENTRIES, LARGEST_ENTRY, LAST_GENERATION, MADE, MOST_ENTRIES, MOST_NAMES, ONE, RANGE, RECORDS, REMOVED, THROUGH,
-                          TRIM, opened)
+                          UNTRIMMED, opened)
 from table import Table
 
 TOPIC = 3
@@ -32,9 +32,9 @@ def batch(body, length=None):
     return b"\x01" + little(len(body) if length is None else length, 4) + body
 
 
-def gated(value, *batches, gate=1, name=b"PULSAR", version=1, end=b"\0"):
-    """A gated file with this number in its header."""
-    return bytes([gate]) + name + bytes([version]) + little(value, 8) + b"".join(batches) + end
+def gated(value, *batches, gate=1, name=b"PULSAR", version=2, start=UNTRIMMED, end=b"\0"):
+    """A gated file with this number in its header, and where a ledger begins, by position and by segment."""
+    return bytes([gate]) + name + bytes([version]) + b"".join(little(it, 8) for it in (value, *start)) + b"".join(batches) + end
 
 
 def entries(*content):
@@ -49,11 +49,6 @@ def records(*content):
 
 def record(kind, name, *positions):
     return bytes([kind, len(name)]) + name + b"".join(little(position, 8) for position in positions)
-
-
-def trim(base, first):
-    """A record that says where the ledger begins."""
-    return bytes([TRIM]) + little(base, 8) + little(first, 8)
 
 
 MARK = batch(bytes([END_MARK]))
@@ -151,9 +146,9 @@ def rows_of_chains():
         *of_segments("chains that stand", [gated(0)], [FULL, LAST], [gated(0, MARK), gated(0, MARK), gated(0, entries(A))], [zero, one, gated(2)],
                      [gated(0, batch(b"\0"), batch(b"\0")), b"other bytes"], [gated(0, entries(A, B, C, D), end=b"\x02other bytes")]),
         *of_segments("a segment that is missing, closed or cut in its header", [], [b"", LAST], [FULL], [zero, b"", gated(1)],
-                     [FULL, gated(2, gate=0)], [FULL, gated(2, gate=255)], [FULL, LAST[:15]], [FULL, LAST[:16]]),
-        *of_segments("another name, version or number of a header, and two of them", [gated(0, name=b"PULSAS")], [gated(0, version=2)],
-                     [gated(0, version=0)], [gated(1)], [gated(0, name=b"pULSAR", version=2)], [gated(1, version=2)], [gated(0, version=2, end=b"")],
+                     [FULL, gated(2, gate=0)], [FULL, gated(2, gate=255)], [FULL, LAST[:15]], [FULL, LAST[:16]], [FULL, LAST[:31]], [FULL, LAST[:32]]),
+        *of_segments("another name, version or number of a header, and two of them", [gated(0, name=b"PULSAS")], [gated(0, version=1)],
+                     [gated(0, version=0)], [gated(1)], [gated(0, name=b"pULSAR", version=1)], [gated(1, version=1)], [gated(0, version=1, end=b"")],
                      [gated(7, end=b"")], [FULL, gated(0)], [FULL, gated(3)], [FULL, gated(2 + 2**63)], [FULL, gated(2, version=3)],
                      [FULL, gated(9, version=3)])]
 
@@ -176,8 +171,8 @@ def rows_of_batches():
 def headers():
     """Headers of one slot: each fault alone, and two at once."""
     last = LAST_GENERATION
-    return [b"", CLOSED, gated(1)[:15], gated(1)[:16], gated(1), gated(2), gated(last), gated(last - 1), gated(last, gate=0), gated(1, name=b"PULSAS"),
-            gated(last, name=b"PULSAS"), gated(1, version=2), gated(last, version=2), gated(1, version=2, end=b""), gated(1, name=b"\0" * 6, version=2),
+    return [b"", CLOSED, gated(1)[:15], gated(1)[:31], gated(1)[:32], gated(1), gated(2), gated(last), gated(last - 1), gated(last, gate=0), gated(1, name=b"PULSAS"),
+            gated(last, name=b"PULSAS"), gated(1, version=1), gated(last, version=1), gated(1, version=1, end=b""), gated(1, name=b"\0" * 6, version=1),
             gated(2, b"\1"), gated(2, batch(b"\1")), gated(2, version=0)]
 
 
@@ -204,43 +199,40 @@ def rows_of_records():
 # Where the ledger begins
 
 THREE = {("segment", 1): gated(2, entries(C), MARK), ("segment", 2): gated(3, entries(D))}  # whose first one is gone, as are its bytes
-TRIMMED = of_slots(gated(2, records(record(MADE, b"s", 0), record(THROUGH, b"s", 2)), records(trim(2, 1)), records(record(ONE, b"s", 3))), CLOSED, THREE)
-TWICE = of_slots(gated(1, records(record(MADE, b"s", 0))), gated(2, records(trim(1, 5), record(MADE, b"s", 3)), records(trim(3, 2)), records(record(MADE, b"t", 3))), THREE)
+TRIMMED = of_slots(gated(2, records(record(MADE, b"s", 3)), records(record(ONE, b"s", 3)), start=(2, 1)), CLOSED, THREE)
+TWICE = of_slots(gated(1, records(record(MADE, b"s", 2)), start=(2, 1)), gated(2, records(record(MADE, b"s", 3)), records(record(MADE, b"t", 3)), start=(3, 2)),
+                 THREE)
 
 
-def begun(*bodies, segments=None):
-    """A folder whose first segment is gone, with these batches behind a subscription that has the positions below 3 and lacks that one."""
-    front = records(record(MADE, b"s", 3))
-    return of_slots(gated(1, front, *bodies), CLOSED, THREE if segments is None else segments)
+def begun(*start, bodies=(), segments=None, other=CLOSED):
+    """A folder whose first segment is gone, with this start in slot 0, a subscription that has the positions below 3, and these batches."""
+    return of_slots(gated(1, records(record(MADE, b"s", 3)), *bodies, start=start), other, THREE if segments is None else segments)
 
 
-def rows_of_trims():
-    there, gone = trim(2, 1), record(REMOVED, b"s")
-    cut = [records(trim(3, 2)[:size]) for size in (1, 9, 16)]
-    most = [records(gone, trim(2, MOST_ENTRIES)), records(gone, trim(2, MOST_ENTRIES + 1)), records(gone, trim(MOST_ENTRIES, 1)),
-            records(gone, trim(MOST_ENTRIES + 1, 1))]
+def rows_of_starts():
+    made = records(record(MADE, b"t", 2)), records(record(MADE, b"t", 1)), records(record(REMOVED, b"s"), record(MADE, b"s", 1))
     lacking = {("segment", 2): THREE[("segment", 2)]}
     closed = {**THREE, ("segment", 1): b"\0" + THREE[("segment", 1)][1:]}
     whole = {("segment", 0): FULL, **THREE}
+    bad = batch(b"\7")
+    most = [(MOST_ENTRIES, 1), (MOST_ENTRIES + 1, 1), (2, MOST_ENTRIES), (2, MOST_ENTRIES + 1), (2**64 - 1, 2**64 - 1)]
+    begins = gated(2, *MANY, start=(2, 1))
     return [
-        *alone("where the ledger begins", begun(records(there)), begun(records(there), records(trim(3, 2))), begun(records(there, trim(3, 2))),
-               begun(records(there), records(there)), begun(records(trim(0, 0)), segments=whole), begun(records(trim(0, 0)), records(there)),
-               begun(records(gone), records(trim(3, 2))), begun(records(gone, trim(4, 3)), segments={("segment", 3): gated(4)}),
-               begun(records(there, record(MADE, b"t", 2))), begun(records(there), segments=whole), TRIMMED, TWICE),
-        *alone("a segment that isn't the one that is named", begun(records(trim(2, 0))), begun(records(trim(3, 1))), begun(records(trim(1, 1))),
-               begun(records(trim(2, 2))), begun(records(trim(2, 3))), begun(records(there), segments=lacking), begun(records(there), segments=closed),
-               begun(records(gone, trim(4, 2))), begun(records(gone, trim(5, 2))), begun()),
-        *alone("what can't stand there: a base that falls, or that a subscription lacks", begun(records(there), records(trim(1, 0))),
-               begun(records(there), records(trim(0, 0))), begun(records(there), records(trim(4, 2))), begun(records(there, trim(4, 2))),
-               begun(records(trim(3, 2)), records(record(MADE, b"t", 2), there)), begun(records(there), records(record(ONE, b"s", 3), trim(1, 0)))),
-        *alone("a subscription that begins before the ledger does", begun(records(there), records(record(MADE, b"t", 1))),
-               begun(records(there, record(MADE, b"t", 0))), begun(records(there), records(gone, record(MADE, b"s", 1)))),
-        *alone("a record that is cut short, and numbers at their limits", *(begun(records(there), it) for it in [*cut, *most])),
-        *alone("damage before it, behind it, and beside the ledger alone", begun(batch(b"\7"), records(there)), begun(records(there), batch(b"\7")),
-               begun(records(there), batch(b"\7"), records(trim(3, 2))), begun(records(record(ONE, b"s", 4)), records(there)),
-               begun(records(there), records(record(ONE, b"s", 4)), records(trim(3, 2))), begun(records(there), records(gone, trim(5, 2))),
-               begun(records(there), batch(b"", 9)), begun(records(there, record(ONE, b"u", 0))),
-               begun(records(there), records(record(ONE, b"s", 4)), segments=lacking), begun(records(there), batch(b"\7"), segments=lacking))]
+        *alone("where the ledger begins", begun(2, 1), begun(3, 2), begun(0, 0, segments=whole), begun(2, 1, segments=whole), begun(2, 1, bodies=made[:1]),
+               begun(4, 3, segments={("segment", 3): gated(4)}, bodies=(records(record(THROUGH, b"s", 3)),)), TRIMMED, TWICE),
+        *alone("a segment that isn't the one that is named", begun(2, 0), begun(3, 1), begun(1, 1), begun(2, 2), begun(2, 3), begun(2, 1, segments=lacking),
+               begun(2, 1, segments=closed), begun(4, 2), begun(5, 2), begun(0, 0), begun(0, 1, segments=whole), begun(2, 0, segments=whole)),
+        *alone("a subscription that begins before the ledger does, and one that it makes behind", *(begun(2, 1, bodies=(it,)) for it in made)),
+        *alone("numbers at their limits", *(begun(*it) for it in most)),
+        *alone("a record of the version before", begun(2, 1, bodies=(records(bytes([6]) + little(2, 8) + little(1, 8)),))),
+        *alone("a start in a slot that doesn't count, or is refused", *(of_slots(zero, one, whole) for zero, one in (
+            (gated(3, *MANY), begins), (begins, gated(1, *MANY, start=(3, 2))), (gated(2, *MANY, start=(2, 1), gate=0), gated(1, *MANY)),
+            (gated(2, *MANY, start=(2, 1), name=b"PULSAS"), CLOSED), (gated(2, *MANY, start=(2, 1), version=1), CLOSED),
+            (gated(2, *MANY, start=(2, 1)), gated(2, *MANY)), (gated(1, *MANY, start=(2, 1)), gated(2, *MANY, version=3))))),
+        *alone("a start in a segment", *(of_slots(gated(1), CLOSED, {("segment", 0): gated(0, start=it)}) for it in ((1, 0), (0, 1), (2**63, 0), (0, 2**63)))),
+        *alone("damage behind it, and beside the ledger alone", begun(2, 1, bodies=(bad,)), begun(2, 1, bodies=(records(record(ONE, b"s", 4)),)),
+               begun(2, 1, bodies=(batch(b"", 9),)), begun(2, 1, bodies=(records(record(ONE, b"u", 0)),)),
+               begun(2, 1, bodies=(records(record(ONE, b"s", 4)),), segments=lacking), begun(2, 1, bodies=(bad,), segments=lacking))]
 
 
 def rows_of_names():
@@ -270,27 +262,27 @@ def rows_of_positions():
 def changes():
     """One in each place of a folder with two segments and two slots."""
     zero, one, first, second = ("segment", 0), ("segment", 1), ("slot", 0), ("slot", 1)
-    of_files = [change(zero, 1, 0), change(zero, 7, 2), change(zero, 17, 255), change(zero, len(FULL) - 2, 2), change(zero, len(FULL) - 1, 1),
-                change(one, 8, 1), change(one, 21, 3), change(one, len(LAST) - 1, 1)]
-    of_slot = [change(first, 2, 0), change(first, 7, 0), change(first, 17, 255), change(first, 21, 9), "cut slot 0 20",
-               change(second, 2, 0), change(second, 7, 0), change(second, 0, 0), change(second, 8, 2), change(second, 21, 9), "cut slot 1 20"]
+    of_files = [change(zero, 1, 0), change(zero, 7, 2), change(zero, 33, 255), change(zero, len(FULL) - 2, 2), change(zero, len(FULL) - 1, 1),
+                change(one, 8, 1), change(one, 16, 1), change(one, 24, 1), change(one, 37, 3), change(one, len(LAST) - 1, 1)]
+    of_slot = [change(first, 2, 0), change(first, 7, 0), change(first, 33, 255), change(first, 37, 9), "cut slot 0 36",
+               change(second, 2, 0), change(second, 7, 0), change(second, 0, 0), change(second, 8, 2), change(second, 16, 1), change(second, 37, 9), "cut slot 1 36"]
     return of_files + of_slot
 
 
 def rows_of_pairs():
     pairs = [f"open {one}, {other}" for one, other in combinations(changes(), 2)]
-    of_trims = [f"open {one}, {other}" for one, other in combinations(changes_of_trims(), 2)]
+    of_starts = [f"open {one}, {other}" for one, other in combinations(changes_of_starts(), 2)]
     return [line for title, files, asked in (("where slot 0 counts", BOTH_OPEN, pairs), ("where slot 1 counts", ONE_COUNTS, pairs),
-                                             ("where the first segment is gone", TWICE, of_trims))
+                                             ("where the first segment is gone", TWICE, of_starts))
             for line in [f"# two faults, {title}", *lay(files), *asked, ""]]
 
 
-def changes_of_trims():
-    """One in each place of a folder whose slot 1 counts and says twice where the ledger begins."""
+def changes_of_starts():
+    """One in each place of a folder whose slots both say where the ledger begins, and whose slot 1 counts."""
     one, two, first, second = ("segment", 1), ("segment", 2), ("slot", 0), ("slot", 1)
-    return [change(one, 0, 0), change(one, 21, 9), change(two, 1, 0), change(two, 8, 2), change(two, 21, 9), change(first, 2, 0), change(first, 8, 2),
-            change(second, 0, 0), change(second, 7, 0), change(second, 22, 7), change(second, 23, 4), change(second, 31, 1), change(second, 56, 7),
-            change(second, 57, 4), change(second, 65, 1), "cut slot 1 56", "cut slot 1 80"]
+    return [change(one, 0, 0), change(one, 37, 9), change(two, 1, 0), change(two, 8, 2), change(two, 37, 9), change(first, 2, 0), change(first, 8, 2),
+            change(second, 0, 0), change(second, 7, 0), change(second, 16, 2), change(second, 24, 1), change(second, 38, 7), change(second, 39, 4),
+            change(second, 55, 7), "cut slot 1 50", "cut slot 1 31"]
 
 
 # Each byte and each length
@@ -349,7 +341,7 @@ def some_change(chance, files):
     content = files[file]
     if chance.randrange(8) == 0:
         return f"cut {file[0]} {file[1]} {chance.randrange(len(content) + 1)}"
-    at = chance.choice((chance.randrange(len(content)), chance.randrange(min(25, len(content))), len(content) - 1))
+    at = chance.choice((chance.randrange(len(content)), chance.randrange(min(41, len(content))), len(content) - 1))
     return change(file, at, chance.choice((*BYTES, 3, 4, 5, chance.randrange(256), content[at] ^ 1 << chance.randrange(8))))
 
 
@@ -363,7 +355,7 @@ def rows_at_random():
 
 
 def made_lines():
-    rows = (rows_of_chains, rows_of_batches, rows_of_headers, rows_of_records, rows_of_trims, rows_of_names, rows_of_positions, rows_of_pairs, rows_of_bytes,
+    rows = (rows_of_chains, rows_of_batches, rows_of_headers, rows_of_records, rows_of_starts, rows_of_names, rows_of_positions, rows_of_pairs, rows_of_bytes,
             rows_at_random)
     return [BEGINS, *(line for row in rows for line in row())]
 

@@ -19,6 +19,7 @@ MOST_OF_AN_ENTRY = 1_048_576  # messages
 MOST_REPLIES, MOST_MESSAGES = 65_536, 64
 ROLL, APPEND, REPLACE, MAKE = 9, 4, 6, 13  # calls of the device: of a roll, of an append, of writing a slot anew, and of making a topic's files
 DROP = 2  # and of giving a segment back
+LISTS = 2  # syncs of an opening of all topics, before theirs: of the list of a folder of version 1, which may be there, and of that of version 2
 RECORDS = 4_096  # behind so many in a slot a flush with changes first writes the other one anew
 IN_DOUBT = 2  # the last calls of an append: where one of them fails, it is there or not
 READ = -1
@@ -137,7 +138,7 @@ class Batch:
         self.kept = {it.name: it.acked.copy() for it in topic.subs.subs}
         behind = min((acked.mark_delete() for acked in self.kept.values()), default=topic.files.base())
         self.trim = max(topic.files.base(), behind - behind % topic.per_ledger)
-        self.left, self.counts, self.is_well, self.is_anew, self.trims = None, [], True, False, 0
+        self.left, self.counts, self.is_well, self.is_anew, self.trims = None, [], True, False, False
 
 
 class Held:
@@ -191,8 +192,8 @@ class Held:
             steps.append(Step(APPEND, files))
         dropped = files.below(self.batch.trim)
         if dropped:
-            steps.append(Step(APPEND, files.without(dropped), DROP * dropped))
-            self.batch.trims = 1
+            steps.append(Step(REPLACE, files.without(dropped), DROP * dropped))
+            self.batch.trims = True
         return steps
 
     def take(self, _device):
@@ -222,7 +223,7 @@ class Held:
             self.later = []
             return "S1"
         self.files = batch.left[0]
-        self.records = (0 if batch.is_anew else self.records) + batch.changes + batch.trims
+        self.records = 0 if batch.trims else (0 if batch.is_anew else self.records) + batch.changes
         self.commit(self.waiting[:batch.entries])
         self.subs.changes = self.subs.changes[batch.changes:]
         self.due += [(who, answer) for who, answer, _ in batch.replies]
@@ -679,7 +680,7 @@ class Broker:
         self.sessions, self.used = {}, 0
         is_there = self.is_there()
         found = [topic.found(self.device) for topic in self.topics]
-        calls = 1 + sum(map(calls_of_opening, found)) + is_there * calls_of_opening(Held(0, "", 1).found(self.device))
+        calls = LISTS + sum(map(calls_of_opening, found)) + is_there * calls_of_opening(Held(0, "", 1).found(self.device))
         self.is_up = not self.device.failing(calls)
         if not self.is_up:
             return b"", "S1"

@@ -2,13 +2,14 @@
 from subscriptions import Acked
 from wire import Fault, metadata_in
 
-OPEN, NAME, VERSION = 1, b"PULSAR", 1
-HEADER = 16  # bytes
+OPEN, NAME, VERSION = 1, b"PULSAR", 2
+HEADER = 32  # bytes
+UNTRIMMED = 0, 0
 LAST_GENERATION = 2**64 - 1
 LARGEST_BODY, LARGEST_ENTRY, MOST_ENTRIES = 33_554_432, 1_048_576, 2**62
 MOST_MESSAGES = 1_048_576  # of an entry
 ENTRIES, END_MARK, RECORDS = 0, 1, 0  # kinds of bodies
-MADE, REMOVED, ONE, THROUGH, RANGE, TRIM = 1, 2, 3, 4, 5, 6  # records
+MADE, REMOVED, ONE, THROUGH, RANGE = 1, 2, 3, 4, 5  # records
 POSITIONS = {MADE: 1, REMOVED: 0, ONE: 1, THROUGH: 1, RANGE: 2}
 LONGEST_NAME, MOST_NAMES = 255, 64
 NAME_BYTES = b"0123456789ABCDEFGHIJKLMNOPQRSTUVWXYZabcdefghijklmnopqrstuvwxyz-_."
@@ -49,7 +50,11 @@ class File:
         return len(self.content) >= HEADER and self.content[0] == OPEN
 
     def number(self):
-        return number_in(self.content[8:HEADER])
+        return number_in(self.content[8:16])
+
+    def start(self):
+        """Where the ledger begins, by position and by segment, as the header says."""
+        return number_in(self.content[16:24]), number_in(self.content[24:HEADER])
 
     def judge_header(self):
         """Of an open one, as far as any file's header can be judged."""
@@ -83,9 +88,11 @@ class Segments:
 
     def __init__(self, topic, files, base, first):
         self.base, self.entries, self.count, self.goes_on = base, [], 0, True
+        if max(base, first) > MOST_ENTRIES:
+            raise File(f"u{topic:05}-e{first:08}.dat", b"").damaged(0)
         while self.goes_on:
             number = first + self.count
-            self.read_segment(File(f"t{topic:05}-e{number:08}.dat", files.get(("segment", number), b"")))
+            self.read_segment(File(f"u{topic:05}-e{number:08}.dat", files.get(("segment", number), b"")))
             self.count += 1
 
     def end(self):
@@ -95,7 +102,7 @@ class Segments:
         if not file.is_open():
             raise file.damaged(0)
         file.judge_header()
-        if file.number() != self.end():
+        if file.number() != self.end() or file.start() != UNTRIMMED:
             raise file.damaged(0)
         self.goes_on = False
         file.read_bodies(self.take)
@@ -124,7 +131,7 @@ class Slots:
     """Both slots of a topic, of which one counts."""
 
     def __init__(self, topic, files):
-        self.zero, self.one = (File(f"t{topic:05}-c{slot}.dat", files.get(("slot", slot), b"")) for slot in (0, 1))
+        self.zero, self.one = (File(f"u{topic:05}-c{slot}.dat", files.get(("slot", slot), b"")) for slot in (0, 1))
 
     def read(self, told):
         """Hands over the bodies of the one that counts."""
@@ -135,13 +142,18 @@ class Slots:
         if zero.is_open():
             self.judge_header(zero)
         if not one_counts:
-            zero.read_bodies(told.take)
+            self.read_slot(zero, told)
         if one.is_open():
             self.judge_header(one)
             if zero.is_open() and zero.number() == one.number():
                 raise one.damaged(0)
         if one_counts:
-            one.read_bodies(told.take)
+            self.read_slot(one, told)
+
+    @staticmethod
+    def read_slot(file, told):
+        told.start = file.start()
+        file.read_bodies(told.take)
 
     @staticmethod
     def judge_header(file):
@@ -150,40 +162,32 @@ class Slots:
             raise file.damaged(0)
 
     def start(self):
-        """Where the ledger begins, by the bodies before the first fault that shows without the ledger."""
-        told = Told(MOST_ENTRIES)
+        """Where the ledger begins, by the header that counts; at its first entry where none does, or the one that does is refused."""
+        zero, one = self.zero, self.one
+        one_counts = one.is_open() and (not zero.is_open() or one.number() > zero.number())
+        counting = one if one_counts else zero
+        if not counting.is_open():
+            return UNTRIMMED
         try:
-            self.read(told)
+            self.judge_header(counting)
         except Refused:
-            pass
-        return told.start
+            return UNTRIMMED
+        return counting.start()
 
 
 class Told:
-    """What bodies of records tell beside a ledger of so many entries: the positions that each subscription has acknowledged, and
-    where the ledger begins, by position and by segment, behind the last record and behind the last whole body."""
+    """What a slot tells beside a ledger of so many entries: where it begins, by position and by segment, and the positions that each
+    subscription has acknowledged."""
 
     def __init__(self, entries):
-        self.acked, self.entries, self.begins, self.start = {}, entries, (0, 0), (0, 0)
+        self.acked, self.entries, self.start = {}, entries, UNTRIMMED
 
     def take(self, body):
         if not body or body[0] != RECORDS:
             raise NotOfItsForm
         at = 1
         while at < len(body):
-            at = self.take_trim(body, at) if body[at] == TRIM else self.take_record(body, at)
-        self.start = self.begins
-
-    def take_trim(self, body, at):
-        """The same of a record that says where the ledger begins."""
-        end = at + 17
-        base, first = number_in(body[at + 1:at + 9]), number_in(body[at + 9:end])
-        if end > len(body) or not self.begins[0] <= base <= self.entries or first > MOST_ENTRIES:
-            raise NotOfItsForm
-        if any(acked.mark_delete() < base for acked in self.acked.values()):
-            raise NotOfItsForm
-        self.begins = base, first
-        return end
+            at = self.take_record(body, at)
 
     def take_record(self, body, at):
         """Takes the record at a place; answers the place behind it."""
@@ -199,7 +203,7 @@ class Told:
         return end
 
     def mean(self, kind, name, first=0, last=0):
-        if kind == MADE and (len(self.acked) == MOST_NAMES or first < self.begins[0]) or kind == RANGE and first > last:
+        if kind == MADE and (len(self.acked) == MOST_NAMES or first < self.start[0]) or kind == RANGE and first > last:
             raise NotOfItsForm
         if kind == MADE:
             self.acked[name] = Acked(first)

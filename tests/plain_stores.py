@@ -1,7 +1,7 @@
 """Plain slow models of the device in memory and of the stores above it, written from docs/FILES.md and the definitions in `specs/`: what each
 call answers, and what it leaves in the files."""
 from plain_reader import (ENTRIES, END_MARK, HEADER, LARGEST_BODY, LARGEST_ENTRY, LAST_GENERATION, LONGEST_NAME, MADE, MOST_NAMES, NAME_BYTES, ONE,
-                          OPEN, POSITIONS, RANGE, RECORDS, REMOVED, THROUGH, TRIM, File, NotOfItsForm, Refused, judge_entry, number_in)
+                          OPEN, POSITIONS, RANGE, RECORDS, REMOVED, THROUGH, UNTRIMMED, File, NotOfItsForm, Refused, judge_entry, number_in)
 from subscriptions import Acked
 from wire import metadata_in
 
@@ -107,15 +107,15 @@ class Device:
 def printed_name(name):
     """The name of a file as it prints."""
     if name == "catalog":
-        return "catalog.dat"
-    return f"t{TOPIC:05}-e{int(name[1:]):08}.dat" if name[0] == "e" else f"t{TOPIC:05}-{name}.dat"
+        return "catalog2.dat"
+    return f"u{TOPIC:05}-e{int(name[1:]):08}.dat" if name[0] == "e" else f"u{TOPIC:05}-{name}.dat"
 
 
 # Gated files
 
 
-def header(number, gate):
-    return bytes([gate]) + b"PULSAR\1" + little(number, 8)
+def header(number, gate, start=UNTRIMMED):
+    return bytes([gate]) + b"PULSAR\2" + b"".join(little(value, 8) for value in (number, *start))
 
 
 def batch(body):
@@ -166,7 +166,7 @@ class Head:
         self.name, self.file = name, File(printed_name(name), device.content(name))
 
     def number(self):
-        return self.file.number() if len(self.file.content) >= HEADER else 0
+        return self.file.number() if len(self.file.content) >= 16 else 0
 
     def kind(self):
         if not self.file.is_open():
@@ -187,7 +187,7 @@ def go_on(device, head, taken):
     if not file.is_open():
         raise Refused("not initialised")
     file.judge_header()
-    hand(file, 0, taken.begin, file.number())
+    hand(file, 0, lambda label: taken.begin(*label), (file.number(), file.start()))
     gate, count = HEADER, 0
     while True:
         device.count_read()
@@ -221,7 +221,7 @@ class Taken:
             raise NoMemory
         self.room = self.room and self.room - 1
 
-    def begin(self, number):
+    def begin(self, number, _):
         self.text += f" |{number}"
 
     def body(self, body):
@@ -242,8 +242,8 @@ class SegmentTaken:
     def __init__(self, taken):
         self.taken, self.ended = taken, False
 
-    def begin(self, number):
-        self.taken.begin(number)
+    def begin(self, number, start):
+        self.taken.begin(number, start)
 
     def body(self, body):
         if self.ended or not body or body[0] not in (ENTRIES, END_MARK) or body[0] == END_MARK and len(body) > 1:
@@ -316,8 +316,8 @@ class EntriesTaken:
     def __init__(self, taken, base):
         self.taken, self.count, self.segments = taken, base, []
 
-    def begin(self, number):
-        if number != self.count:
+    def begin(self, number, start):
+        if number != self.count or start != UNTRIMMED:
             raise NotOfItsForm
         self.segments.append((number, []))
         self.offset = HEADER
@@ -421,6 +421,20 @@ class Slots:
         return tuple(Head(device, name) for name in ("c0", "c1"))
 
     @classmethod
+    def start(cls, heads):
+        """Where the ledger begins, as the header says that counts; at its first entry where none does, or the one that does is refused."""
+        zero, one = heads
+        one_counts = one.file.is_open() and (not zero.file.is_open() or one.number() > zero.number())
+        counting = one if one_counts else zero
+        if not counting.file.is_open():
+            return UNTRIMMED
+        try:
+            cls.judge(counting)
+        except Refused:
+            return UNTRIMMED
+        return counting.file.start()
+
+    @classmethod
     def open_from(cls, device, heads, taken):
         zero, one = heads
         zero_open, one_open = zero.file.is_open(), one.file.is_open()
@@ -442,18 +456,18 @@ class Slots:
         if head.number() == LAST_GENERATION:
             raise head.file.damaged(0)
 
-    def can_replace(self):
-        return self.log.number < LAST_GENERATION - 1
+    def can_replace(self, times=1):
+        return self.log.number < LAST_GENERATION - times
 
     def append(self, device, body):
         self.change(lambda: self.log.append(device, body))
 
-    def replace(self, device, bodies):
+    def replace(self, device, bodies, start=UNTRIMMED):
         if not self.can_replace():
             raise Refused("too large")
-        self.change(lambda: self.write_over(device, bodies))
+        self.change(lambda: self.write_over(device, bodies, start))
 
-    def write_over(self, device, bodies):
+    def write_over(self, device, bodies, start):
         name, number = "c1" if self.log.name == "c0" else "c0", self.log.number + 1
         before = device.content(name)
         if len(before) >= HEADER and before[0] != OPEN:
@@ -461,7 +475,7 @@ class Slots:
         else:
             device.persist(name, 0, CLOSED)
         batches = b"".join(bytes([OPEN]) + batch(body) for body in bodies)
-        device.persist(name, 1, header(number, OPEN)[1:] + batches + CLOSED)
+        device.persist(name, 1, header(number, OPEN, start)[1:] + batches + CLOSED)
         device.persist(name, 0, bytes([OPEN]))
         self.log = Log(name, number, len(bodies), HEADER + len(batches))
 
@@ -491,30 +505,18 @@ def record_at(body, at):
     return (kind, name, *(number_in(body[start:start + 8]) for start in range(at + 2 + size, end, 8))), end
 
 
-def item_at(body, at):
-    """The same of a record or a trim."""
-    if body[at] != TRIM:
-        return record_at(body, at)
-    end = at + 17
-    return ((TRIM, number_in(body[at + 1:at + 9]), number_in(body[at + 9:end])), end) if end <= len(body) else None
-
-
-def parts_in(body, part_at):
-    """The parts of a body of records; none where it has another kind or something else stands in it."""
+def records_in(body):
+    """The records of a body; none where it has another kind or something else stands in it."""
     if not body or body[0] != RECORDS:
         return None
     at, parts = 1, []
     while at < len(body):
-        found = part_at(body, at)
+        found = record_at(body, at)
         if found is None:
             return None
         parts.append(found[0])
         at = found[1]
     return parts
-
-
-def trim_bytes(base, first):
-    return bytes([TRIM]) + little(base, 8) + little(first, 8)
 
 
 class Kept:
@@ -554,7 +556,7 @@ class Kept:
 
     def read_body(self, entries, body):
         """What is kept behind the records of a body; none where it isn't of its form."""
-        records = parts_in(body, record_at)
+        records = records_in(body)
         return None if records is None else self.apply_all(entries, records)
 
     def told(self, name):
@@ -588,48 +590,42 @@ class Told:
         lacks = any(acked.mark_delete() < base for acked in self.kept.acked.values())
         return self.start[0] <= base <= entries and first <= LAST_FIRST and not lacks
 
-    def is_item(self, entries, kind, *what):
-        if kind == TRIM:
-            return self.may_begin(entries, *what)
-        return not (kind == MADE and what[1] < self.start[0]) and self.kept.is_formed(entries, kind, *what)
-
-    def behind(self, entries, items):
-        """What is told behind records and trims; none where one isn't of its form at its place."""
+    def behind(self, entries, records):
+        """What is told behind records; none where one isn't of its form at its place."""
         after = Told(self.kept.copy(), self.start)
-        for item in items:
-            if not after.is_item(entries, *item):
+        for kind, *what in records:
+            if kind == MADE and what[1] < self.start[0] or not after.kept.is_formed(entries, kind, *what):
                 return None
-            if item[0] == TRIM:
-                after.start = item[1:]
-            else:
-                after.kept.apply(*item)
+            after.kept.apply(kind, *what)
         return after
 
     def snapshot(self):
-        """The body that tells all from nothing; none where there is nothing."""
-        content = (trim_bytes(*self.start) if self.start != (0, 0) else b"") + self.kept.records()
+        """The body that makes what is kept from nothing; none where there is nothing."""
+        content = self.kept.records()
         return [bytes([RECORDS]) + content] if content else []
 
 
-class ItemsTaken:
-    """Takes the records and the trims out of bodies."""
+class RecordsTaken:
+    """Takes where the ledger begins out of a header, where one of so many entries may, and the records out of bodies."""
 
     def __init__(self, entries):
         self.entries, self.told = entries, Told()
 
-    def begin(self, number):
-        pass
+    def begin(self, _, start):
+        if start[0] > self.entries or start[1] > LAST_FIRST:
+            raise NotOfItsForm
+        self.told.start = start
 
     def body(self, body):
-        items = parts_in(body, item_at)
-        after = None if items is None else self.told.behind(self.entries, items)
+        records = records_in(body)
+        after = None if records is None else self.told.behind(self.entries, records)
         if after is None:
             raise NotOfItsForm
         self.told = after
 
 
 class CursorStore:
-    """Slots of records and trims, what these tell, and how many were appended since the last replace."""
+    """Slots of records, what these tell, and how many were appended since the last replace."""
 
     def __init__(self, slots, told):
         self.slots, self.told, self.appended = slots, told, 0
@@ -644,19 +640,15 @@ class CursorStore:
 
     @classmethod
     def open_from(cls, device, heads, entries):
-        taken = ItemsTaken(entries)
+        taken = RecordsTaken(entries)
         slots = Slots.open_from(device, heads, taken)
         return cls(slots, taken.told)
 
     @staticmethod
     def begin(device):
-        """The heads of both slots, and where the ledger begins, by the bodies before the first fault that shows without it."""
-        heads, taken = Slots.heads(device), ItemsTaken(LONGEST_LEDGER)
-        try:
-            Slots.open_from(device, heads, taken)
-        except Refused:
-            pass
-        return heads, taken.told.start
+        """The heads of both slots, and where the ledger begins, by the header that counts."""
+        heads = Slots.heads(device)
+        return heads, Slots.start(heads)
 
     def after(self, records):
         return self.told.behind(LONGEST_LEDGER, records) if records else None
@@ -667,7 +659,7 @@ class CursorStore:
         if after is None:
             return False
         if self.appended >= REPLACE_AFTER and self.slots.can_replace():
-            self.slots.replace(device, self.told.snapshot())
+            self.slots.replace(device, self.told.snapshot(), self.told.start)
             self.appended = 0
         self.add(device, b"".join(record_bytes(*record) for record in records), len(records), after)
         return True
@@ -675,11 +667,13 @@ class CursorStore:
     def trim(self, device, start, records=()):
         """Whether the ledger may begin there, behind these records, and so does; without that none is appended."""
         after = self.after(records) if records else self.told
-        if after is None or not after.may_begin(LONGEST_LEDGER, *start):
+        is_due = bool(records) and self.appended >= REPLACE_AFTER and self.slots.can_replace()
+        if after is None or not after.may_begin(LONGEST_LEDGER, *start) or not self.slots.can_replace(1 + is_due):
             return False
         if records:
             self.append(device, records)
-        self.add(device, trim_bytes(*start), 1, Told(self.told.kept, start))
+        self.slots.replace(device, after.snapshot(), start)
+        self.told, self.appended = Told(after.kept, start), 0
         return True
 
     def add(self, device, content, count, after):
@@ -701,8 +695,8 @@ class NamesTaken:
     def __init__(self):
         self.names = []
 
-    def begin(self, number):
-        if not 1 <= number <= MOST_PER_LEDGER:
+    def begin(self, number, start):
+        if not 1 <= number <= MOST_PER_LEDGER or start != UNTRIMMED:
             raise NotOfItsForm
 
     def body(self, body):

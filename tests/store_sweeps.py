@@ -2,7 +2,7 @@
 of slots beside each other, bodies of records, and calls of the device at random."""
 import random
 
-from plain_stores import HEADER, LAST_FIRST, LAST_GENERATION, MADE, ONE, RANGE, REMOVED, THROUGH, header, is_topic, record_bytes, trim_bytes
+from plain_stores import HEADER, LAST_FIRST, LAST_GENERATION, MADE, ONE, RANGE, REMOVED, THROUGH, UNTRIMMED, header, is_topic, little, record_bytes
 
 BEGINS = "# sweeps: a stop and a failure at each call, in each form of crash; and files that are changed"
 FORMS = ("old", "new", "00", "01", "07")
@@ -37,7 +37,7 @@ def sweep_reads(what, front, work, reads):
 def of_logs():
     front = "room e12"
     made = "log create 7; log append 6162"
-    again = "log append 6566; log read 21 2; log state; length e12"
+    again = "log append 6566; log read 37 2; log state; length e12"
     behind = "log open; log append 67; log state; log open"
     two = "log create 7; log append -; log append 616263"
     unsynced = line(front, made, "fail 4; log append 6364")
@@ -52,7 +52,7 @@ def of_journals():
     front = "room e0 e1 e2"
     made = "journal create 0; journal append 6162"
     rolled = f"{made}; journal roll 5; journal append -"
-    again = "journal append 64; journal roll 6; journal read 0 22 2; journal state; file e0; length e1"
+    again = "journal append 64; journal roll 6; journal read 0 38 2; journal state; file e0; length e1"
     behind = "journal open; journal append 66; journal roll 8; journal append 67; journal state; journal open"
     unsynced = line(front, made, "journal roll 5; fail 4; journal append 63")
     whole = line("room e0 e1 e2 e3", rolled, "journal roll 6; journal append 64")
@@ -128,12 +128,12 @@ def of_trims():
     steps = "cursors begin; cursors from 10; cursors start"
     behind = line(steps, "cursors append one:s:4; cursors trim 3 3; cursors state; cursors open 10; cursors start")
     again = "cursors trim 3 2; cursors start; cursors kept; cursors state"
-    unsynced = line(made, "fail 4; cursors trim 2 2")
+    unsynced = line(made, "fail 6; cursors trim 2 2")
     return [
-        *sweep("a trim of a cursor store", made, "cursors trim 2 2", 4, behind, again),
-        *sweep("a trim of a cursor store behind records", made, "cursors trim 4 2 one:s:3", 8, behind),
-        *sweep("an opening of a cursor store in two steps behind a trim whose last sync failed", unsynced, steps, 2, behind, "sync c0"),
-        *sweep_reads("an opening of a cursor store in two steps", made, steps, 14)]
+        *sweep("a trim of a cursor store", made, "cursors trim 2 2", 6, behind, again),
+        *sweep("a trim of a cursor store behind records", made, "cursors trim 4 2 one:s:3", 10, behind),
+        *sweep("an opening of a cursor store in two steps behind a trim whose last sync failed", unsynced, steps, 2, behind, "sync c1"),
+        *sweep_reads("an opening of a cursor store in two steps", made, steps, 5)]
 
 
 def of_due_replaces():
@@ -152,10 +152,10 @@ def of_due_replaces():
             "# - as many records as make a replace due, and then an opening, from which the count begins",
             line("cursors create", DUE, "cursors open 10; cursors append one:s:1; read c0 8 1; read c1 8 1"), "",
             "# - the snapshot byte by byte, where the append behind it fails",
-            line(made, "fail 7; cursors append one:s:1; cursors kept; read c1 0 53"), "",
-            "# - a trim counts as one record, replaces nothing, and is the first record of a snapshot",
-            *(line("cursors create; cursors append made:s:1", f"cursors append {count}*one:s:2; cursors trim 1 1; read c1 8 1; cursors append one:s:4",
-                   "read c1 0 66; cursors begin; cursors from 10; cursors start") for count in (4_093, 4_094, 4_095)), ""]
+            line(made, "fail 7; cursors append one:s:1; cursors kept; read c1 0 69"), "",
+            "# - a trim is a replace, and goes behind one that is due",
+            *(line("cursors create; cursors append made:s:1", f"cursors append {count}*one:s:2; cursors trim 1 1 one:s:5; read c0 8 24; read c1 8 24",
+                   "cursors append one:s:4; cursors begin; cursors from 10; cursors start") for count in (4_094, 4_095)), ""]
 
 
 def of_catalogs():
@@ -175,9 +175,9 @@ def of_catalogs():
 # Bytes in place of others
 
 
-def log_of(*bodies, end=b"\0", number=1):
+def log_of(*bodies, end=b"\0", number=1, start=UNTRIMMED):
     """A gated file of these bodies."""
-    return header(number, 1) + b"".join(b"\1" + len(body).to_bytes(4, "little") + body for body in bodies) + end
+    return header(number, 1, start) + b"".join(b"\1" + len(body).to_bytes(4, "little") + body for body in bodies) + end
 
 
 BYTES = (0, 1, 2, 3, 0xFF)
@@ -219,11 +219,11 @@ def of_messages(*varint):
 
 def of_named_damage():
     """Changes of more than one byte, or to others."""
-    ones = ((8, 1), (22, 13), (22, 11), (29, 9), (29, 6), (29, 8), (30, 0x0D), (37, 0x79))
+    ones = ((8, 1), (38, 13), (38, 11), (45, 9), (45, 6), (45, 8), (46, 0x0D), (53, 0x79))
     one = LEDGER[0][:38] + b"\0"
     entries = [line(lay("e0", one[:at] + bytes([byte]) + one[at + 1:]), "ledger open 100") for at, byte in ones]
-    entries += [line(lay("e0", LEDGER[0][:22] + b"\x0d" + LEDGER[0][23:]), lay("e1", LEDGER[1]), "ledger open 100"),
-                line(lay("e0", LEDGER[0]), lay("e1", LEDGER[1][:21] + b"\7\0"), "ledger open 100")]
+    entries += [line(lay("e0", LEDGER[0][:38] + b"\x0d" + LEDGER[0][39:]), lay("e1", LEDGER[1]), "ledger open 100"),
+                line(lay("e0", LEDGER[0]), lay("e1", LEDGER[1][:37] + b"\7\0"), "ledger open 100")]
     counted = (of_messages(1), of_messages(3), of_messages(0x80, 0x80, 0x40), of_messages(0), of_messages(0x81, 0x80, 0x40), of_messages(*[0xFF] * 9, 1))
     entries += [line(lay("e0", log_of(b"\0" + len(it).to_bytes(4, "little") + it, number=0)), "ledger open 100; ledger read 0") for it in counted]
     numbers = [line(lay("catalog", NAMES[:place] + bytes(content) + NAMES[place + len(content):]), "catalog open; catalog state")
@@ -245,50 +245,44 @@ def of_records():
     good = [b"\0", b"\0" + record_bytes(MADE, t, 10), b"\0" + record_bytes(ONE, s, 9), b"\0" + record_bytes(REMOVED, s) + record_bytes(MADE, s, 0),
             b"\0" + record_bytes(REMOVED, s), b"\0" + record_bytes(RANGE, s, 9, 9)]
     torn = b"\1\x09\0\0\0\0"
-    slots = [bytes(17), bytes([1] * 17), log_of(b"\7", end=torn), log_of(MADE_S_BODY, b"\7", end=torn), log_of(MADE_S_BODY, b"\7", b"\0", end=torn),
+    slots = [bytes(33), bytes([1] * 33), log_of(b"\7", end=torn), log_of(MADE_S_BODY, b"\7", end=torn), log_of(MADE_S_BODY, b"\7", b"\0", end=torn),
              log_of(MADE_S_BODY, b"\0", end=torn)]
     version = header(0, 1)[:7] + b"\x09" + header(0, 1)[8:] + b"\0"
     last = header(LAST_GENERATION, 1)[:7] + b"\x09" + header(LAST_GENERATION, 1)[8:] + b"\0"
     pairs = [(log_of(*bodies), one) for one in (version, log_of(), last) for bodies in ((MADE_S_BODY, b"\7"), (MADE_S_BODY,))]
-    pairs.append((last, bytes(17)))
-    return [*of_trim_bodies(), "# - bodies of records behind one that makes a subscription", *(line(lay("c0", log_of(MADE_S_BODY, it)), "cursors open 10") for it in
+    pairs.append((last, bytes(33)))
+    return [*of_starts(), "# - bodies of records behind one that makes a subscription", *(line(lay("c0", log_of(MADE_S_BODY, it)), "cursors open 10") for it in
                                                                           [*bad, *good]), "",
-            "# - which fault of slots with records is told", *(line(lay("c0", it), lay("c1", bytes(17)), "cursors open 10") for it in slots),
+            "# - which fault of slots with records is told", *(line(lay("c0", it), lay("c1", bytes(33)), "cursors open 10") for it in slots),
             *(line(lay("c0", zero), lay("c1", one), "cursors open 10") for zero, one in pairs), ""]
 
 
 STEPS_BESIDE_10 = "cursors begin; cursors from 10; cursors start; cursors open 10"
 
 
-def of_trim_bodies():
-    """Bodies behind one that makes s at 4 and one by which the ledger begins at 2, and what begins it where a fault shows only beside the ledger."""
+def of_starts():
+    """Slots that say where the ledger begins, and bodies behind one that makes s at 4, where it begins at 2."""
     s, t = b"s", b"t"
-    front = [b"\0" + record_bytes(MADE, s, 4), b"\0" + trim_bytes(2, 3)]
-    good = [trim_bytes(2, 3), trim_bytes(4, 3), trim_bytes(3, 0), trim_bytes(2, LAST_FIRST), record_bytes(REMOVED, s) + trim_bytes(10, 4),
-            record_bytes(THROUGH, s, 9) + trim_bytes(10, 4), trim_bytes(3, 5) + record_bytes(MADE, t, 3), record_bytes(MADE, t, 2), b""]
-    bad = [trim_bytes(1, 3), trim_bytes(0, 0), trim_bytes(5, 4), trim_bytes(2, LAST_FIRST + 1), trim_bytes(2, 2**64 - 1), trim_bytes(2, 3)[:-1], b"\6",
-           trim_bytes(2, 3) + b"\0", trim_bytes(3, 4) + b"\7", record_bytes(MADE, t, 1), trim_bytes(3, 4) + record_bytes(MADE, t, 2),
-           record_bytes(MADE, t, 2) + trim_bytes(3, 4), record_bytes(REMOVED, s) + record_bytes(MADE, s, 1), record_bytes(ONE, s, 5) + trim_bytes(5, 4),
-           record_bytes(REMOVED, s) + trim_bytes(2**62 + 1, 4)]
-    beside = [record_bytes(THROUGH, s, 10) + trim_bytes(11, 4), record_bytes(REMOVED, s) + trim_bytes(11, 4), record_bytes(ONE, s, 10) + trim_bytes(3, 4),
-              record_bytes(REMOVED, s) + trim_bytes(2**62, 4), record_bytes(MADE, t, 2**62) + trim_bytes(4, LAST_FIRST)]
+    front, start = b"\0" + record_bytes(MADE, s, 4), (2, 3)
+    good = [record_bytes(MADE, t, 2), record_bytes(REMOVED, s), record_bytes(THROUGH, s, 9), record_bytes(REMOVED, s) + record_bytes(MADE, s, 2), b""]
+    bad = [record_bytes(MADE, t, 1), b"\6", b"\6" + little(3, 8) + little(3, 8), record_bytes(REMOVED, s) + record_bytes(MADE, s, 1)]
+    starts = [(0, 0), start, (4, 3), (10, 4), (11, 4), (0, 3), (2, 0), (2, LAST_FIRST), (2, LAST_FIRST + 1), (2**62, 4), (2**64 - 1, 2**64 - 1)]
     lines = []
-    for what, items in (("a trim or none", good), ("what can't stand there", bad), ("what can't stand there beside the ledger", beside)):
-        files = [log_of(*front, b"\0" + it, end=end) for it in items for end in ((b"\0",) if items is good else (b"\0", b"\1"))]
-        lines += [f"# - behind a trim {what}, and where the ledger begins then", *(line(lay("c0", it), STEPS_BESIDE_10) for it in files),
-                  *(line(lay("c0", log_of(*front, b"\0" + it, b"\0" + trim_bytes(4, 9))), STEPS_BESIDE_10) for it in items), ""]
-    whole = log_of(*front)
-    return [*lines, "# - a trim in a file that is changed, and cut at each length", *changed({"c0": whole}, "c0", STEPS_BESIDE_10), "",
-            "# - headers of slots with trims", *of_trim_headers(front), ""]
+    for what, items in (("records or none", good), ("what can't stand there", bad)):
+        files = [log_of(front, b"\0" + it, end=end, start=start) for it in items for end in ((b"\0",) if items is good else (b"\0", b"\1"))]
+        lines += [f"# - behind a header that says where the ledger begins {what}", *(line(lay("c0", it), STEPS_BESIDE_10) for it in files), ""]
+    return [*lines, "# - each start", *(line(lay("c0", log_of(front, start=it)), STEPS_BESIDE_10) for it in starts), "",
+            "# - such a file that is changed, and cut at each length", *changed({"c0": log_of(front, start=start)}, "c0", STEPS_BESIDE_10), "",
+            "# - headers of slots that say where the ledger begins", *of_start_headers(front), ""]
 
 
-def of_trim_headers(front):
+def of_start_headers(front):
     """Each kind of header of slot 0 beside each kind of slot 1, of a lower, an equal and a higher generation."""
 
     def kinds(generation, first):
-        bodies = front[0], b"\0" + trim_bytes(2, first)
-        whole, last = log_of(*bodies, number=generation), log_of(*bodies, number=LAST_GENERATION)
-        return [whole, whole[:15], b"\0" + whole[1:], whole[:1] + b"\0" + whole[2:], whole[:7] + b"\2" + whole[8:], last, log_of(*bodies, b"\7", number=generation)]
+        whole, last = log_of(front, number=generation, start=(2, first)), log_of(front, number=LAST_GENERATION, start=(2, first))
+        return [whole, whole[:31], b"\0" + whole[1:], whole[:1] + b"\0" + whole[2:], whole[:7] + b"\1" + whole[8:], last,
+                log_of(front, b"\7", number=generation, start=(2, first))]
 
     return [line(lay("c0", zero), lay("c1", one), STEPS_BESIDE_10) for zero in kinds(3, 5) for generation in (2, 3, 4) for one in kinds(generation, 6)]
 
@@ -305,8 +299,8 @@ def of_kinds(generation, bodies):
         return content[:at] + bytes([byte]) + content[at + 1:]
 
     last = header(LAST_GENERATION, 1) + batches
-    return [whole[:15], with_byte(0, 0)[:HEADER], with_byte(0, 7), whole, with_byte(1, 0), with_byte(7, 2), with_byte(20, 0x7f), last,
-            with_byte(7, 2, last), whole[:HEADER]]
+    return [whole[:31], with_byte(0, 0)[:HEADER], with_byte(0, 7), whole, with_byte(1, 0), with_byte(7, 1), with_byte(36, 0x7f), last,
+            with_byte(7, 1, last), whole[:HEADER]]
 
 
 def of_headers():
@@ -314,7 +308,7 @@ def of_headers():
     return ["# - each kind of header of slot 0 beside each kind of slot 1, of a lower, an equal and a higher generation",
             *(line(lay("c0", zero), lay("c1", one), "slots open") for zero in zeros for one in ones),
             "# - a header of slot 1 that is cut short",
-            *(line(lay("c0", log_of(b"")), lay("c1", log_of(number=2)[:size]), "slots open") for size in (0, 15, 16, 17)), ""]
+            *(line(lay("c0", log_of(b"")), lay("c1", log_of(number=2)[:size]), "slots open") for size in (0, 15, 16, 31, 32, 33)), ""]
 
 
 # Bodies of records

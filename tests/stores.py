@@ -155,7 +155,7 @@ class Steps:
     def name_file(kind, topic="", number=""):
         if kind == "catalog":
             return printed_name(kind)
-        return f"t{int(topic):05}-e{int(number):08}.dat" if kind == "segment" else f"t{int(topic):05}-c{number}.dat"
+        return f"u{int(topic):05}-e{int(number):08}.dat" if kind == "segment" else f"u{int(topic):05}-c{number}.dat"
 
     @staticmethod
     def name_failure():
@@ -249,7 +249,7 @@ class Steps:
 
     def journal_state(self):
         last = self.journal.last()
-        return f"topic {TOPIC}, segments {len(self.journal.logs)}, {last.count} to {last.end}, {standing(self.journal.failed)}"
+        return f"topic u{TOPIC:05}, segments {len(self.journal.logs)}, {last.count} to {last.end}, {standing(self.journal.failed)}"
 
     # Two slots
 
@@ -269,7 +269,7 @@ class Steps:
         self.slots.replace(self.device, [content_of(word) for word in words])
 
     def slots_state(self):
-        return f"topic {TOPIC}, {self.slots.log.count}, {standing(self.slots.failed)}, {yes(self.slots.can_replace())}"
+        return f"topic u{TOPIC:05}, {self.slots.log.count}, {standing(self.slots.failed)}, {yes(self.slots.can_replace())}"
 
     # A ledger
 
@@ -316,7 +316,7 @@ class Steps:
         return found_bytes(self.ledger.read(self.device, int(position)))
 
     def ledger_state(self):
-        return f"topic {TOPIC}, {self.ledger.end()} in {len(self.ledger.journal.logs)}, {standing(self.ledger.journal.failed)}"
+        return f"topic u{TOPIC:05}, {self.ledger.end()} in {len(self.ledger.journal.logs)}, {standing(self.ledger.journal.failed)}"
 
     # A cursor store
 
@@ -353,7 +353,7 @@ class Steps:
         return self.cursors.told.kept.told_all()
 
     def cursors_state(self):
-        return f"topic {TOPIC}, {len(self.cursors.told.kept.acked)}, {standing(self.cursors.slots.failed)}"
+        return f"topic u{TOPIC:05}, {len(self.cursors.told.kept.acked)}, {standing(self.cursors.slots.failed)}"
 
     # What records make
 

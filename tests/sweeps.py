@@ -165,8 +165,8 @@ SWEEPS = {
     "made": (MAKES, MAKES_AGAIN, made_or_not, 22, ("old", "new", "fill 01", "fill 07")),
     "changed": (CHANGES, "status\n", changed_is_found, 13, ("old", "new", "fill 01", "fill 07")),
     "replaced": (REPLACES, "status\n", acknowledged_or_not, 11, ("old", "new", "fill 01", "fill 07")),
-    "trimmed": (TRIMS, "status\n", trimmed_or_not, 11, ("old", "new", "fill 01", "fill 07")),
-    "rolled_replaced_and_trimmed": (ROLLS, "status\n", rolled_and_trimmed_or_not, 30, ("old", "new", "fill 01", "fill 07")),
+    "trimmed": (TRIMS, "status\n", trimmed_or_not, 13, ("old", "new", "fill 01", "fill 07")),
+    "rolled_replaced_and_trimmed": (ROLLS, "status\n", rolled_and_trimmed_or_not, 32, ("old", "new", "fill 01", "fill 07")),
 }
 
 # What is done before the failure is ordered.
