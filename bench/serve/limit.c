@@ -59,7 +59,7 @@ static void append(struct file *it, size_t size) {
 static struct file make_file(unsigned thread, unsigned number) {
     char path[4096];
     snprintf(path, sizeof path, "%s/limit-%u-%u.dat", folder, thread, number);
-    struct file it = {open(path, O_RDWR | O_CREAT | O_TRUNC, 0666), 16};
+    struct file it = {open(path, O_RDWR | O_CREAT | O_TRUNC, 0666), 32};
     if (it.descriptor < 0) fail(path);
     write_and_sync(&it, batch, 17, 0);
     return it;
